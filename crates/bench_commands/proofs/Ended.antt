@@ -1,5 +1,5 @@
 -- What a command came to, put together from its parts.
-use Rattle.std.proofs.Common.{ℕ, ◌≡◌, ◌⊎◌, List, Option, None, Some, Result, Ok, Err, IfErr, IfOk, OnErr, OnOk}
+use Rattle.std.proofs.Common.{ℕ, ◌≡◌, ◌⊎◌, Bool, true, false, List, Option, None, Some, Result, Ok, Err, IfErr, IfOk, OnErr, OnOk}
 use Rattle.std.proofs.Common.{inl, inr, refl, sym, subst, arith, ◌∙◌}
 use Rattle.std.specs.Io.KnownBytes.{Appends}
 use Rattle.std.specs.String.{string_bytes}
@@ -11,12 +11,11 @@ use Rattle.command_line.specs.declared.words.Job.TheVariants as jobs
 use Rattle.command_line.specs.declared.words.Live.{Live}
 use Rattle.command_files.specs.Answers.{IsUndelivered, files_of}
 use Rattle.bench_commands.specs.Command.{Ends, IsAnswerTo, IsCutJob, IsDebugCut, IsDebugged, IsDebuggedJob}
-use Rattle.bench_commands.specs.Command.{IsFinished, IsRefused, IsUnfinished}
+use Rattle.bench_commands.specs.Command.{IsFinished, IsFormOf, IsRefused, IsToldIn, IsUnfinished, wants_json}
 use Rattle.command_files.specs.Files.{Grows, most_bytes}
 use Rattle.command_files.specs.Input.{IsWithin, WhereKnown}
 use Rattle.command_live.specs.Live.{IsLiveDone, IsLiveFault}
 use Rattle.command_words.specs.Inputs.{IsInputRefused, IsInputSaid}
-use Rattle.command_files.specs.Refusals.{IsTold}
 use Rattle.command_files.specs.World.{FilesKnown, IsAside, IsIdle, StreamFaults, Streams, World}
 use Rattle.command_files.specs.declared.answer.Answer.{Answer}
 use Rattle.command_files.specs.declared.fault.Fault.{Fault}
@@ -277,35 +276,35 @@ unread a b same = subst (λ x. WhereKnown (IsWithin most_bytes) a x) (sym same) 
 within_job : (holds : List ℕ → List ℕ → Type 0) (faults : StreamFaults) (job : Job) (before after : Streams)
     → IsDebuggedJob holds faults job before after → WhereKnown (IsWithin most_bytes) before.input after.input
 within_job holds faults (jobs.Debug image trace) before after h = h.conversation.within
-within_job holds faults (jobs.One hex why) before after h = absurd h
+within_job holds faults (jobs.One hex form) before after h = absurd h
 within_job holds faults (jobs.Say hex server) before after h = absurd h
 within_job holds faults (jobs.Spell statement) before after h = absurd h
-within_job holds faults (jobs.Play file device from to why) before after h = absurd h
+within_job holds faults (jobs.Play file device from to form) before after h = absurd h
 within_job holds faults (jobs.Asm input output) before after h = absurd h
 within_job holds faults (jobs.Dis input) before after h = absurd h
 within_job holds faults (jobs.Run image workers batch trace) before after h = absurd h
-within_job holds faults (jobs.Check image trace) before after h = absurd h
+within_job holds faults (jobs.Check image trace json) before after h = absurd h
 within_job holds faults (jobs.Show image trace device from to form) before after h = absurd h
 within_job holds faults (jobs.Pcap image trace output) before after h = absurd h
 within_job holds faults (jobs.Titles files only) before after h = absurd h
-within_job holds faults (jobs.Test files only tap junit) before after h = absurd h
+within_job holds faults (jobs.Test files only form junit) before after h = absurd h
 
 within_cut : (holds : List ℕ → List ℕ → Type 0) (faults : StreamFaults) (job : Job) (before after : Streams)
     (fault : Fault) → IsCutJob holds faults job before after fault
     → WhereKnown (IsWithin most_bytes) before.input after.input
 within_cut holds faults (jobs.Debug image trace) before after fault h = h.cut.within
-within_cut holds faults (jobs.One hex why) before after fault h = absurd h
+within_cut holds faults (jobs.One hex form) before after fault h = absurd h
 within_cut holds faults (jobs.Say hex server) before after fault h = absurd h
 within_cut holds faults (jobs.Spell statement) before after fault h = absurd h
-within_cut holds faults (jobs.Play file device from to why) before after fault h = absurd h
+within_cut holds faults (jobs.Play file device from to form) before after fault h = absurd h
 within_cut holds faults (jobs.Asm input output) before after fault h = absurd h
 within_cut holds faults (jobs.Dis input) before after fault h = absurd h
 within_cut holds faults (jobs.Run image workers batch trace) before after fault h = absurd h
-within_cut holds faults (jobs.Check image trace) before after fault h = absurd h
+within_cut holds faults (jobs.Check image trace json) before after fault h = absurd h
 within_cut holds faults (jobs.Show image trace device from to form) before after fault h = absurd h
 within_cut holds faults (jobs.Pcap image trace output) before after fault h = absurd h
 within_cut holds faults (jobs.Titles files only) before after fault h = absurd h
-within_cut holds faults (jobs.Test files only tap junit) before after fault h = absurd h
+within_cut holds faults (jobs.Test files only form junit) before after fault h = absurd h
 
 within_asked : (holds : List ℕ → List ℕ → Type 0) (faults : StreamFaults) (asked : Asked) (before after : Streams)
     → IsDebugged holds faults asked before after → WhereKnown (IsWithin most_bytes) before.input after.input
@@ -322,6 +321,16 @@ within_lost holds faults (asked.Live live) before after fault h = absurd h
 within_lost holds faults (asked.Log server) before after fault h = absurd h
 within_lost holds faults (asked.Text help is_mistake) before after fault h = absurd h
 
+-- ---- the form of a fault
+
+pub asked_form : (words : List (List ℕ)) (asked : Asked) (fault : Fault) (json : Bool) → IsReadAs words asked
+    → json ≡ wants_json asked → IsFormOf words fault json
+asked_form words asked fault json read same = inl (record { asked = asked; read = read; form = same })
+
+pub unread_form : (words : List (List ℕ)) (fault : Fault) (json : Bool) → fault ≡ Memory → json ≡ false
+    → IsFormOf words fault json
+unread_form words fault json memory words_alone = inr (memory, words_alone)
+
 -- ---- the end
 
 pub finished : (files : FilesKnown) (faults : StreamFaults) (before after : World) (words : List (List ℕ))
@@ -335,16 +344,26 @@ finished files faults before after words status done = record { ended = inl done
         within_asked files.holds faults conversed.asked before.streams after.streams conversed.debugged
     so (inr (inr (said, silent))) = said.within
 
+-- what is told is the same beside an input
+told_in : (json : Bool) (faults : StreamFaults) (between after : World) (about : Option (List ℕ)) (fault : Fault)
+    → IsToldIn json
+    (record { input_fails = ⊥; output_refuses = faults.output_refuses; errors_refuse = faults.errors_refuse })
+    (record { input = None; output = between.streams.output; errors = between.streams.errors })
+    (record { input = None; output = after.streams.output; errors = after.streams.errors }) about fault
+    → IsToldIn json faults between.streams after.streams about fault
+told_in false faults between after about fault told = told
+told_in true faults between after about fault told = told
+
 pub faulted : (files : FilesKnown) (faults : StreamFaults) (before between after : World) (about : Option (List ℕ))
-    (words : List (List ℕ)) (fault : Fault) (status : Status) → status ≡ ends.Fault
-    → IsUnfinished files faults before between words fault
-    → IsTold
+    (words : List (List ℕ)) (fault : Fault) (json : Bool) (status : Status) → status ≡ ends.Fault
+    → IsUnfinished files faults before between words fault → IsFormOf words fault json
+    → IsToldIn json
     (record { input_fails = ⊥; output_refuses = faults.output_refuses; errors_refuse = faults.errors_refuse })
     (record { input = None; output = between.streams.output; errors = between.streams.errors })
     (record { input = None; output = after.streams.output; errors = after.streams.errors }) about fault
     → after.made ≡ between.made → after.streams.input ≡ between.streams.input
     → Ends files faults before after words status
-faulted files faults before between after about words fault status ended undone told none_made none_read =
+faulted files faults before between after about words fault json status ended undone form told none_made none_read =
     record {
       ended = inr (
         ended,
@@ -353,7 +372,9 @@ faulted files faults before between after about words fault status ended undone 
           between = between;
           undone = undone;
           about = about;
-          told = told;
+          json = json;
+          form = form;
+          told = told_in json faults between after about fault told;
           none_made = none_made;
           none_read = none_read;
         },

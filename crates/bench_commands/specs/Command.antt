@@ -1,5 +1,5 @@
 -- What a command comes to: the words were answered, or refused, and the status says which.
-use Rattle.std.specs.Prelude.{ℕ, ◌≡◌, ◌⊎◌, true, false, List, [], Option, map, option_map}
+use Rattle.std.specs.Prelude.{ℕ, ◌≡◌, ◌⊎◌, Bool, true, false, List, [], Option, map, option_map}
 use Rattle.std.specs.Io.KnownBytes.{Appends}
 use Rattle.std.specs.String.{string_bytes}
 use Rattle.command_line.specs.Words.{IsReadAs}
@@ -10,21 +10,29 @@ use Rattle.command_line.specs.declared.words.Job.TheVariants as jobs
 use Rattle.command_line.specs.declared.words.Live.{Live}
 use Rattle.command_line.specs.declared.words.TraceForm.{TraceForm as AskedForm}
 use Rattle.command_line.specs.declared.words.TraceForm.TheVariants as asked_forms
+use Rattle.command_line.specs.declared.words.CaseForm.{CaseForm}
+use Rattle.command_line.specs.declared.words.CaseForm.TheVariants as case_forms
 use Rattle.command_files.specs.Answers.{IsUndelivered, files_of}
 use Rattle.command_debug.specs.Debugging.{IsDebugCutAt, IsDebuggedAt, IsDebugRefused}
 use Rattle.command_files.specs.Files.{Grows, most_bytes}
 use Rattle.command_files.specs.Input.{IsWithin, WhereKnown}
-use Rattle.command_scenarios.specs.Jobs.{IsAsmDone, IsDisDone, IsRunDone, IsRunRefused}
+use Rattle.command_scenarios.specs.Jobs.{IsAsmDone, IsCheckJsonDone, IsDisDone, IsRunDone, IsRunRefused}
 use Rattle.command_files.specs.Verdicts.{IsCheckDone}
 use Rattle.command_files.specs.Loading.{IsCheckRefused, IsImageFault}
+use Rattle.command_demo.specs.InJson.{IsOneJsonDone}
 use Rattle.command_demo.specs.One.{IsOneDone, IsOneFault}
 use Rattle.command_demo.specs.Why.{IsOneWhyDone}
 use Rattle.command_live.specs.Live.{IsLiveDone, IsLiveFault}
 use Rattle.command_files.specs.Refusals.{IsTold}
+use Rattle.command_json.specs.Told.{IsToldInJson}
 use Rattle.command_files.specs.Status.{text_status}
 use Rattle.command_play.specs.Play.{IsPlayDone, IsPlayFault}
+use Rattle.command_play.specs.declared.form.PlayForm.{PlayForm}
+use Rattle.command_play.specs.declared.form.PlayForm.TheVariants as play_forms
 use Rattle.command_texts.specs.Texts.{IsTextFault}
 use Rattle.command_test.specs.Jobs.{IsTestDone, IsTestFault, IsTitlesDone}
+use Rattle.command_test.specs.declared.form.ReportForm.{ReportForm}
+use Rattle.command_test.specs.declared.form.ReportForm.TheVariants as report_forms
 use Rattle.command_traces.specs.Traces.{IsPcapDone, IsPcapRefused, IsShowDone, IsShowRefused}
 use Rattle.command_traces.specs.declared.form.TraceForm.{TraceForm}
 use Rattle.command_traces.specs.declared.form.TraceForm.TheVariants as forms
@@ -46,20 +54,34 @@ form_of asked_forms.Text = forms.Text
 form_of asked_forms.Reasons = forms.Reasons
 form_of asked_forms.JsonLines = forms.JsonLines
 
+-- the same of the entries of a run, and of cases
+abbrev pub play_form : AskedForm → PlayForm
+play_form asked_forms.Text = play_forms.Text
+play_form asked_forms.Reasons = play_forms.Reasons
+play_form asked_forms.JsonLines = play_forms.JsonLines
+
+abbrev pub report_form : CaseForm → ReportForm
+report_form case_forms.Text = report_forms.Text
+report_form case_forms.Tap = report_forms.Tap
+report_form case_forms.JsonLines = report_forms.JsonLines
+
 -- what a job is answered with
 abbrev pub IsDone : (List ℕ → List ℕ → Type 0) → Job → Answer → Type 0
-IsDone holds (jobs.One hex false) answer = IsOneDone hex.now answer
-IsDone holds (jobs.One hex true) answer = IsOneWhyDone hex.now answer
+IsDone holds (jobs.One hex asked_forms.Text) answer = IsOneDone hex.now answer
+IsDone holds (jobs.One hex asked_forms.Reasons) answer = IsOneWhyDone hex.now answer
+IsDone holds (jobs.One hex asked_forms.JsonLines) answer = IsOneJsonDone hex.now answer
 IsDone holds (jobs.Say hex server) answer = IsSayDone hex.now server answer
 IsDone holds (jobs.Spell statement) answer = IsSpellDone (map (λ w. w.now) statement.items) answer
-IsDone holds (jobs.Play file device from to why) answer =
-    IsPlayDone holds file.now why (record { device = device; from = from; to = to }) answer
+IsDone holds (jobs.Play file device from to form) answer =
+    IsPlayDone holds file.now (play_form form) (record { device = device; from = from; to = to }) answer
 IsDone holds (jobs.Asm input output) answer = IsAsmDone holds (record { text = input.now; image = output.now }) answer
 IsDone holds (jobs.Dis input) answer = IsDisDone holds input.now answer
 IsDone holds (jobs.Run image workers batch trace) answer =
     IsRunDone holds image.now (record { workers = workers; batch = batch }) (option_map (λ p. p.now) trace) answer
-IsDone holds (jobs.Check image trace) answer =
+IsDone holds (jobs.Check image trace false) answer =
     IsCheckDone holds (record { image = image.now; trace = trace.now }) answer
+IsDone holds (jobs.Check image trace true) answer =
+    IsCheckJsonDone holds (record { image = image.now; trace = trace.now }) answer
 IsDone holds (jobs.Show image trace device from to form) answer =
     IsShowDone holds (record { image = image.now; trace = trace.now }) (form_of form)
     (record { device = device; from = from; to = to }) answer
@@ -69,22 +91,22 @@ IsDone holds (jobs.Debug image trace) answer =
     IsDebugRefused holds (record { image = image.now; trace = trace.now }) answer
 IsDone holds (jobs.Titles files only) answer =
     IsTitlesDone holds (map (λ p. p.now) files.items) (option_map (λ w. w.now) only) answer
-IsDone holds (jobs.Test files only tap junit) answer =
-    IsTestDone holds (map (λ p. p.now) files.items) (option_map (λ w. w.now) only) tap (option_map (λ p. p.now) junit)
-    answer
+IsDone holds (jobs.Test files only form junit) answer =
+    IsTestDone holds (map (λ p. p.now) files.items) (option_map (λ w. w.now) only) (report_form form)
+    (option_map (λ p. p.now) junit) answer
 
 -- a job is refused for this fault
 abbrev pub IsRefusedJob : (List ℕ → List ℕ → Type 0) → (List ℕ → Type 0) → Job → Fault → Type 0
-IsRefusedJob holds fails (jobs.One hex why) fault = IsOneFault hex.now fault
+IsRefusedJob holds fails (jobs.One hex form) fault = IsOneFault hex.now fault
 IsRefusedJob holds fails (jobs.Say hex server) fault = IsSayFault hex.now fault
 IsRefusedJob holds fails (jobs.Spell statement) fault = IsSpellFault (map (λ w. w.now) statement.items) fault
-IsRefusedJob holds fails (jobs.Play file device from to why) fault =
+IsRefusedJob holds fails (jobs.Play file device from to form) fault =
     IsPlayFault holds fails file.now (record { device = device; from = from; to = to }) fault
 IsRefusedJob holds fails (jobs.Asm input output) fault = IsTextFault holds fails input.now fault
 IsRefusedJob holds fails (jobs.Dis input) fault = IsImageFault holds fails input.now fault
 IsRefusedJob holds fails (jobs.Run image workers batch trace) fault =
     IsRunRefused holds fails image.now (record { workers = workers; batch = batch }) fault
-IsRefusedJob holds fails (jobs.Check image trace) fault =
+IsRefusedJob holds fails (jobs.Check image trace json) fault =
     IsCheckRefused holds fails (record { image = image.now; trace = trace.now }) fault
 IsRefusedJob holds fails (jobs.Show image trace device from to form) fault =
     IsShowRefused holds fails (record { image = image.now; trace = trace.now })
@@ -95,7 +117,7 @@ IsRefusedJob holds fails (jobs.Debug image trace) fault =
     IsCheckRefused holds fails (record { image = image.now; trace = trace.now }) fault
 IsRefusedJob holds fails (jobs.Titles files only) fault =
     IsTestFault holds fails (map (λ p. p.now) files.items) (option_map (λ w. w.now) only) fault
-IsRefusedJob holds fails (jobs.Test files only tap junit) fault =
+IsRefusedJob holds fails (jobs.Test files only form junit) fault =
     IsTestFault holds fails (map (λ p. p.now) files.items) (option_map (λ w. w.now) only) fault
 
 -- what words are answered with; a text on how to use the program is printed as it is
@@ -257,6 +279,48 @@ IsUnfinished files faults before after words fault =
     × (after.made ≡ before.made))
     ⊎ (IsLogLost files faults before after words fault × (after.streams.errors ≡ before.streams.errors)))
 
+-- ---- the form of a fault
+
+-- whether this form is JSON
+abbrev pub is_json : AskedForm → Bool
+is_json asked_forms.Text = false
+is_json asked_forms.Reasons = false
+is_json asked_forms.JsonLines = true
+
+abbrev pub is_case_json : CaseForm → Bool
+is_case_json case_forms.Text = false
+is_case_json case_forms.Tap = false
+is_case_json case_forms.JsonLines = true
+
+-- whether a job asks for JSON
+abbrev pub job_wants_json : Job → Bool
+job_wants_json (jobs.One hex form) = is_json form
+job_wants_json (jobs.Play file device from to form) = is_json form
+job_wants_json (jobs.Check image trace json) = json
+job_wants_json (jobs.Show image trace device from to form) = is_json form
+job_wants_json (jobs.Test files only form junit) = is_case_json form
+job_wants_json _ = false
+
+abbrev pub wants_json : Asked → Bool
+wants_json (asked.Job job) = job_wants_json job
+wants_json (asked.Live live) = false
+wants_json (asked.Log server) = false
+wants_json (asked.Text help is_mistake) = false
+
+-- whether these words do
+pub record AskInForm (words : List (List ℕ)) (json : Bool) : Type 0 where
+  pub asked : Asked
+  pub read : IsReadAs words asked
+  pub form : json ≡ wants_json asked
+
+-- a fault is told in JSON where the words ask for that; not where no memory was left to read them
+abbrev pub IsFormOf : List (List ℕ) → Fault → Bool → Type 0
+IsFormOf words fault json = AskInForm words json ⊎ ((fault ≡ Memory) × (json ≡ false))
+
+abbrev pub IsToldIn : Bool → StreamFaults → Streams → Streams → Option (List ℕ) → Fault → Type 0
+IsToldIn false faults before after about fault = IsTold faults before after about fault
+IsToldIn true faults before after about fault = IsToldInJson faults before after about fault
+
 -- what the words ask for was not done, and that was told
 pub record IsFaulted (files : FilesKnown) (faults : StreamFaults) (before after : World) (words : List (List ℕ))
     : Type 0 where
@@ -266,7 +330,10 @@ pub record IsFaulted (files : FilesKnown) (faults : StreamFaults) (before after 
   pub undone : IsUnfinished files faults before between words fault
   -- the file or the word that standard error names
   pub about : Option (List ℕ)
-  pub told : IsTold faults between.streams after.streams about fault
+  -- whether it is told in JSON
+  pub json : Bool
+  pub form : IsFormOf words fault json
+  pub told : IsToldIn json faults between.streams after.streams about fault
   pub none_made : after.made ≡ between.made
   pub none_read : after.streams.input ≡ between.streams.input
 

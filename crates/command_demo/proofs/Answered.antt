@@ -16,6 +16,9 @@ use Rattle.std.proofs.Common.{sym}
 use Rattle.command_files.specs.declared.fault.Fault.TheVariants as faults
 use Rattle.command_demo.specs.One.{IsOneFault}
 use Rattle.command_demo.specs.Why.{IsExplained, IsOneWhyDone}
+use Rattle.trace_json.specs.Answers.{one_json}
+use Rattle.trace_json.specs.Writing.{json_line}
+use Rattle.command_demo.specs.InJson.{IsOneJsonDone}
 
 pub one_done : (hex : List ℕ) (answer : Answer) → answer.status ≡ Done → files_of answer.file ≡ []
     → IsOkAnd (decode_of hex) (λ bytes. string_bytes answer.text ≡ output_lines (demo_outputs bytes))
@@ -26,6 +29,11 @@ pub why_done : (hex : List ℕ) (answer : Answer) → answer.status ≡ Done →
     → IsOkAnd (decode_of hex) (λ bytes. IsExplained bytes (string_bytes answer.text))
     → IsOneWhyDone hex answer
 why_done hex answer ended none said = record { text_is = said; status_is = ended; made_is = none }
+
+pub json_done : (hex : List ℕ) (answer : Answer) → answer.status ≡ Done → files_of answer.file ≡ []
+    → IsOkAnd (decode_of hex) (λ bytes. string_bytes answer.text ≡ json_line (one_json (demo_outputs bytes)))
+    → IsOneJsonDone hex answer
+json_done hex answer ended none said = record { text_is = said; status_is = ended; made_is = none }
 
 -- the demonstration device's faults
 pub no_hex : (hex : List ℕ) (f : Fault) → (f ≡ faults.Memory) ⊎ ((f ≡ faults.Hex) × IsErr (decode_of hex))

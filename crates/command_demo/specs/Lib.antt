@@ -1,3 +1,4 @@
 pub mod Demo
 pub mod One
 pub mod Why
+pub mod InJson

@@ -1,5 +1,6 @@
 ghost use Rattle.std.specs.Prelude.{◌≡◌, IfErr, IfOk, Ok};
 ghost use Rattle.hex.specs.Hex.{decode_of};
+ghost use Rattle.command_demo.specs.InJson.{IsOneJsonDone};
 ghost use Rattle.command_demo.specs.One.{IsOneDone, IsOneFault};
 ghost use Rattle.command_demo.specs.Why.{IsOneWhyDone};
 
@@ -9,6 +10,7 @@ use command_files::{Answer, Fault, Refusal, Status, Why, read_hex};
 use debug_answers::outputs_text;
 use octets::Bytes;
 use std::alloc::Global;
+use trace_json::outputs_line;
 
 /// The bytes of a word, or why it is refused.
 #[tactic(auto, using(crate::proofs::Answered::no_hex))]
@@ -51,5 +53,17 @@ pub fn one_why<'a>(alloc: Global, hex: &'a str) -> Result<Answer<'a>, Refusal<'a
     let line = demo::reason(alloc, bytes.as_slice())?;
     let outputs = demo::answer(alloc, bytes)?;
     let text = explained_text(alloc, outputs.as_slice(), line.as_str())?;
+    Ok(Answer::printed(Status::Done, text))
+}
+
+/// `one --json HEX`: the same outputs as an object in a line.
+#[tactic(auto, using(crate::proofs::Answered::json_done, crate::proofs::Answered::one_memory))]
+pub fn one_json<'a>(alloc: Global, hex: &'a str) -> Result<Answer<'a>, Refusal<'a>>
+    ensures done { IfOk result (IsOneJsonDone hex.entry.now) }
+    ensures refused { IfErr result (λ r. IsOneFault hex.entry.now r.fault) }
+{
+    let bytes = bytes_of(alloc, hex)?;
+    let outputs = demo::answer(alloc, bytes)?;
+    let text = outputs_line(alloc, outputs.as_slice())?;
     Ok(Answer::printed(Status::Done, text))
 }

@@ -5,5 +5,5 @@ mod answers;
 mod demo;
 mod explained;
 
-pub use answers::{one, one_why};
+pub use answers::{one, one_json, one_why};
 pub use demo::{SERVER, answer, reason, template};

@@ -13,121 +13,12 @@ use Rattle.command_line.specs.declared.words.Asked.{Asked}
 use Rattle.command_line.specs.declared.words.Asked.TheVariants as asked
 use Rattle.command_line.specs.declared.words.TraceForm.{TraceForm}
 use Rattle.command_line.specs.declared.words.TraceForm.TheVariants as forms
-use Rattle.command_line.specs.Words.{AsksFor, AsksForForm, AsksForLog, AsksToLive, IsReadAs, IsRefusedAs, MayAskFor}
-use Rattle.command_line.specs.Words.{bench_app, is_set, refusals}
-use Rattle.command_line.specs.Inside.{IsTakenAs, LacksLive, LacksRun, LacksSay, LacksShow, LacksTest, WantsTwoForms}
-
-pub no_one : (rows : List Row) (job : Job) → first_of (codes "HEX") rows ≡ None → AsksFor (codes "one", rows) job → ⊥
-no_one rows (jobs.One hex why) none asks = search rules
-no_one rows (jobs.Say hex server) none asks = search rules
-no_one rows (jobs.Spell statement) none asks = search rules
-no_one rows (jobs.Play file device from to why) none asks = search rules
-no_one rows (jobs.Asm input output) none asks = search rules
-no_one rows (jobs.Dis input) none asks = search rules
-no_one rows (jobs.Run image workers batch trace) none asks = search rules
-no_one rows (jobs.Check image trace) none asks = search rules
-no_one rows (jobs.Show image trace device from to form) none asks = search rules
-no_one rows (jobs.Pcap image trace output) none asks = search rules
-no_one rows (jobs.Debug image trace) none asks = search rules
-no_one rows (jobs.Titles files only) none asks = search rules
-no_one rows (jobs.Test files only tap junit) none asks = search rules
-
-pub no_spell : (rows : List Row) (job : Job) → all_of (codes "STATEMENT") rows ≡ None
-    → AsksFor (codes "spell", rows) job → ⊥
-no_spell rows (jobs.One hex why) none asks = search rules
-no_spell rows (jobs.Say hex server) none asks = search rules
-no_spell rows (jobs.Spell statement) none asks = cc
-no_spell rows (jobs.Play file device from to why) none asks = search rules
-no_spell rows (jobs.Asm input output) none asks = search rules
-no_spell rows (jobs.Dis input) none asks = search rules
-no_spell rows (jobs.Run image workers batch trace) none asks = search rules
-no_spell rows (jobs.Check image trace) none asks = search rules
-no_spell rows (jobs.Show image trace device from to form) none asks = search rules
-no_spell rows (jobs.Pcap image trace output) none asks = search rules
-no_spell rows (jobs.Debug image trace) none asks = search rules
-no_spell rows (jobs.Titles files only) none asks = search rules
-no_spell rows (jobs.Test files only tap junit) none asks = search rules
-
-pub no_play : (rows : List Row) (job : Job) → first_of (codes "FILE") rows ≡ None → AsksFor (codes "play", rows) job → ⊥
-no_play rows (jobs.One hex why) none asks = search rules
-no_play rows (jobs.Say hex server) none asks = search rules
-no_play rows (jobs.Spell statement) none asks = search rules
-no_play rows (jobs.Play file device from to why) none asks = search rules
-no_play rows (jobs.Asm input output) none asks = search rules
-no_play rows (jobs.Dis input) none asks = search rules
-no_play rows (jobs.Run image workers batch trace) none asks = search rules
-no_play rows (jobs.Check image trace) none asks = search rules
-no_play rows (jobs.Show image trace device from to form) none asks = search rules
-no_play rows (jobs.Pcap image trace output) none asks = search rules
-no_play rows (jobs.Debug image trace) none asks = search rules
-no_play rows (jobs.Titles files only) none asks = search rules
-no_play rows (jobs.Test files only tap junit) none asks = search rules
-
-pub no_asm : (rows : List Row) (job : Job) → (first_of (codes "IN") rows ≡ None) ⊎ (first_of (codes "OUT") rows ≡ None)
-    → AsksFor (codes "asm", rows) job → ⊥
-no_asm rows (jobs.One hex why) none asks = search rules
-no_asm rows (jobs.Say hex server) none asks = search rules
-no_asm rows (jobs.Spell statement) none asks = search rules
-no_asm rows (jobs.Play file device from to why) none asks = search rules
-no_asm rows (jobs.Asm input output) (inl none) asks = search rules
-no_asm rows (jobs.Asm input output) (inr none) asks = search rules
-no_asm rows (jobs.Dis input) none asks = search rules
-no_asm rows (jobs.Run image workers batch trace) none asks = search rules
-no_asm rows (jobs.Check image trace) none asks = search rules
-no_asm rows (jobs.Show image trace device from to form) none asks = search rules
-no_asm rows (jobs.Pcap image trace output) none asks = search rules
-no_asm rows (jobs.Debug image trace) none asks = search rules
-no_asm rows (jobs.Titles files only) none asks = search rules
-no_asm rows (jobs.Test files only tap junit) none asks = search rules
-
-pub no_dis : (rows : List Row) (job : Job) → first_of (codes "IN") rows ≡ None → AsksFor (codes "dis", rows) job → ⊥
-no_dis rows (jobs.One hex why) none asks = search rules
-no_dis rows (jobs.Say hex server) none asks = search rules
-no_dis rows (jobs.Spell statement) none asks = search rules
-no_dis rows (jobs.Play file device from to why) none asks = search rules
-no_dis rows (jobs.Asm input output) none asks = search rules
-no_dis rows (jobs.Dis input) none asks = search rules
-no_dis rows (jobs.Run image workers batch trace) none asks = search rules
-no_dis rows (jobs.Check image trace) none asks = search rules
-no_dis rows (jobs.Show image trace device from to form) none asks = search rules
-no_dis rows (jobs.Pcap image trace output) none asks = search rules
-no_dis rows (jobs.Debug image trace) none asks = search rules
-no_dis rows (jobs.Titles files only) none asks = search rules
-no_dis rows (jobs.Test files only tap junit) none asks = search rules
-
-pub no_run : (rows : List Row) (job : Job) → LacksRun rows → AsksFor (codes "run", rows) job → ⊥
-no_run rows (jobs.One hex why) lacks asks = search rules
-no_run rows (jobs.Say hex server) lacks asks = search rules
-no_run rows (jobs.Spell statement) lacks asks = search rules
-no_run rows (jobs.Play file device from to why) lacks asks = search rules
-no_run rows (jobs.Asm input output) lacks asks = search rules
-no_run rows (jobs.Dis input) lacks asks = search rules
-no_run rows (jobs.Run image workers batch trace) (inl none) asks = search rules
-no_run rows (jobs.Run image workers batch trace) (inr (inl none)) asks = none workers asks.2
-no_run rows (jobs.Run image workers batch trace) (inr (inr none)) asks = none batch asks.3
-no_run rows (jobs.Check image trace) lacks asks = search rules
-no_run rows (jobs.Show image trace device from to form) lacks asks = search rules
-no_run rows (jobs.Pcap image trace output) lacks asks = search rules
-no_run rows (jobs.Debug image trace) lacks asks = search rules
-no_run rows (jobs.Titles files only) lacks asks = search rules
-no_run rows (jobs.Test files only tap junit) lacks asks = search rules
-
-pub no_check : (rows : List Row) (job : Job) → (first_of (codes "IMAGE") rows ≡ None)
-    ⊎ (first_of (codes "TRACE") rows ≡ None) → AsksFor (codes "check", rows) job → ⊥
-no_check rows (jobs.One hex why) none asks = search rules
-no_check rows (jobs.Say hex server) none asks = search rules
-no_check rows (jobs.Spell statement) none asks = search rules
-no_check rows (jobs.Play file device from to why) none asks = search rules
-no_check rows (jobs.Asm input output) none asks = search rules
-no_check rows (jobs.Dis input) none asks = search rules
-no_check rows (jobs.Run image workers batch trace) none asks = search rules
-no_check rows (jobs.Check image trace) (inl none) asks = search rules
-no_check rows (jobs.Check image trace) (inr none) asks = search rules
-no_check rows (jobs.Show image trace device from to form) none asks = search rules
-no_check rows (jobs.Pcap image trace output) none asks = search rules
-no_check rows (jobs.Debug image trace) none asks = search rules
-no_check rows (jobs.Titles files only) none asks = search rules
-no_check rows (jobs.Test files only tap junit) none asks = search rules
+use Rattle.command_line.specs.declared.words.CaseForm.{CaseForm}
+use Rattle.command_line.specs.declared.words.CaseForm.TheVariants as case_forms
+use Rattle.command_line.specs.Words.{AsksFor, AsksForCaseForm, AsksForForm, AsksForLog, AsksToLive, IsReadAs}
+use Rattle.command_line.specs.Words.{IsRefusedAs, MayAskFor, bench_app, is_set, refusals}
+use Rattle.command_line.specs.Inside.{IsTakenAs, LacksLive, LacksOne, LacksPlay, LacksRun, LacksSay, LacksShow}
+use Rattle.command_line.specs.Inside.{LacksTest, WantsTwoCaseForms, WantsTwoForms}
 
 -- words that exclude each other ask for no form
 one_form : (rows : List Row) (form : TraceForm) → WantsTwoForms rows → AsksForForm rows form → ⊥
@@ -135,83 +26,206 @@ one_form rows forms.Text (json, why) asks = cc
 one_form rows forms.Reasons (json, why) asks = cc
 one_form rows forms.JsonLines (json, why) asks = cc
 
+pub no_one : (rows : List Row) (job : Job) → LacksOne rows → AsksFor (codes "one", rows) job → ⊥
+no_one rows (jobs.One hex form) (inl none) asks = search rules
+no_one rows (jobs.One hex form) (inr both) asks = one_form rows form both asks.2
+no_one rows (jobs.Say hex server) none asks = search rules
+no_one rows (jobs.Spell statement) none asks = search rules
+no_one rows (jobs.Play file device from to form) none asks = search rules
+no_one rows (jobs.Asm input output) none asks = search rules
+no_one rows (jobs.Dis input) none asks = search rules
+no_one rows (jobs.Run image workers batch trace) none asks = search rules
+no_one rows (jobs.Check image trace json) none asks = search rules
+no_one rows (jobs.Show image trace device from to form) none asks = search rules
+no_one rows (jobs.Pcap image trace output) none asks = search rules
+no_one rows (jobs.Debug image trace) none asks = search rules
+no_one rows (jobs.Titles files only) none asks = search rules
+no_one rows (jobs.Test files only form junit) none asks = search rules
+
+pub no_spell : (rows : List Row) (job : Job) → all_of (codes "STATEMENT") rows ≡ None
+    → AsksFor (codes "spell", rows) job → ⊥
+no_spell rows (jobs.One hex form) none asks = search rules
+no_spell rows (jobs.Say hex server) none asks = search rules
+no_spell rows (jobs.Spell statement) none asks = cc
+no_spell rows (jobs.Play file device from to form) none asks = search rules
+no_spell rows (jobs.Asm input output) none asks = search rules
+no_spell rows (jobs.Dis input) none asks = search rules
+no_spell rows (jobs.Run image workers batch trace) none asks = search rules
+no_spell rows (jobs.Check image trace json) none asks = search rules
+no_spell rows (jobs.Show image trace device from to form) none asks = search rules
+no_spell rows (jobs.Pcap image trace output) none asks = search rules
+no_spell rows (jobs.Debug image trace) none asks = search rules
+no_spell rows (jobs.Titles files only) none asks = search rules
+no_spell rows (jobs.Test files only form junit) none asks = search rules
+
+pub no_play : (rows : List Row) (job : Job) → LacksPlay rows → AsksFor (codes "play", rows) job → ⊥
+no_play rows (jobs.One hex form) none asks = search rules
+no_play rows (jobs.Say hex server) none asks = search rules
+no_play rows (jobs.Spell statement) none asks = search rules
+no_play rows (jobs.Play file device from to form) (inl none) asks = search rules
+no_play rows (jobs.Play file device from to form) (inr both) asks = one_form rows form both asks.5
+no_play rows (jobs.Asm input output) none asks = search rules
+no_play rows (jobs.Dis input) none asks = search rules
+no_play rows (jobs.Run image workers batch trace) none asks = search rules
+no_play rows (jobs.Check image trace json) none asks = search rules
+no_play rows (jobs.Show image trace device from to form) none asks = search rules
+no_play rows (jobs.Pcap image trace output) none asks = search rules
+no_play rows (jobs.Debug image trace) none asks = search rules
+no_play rows (jobs.Titles files only) none asks = search rules
+no_play rows (jobs.Test files only form junit) none asks = search rules
+
+pub no_asm : (rows : List Row) (job : Job) → (first_of (codes "IN") rows ≡ None) ⊎ (first_of (codes "OUT") rows ≡ None)
+    → AsksFor (codes "asm", rows) job → ⊥
+no_asm rows (jobs.One hex form) none asks = search rules
+no_asm rows (jobs.Say hex server) none asks = search rules
+no_asm rows (jobs.Spell statement) none asks = search rules
+no_asm rows (jobs.Play file device from to form) none asks = search rules
+no_asm rows (jobs.Asm input output) (inl none) asks = search rules
+no_asm rows (jobs.Asm input output) (inr none) asks = search rules
+no_asm rows (jobs.Dis input) none asks = search rules
+no_asm rows (jobs.Run image workers batch trace) none asks = search rules
+no_asm rows (jobs.Check image trace json) none asks = search rules
+no_asm rows (jobs.Show image trace device from to form) none asks = search rules
+no_asm rows (jobs.Pcap image trace output) none asks = search rules
+no_asm rows (jobs.Debug image trace) none asks = search rules
+no_asm rows (jobs.Titles files only) none asks = search rules
+no_asm rows (jobs.Test files only form junit) none asks = search rules
+
+pub no_dis : (rows : List Row) (job : Job) → first_of (codes "IN") rows ≡ None → AsksFor (codes "dis", rows) job → ⊥
+no_dis rows (jobs.One hex form) none asks = search rules
+no_dis rows (jobs.Say hex server) none asks = search rules
+no_dis rows (jobs.Spell statement) none asks = search rules
+no_dis rows (jobs.Play file device from to form) none asks = search rules
+no_dis rows (jobs.Asm input output) none asks = search rules
+no_dis rows (jobs.Dis input) none asks = search rules
+no_dis rows (jobs.Run image workers batch trace) none asks = search rules
+no_dis rows (jobs.Check image trace json) none asks = search rules
+no_dis rows (jobs.Show image trace device from to form) none asks = search rules
+no_dis rows (jobs.Pcap image trace output) none asks = search rules
+no_dis rows (jobs.Debug image trace) none asks = search rules
+no_dis rows (jobs.Titles files only) none asks = search rules
+no_dis rows (jobs.Test files only form junit) none asks = search rules
+
+pub no_run : (rows : List Row) (job : Job) → LacksRun rows → AsksFor (codes "run", rows) job → ⊥
+no_run rows (jobs.One hex form) lacks asks = search rules
+no_run rows (jobs.Say hex server) lacks asks = search rules
+no_run rows (jobs.Spell statement) lacks asks = search rules
+no_run rows (jobs.Play file device from to form) lacks asks = search rules
+no_run rows (jobs.Asm input output) lacks asks = search rules
+no_run rows (jobs.Dis input) lacks asks = search rules
+no_run rows (jobs.Run image workers batch trace) (inl none) asks = search rules
+no_run rows (jobs.Run image workers batch trace) (inr (inl none)) asks = none workers asks.2
+no_run rows (jobs.Run image workers batch trace) (inr (inr none)) asks = none batch asks.3
+no_run rows (jobs.Check image trace json) lacks asks = search rules
+no_run rows (jobs.Show image trace device from to form) lacks asks = search rules
+no_run rows (jobs.Pcap image trace output) lacks asks = search rules
+no_run rows (jobs.Debug image trace) lacks asks = search rules
+no_run rows (jobs.Titles files only) lacks asks = search rules
+no_run rows (jobs.Test files only form junit) lacks asks = search rules
+
+pub no_check : (rows : List Row) (job : Job) → (first_of (codes "IMAGE") rows ≡ None)
+    ⊎ (first_of (codes "TRACE") rows ≡ None) → AsksFor (codes "check", rows) job → ⊥
+no_check rows (jobs.One hex form) none asks = search rules
+no_check rows (jobs.Say hex server) none asks = search rules
+no_check rows (jobs.Spell statement) none asks = search rules
+no_check rows (jobs.Play file device from to form) none asks = search rules
+no_check rows (jobs.Asm input output) none asks = search rules
+no_check rows (jobs.Dis input) none asks = search rules
+no_check rows (jobs.Run image workers batch trace) none asks = search rules
+no_check rows (jobs.Check image trace json) (inl none) asks = search rules
+no_check rows (jobs.Check image trace json) (inr none) asks = search rules
+no_check rows (jobs.Show image trace device from to form) none asks = search rules
+no_check rows (jobs.Pcap image trace output) none asks = search rules
+no_check rows (jobs.Debug image trace) none asks = search rules
+no_check rows (jobs.Titles files only) none asks = search rules
+no_check rows (jobs.Test files only form junit) none asks = search rules
+
 pub no_show : (rows : List Row) (job : Job) → LacksShow rows → AsksFor (codes "show", rows) job → ⊥
-no_show rows (jobs.One hex why) lacks asks = search rules
+no_show rows (jobs.One hex form) lacks asks = search rules
 no_show rows (jobs.Say hex server) lacks asks = search rules
 no_show rows (jobs.Spell statement) lacks asks = search rules
-no_show rows (jobs.Play file device from to why) lacks asks = search rules
+no_show rows (jobs.Play file device from to form) lacks asks = search rules
 no_show rows (jobs.Asm input output) lacks asks = search rules
 no_show rows (jobs.Dis input) lacks asks = search rules
 no_show rows (jobs.Run image workers batch trace) lacks asks = search rules
-no_show rows (jobs.Check image trace) lacks asks = search rules
+no_show rows (jobs.Check image trace json) lacks asks = search rules
 no_show rows (jobs.Show image trace device from to form) (inl none) asks = search rules
 no_show rows (jobs.Show image trace device from to form) (inr (inl none)) asks = search rules
 no_show rows (jobs.Show image trace device from to form) (inr (inr both)) asks = one_form rows form both asks.6
 no_show rows (jobs.Pcap image trace output) lacks asks = search rules
 no_show rows (jobs.Debug image trace) lacks asks = search rules
 no_show rows (jobs.Titles files only) lacks asks = search rules
-no_show rows (jobs.Test files only tap junit) lacks asks = search rules
+no_show rows (jobs.Test files only form junit) lacks asks = search rules
 
 pub no_debug : (rows : List Row) (job : Job) → (first_of (codes "IMAGE") rows ≡ None)
     ⊎ (first_of (codes "TRACE") rows ≡ None) → AsksFor (codes "debug", rows) job → ⊥
-no_debug rows (jobs.One hex why) none asks = search rules
+no_debug rows (jobs.One hex form) none asks = search rules
 no_debug rows (jobs.Say hex server) none asks = search rules
 no_debug rows (jobs.Spell statement) none asks = search rules
-no_debug rows (jobs.Play file device from to why) none asks = search rules
+no_debug rows (jobs.Play file device from to form) none asks = search rules
 no_debug rows (jobs.Asm input output) none asks = search rules
 no_debug rows (jobs.Dis input) none asks = search rules
 no_debug rows (jobs.Run image workers batch trace) none asks = search rules
-no_debug rows (jobs.Check image trace) none asks = search rules
+no_debug rows (jobs.Check image trace json) none asks = search rules
 no_debug rows (jobs.Show image trace device from to form) none asks = search rules
 no_debug rows (jobs.Pcap image trace output) none asks = search rules
 no_debug rows (jobs.Debug image trace) (inl none) asks = search rules
 no_debug rows (jobs.Debug image trace) (inr none) asks = search rules
 no_debug rows (jobs.Titles files only) none asks = search rules
-no_debug rows (jobs.Test files only tap junit) none asks = search rules
+no_debug rows (jobs.Test files only form junit) none asks = search rules
 
 pub no_pcap : (rows : List Row) (job : Job) → (first_of (codes "IMAGE") rows ≡ None)
     ⊎ ((first_of (codes "TRACE") rows ≡ None) ⊎ (first_of (codes "OUT") rows ≡ None))
     → AsksFor (codes "pcap", rows) job → ⊥
-no_pcap rows (jobs.One hex why) none asks = search rules
+no_pcap rows (jobs.One hex form) none asks = search rules
 no_pcap rows (jobs.Say hex server) none asks = search rules
 no_pcap rows (jobs.Spell statement) none asks = search rules
-no_pcap rows (jobs.Play file device from to why) none asks = search rules
+no_pcap rows (jobs.Play file device from to form) none asks = search rules
 no_pcap rows (jobs.Asm input output) none asks = search rules
 no_pcap rows (jobs.Dis input) none asks = search rules
 no_pcap rows (jobs.Run image workers batch trace) none asks = search rules
-no_pcap rows (jobs.Check image trace) none asks = search rules
+no_pcap rows (jobs.Check image trace json) none asks = search rules
 no_pcap rows (jobs.Show image trace device from to form) none asks = search rules
 no_pcap rows (jobs.Pcap image trace output) (inl none) asks = search rules
 no_pcap rows (jobs.Pcap image trace output) (inr (inl none)) asks = search rules
 no_pcap rows (jobs.Pcap image trace output) (inr (inr none)) asks = search rules
 no_pcap rows (jobs.Debug image trace) none asks = search rules
 no_pcap rows (jobs.Titles files only) none asks = search rules
-no_pcap rows (jobs.Test files only tap junit) none asks = search rules
+no_pcap rows (jobs.Test files only form junit) none asks = search rules
 
 -- words that exclude each other ask for no titles, and for no cases that are played
-titles_alone : (list tap : Bool) (junit : Option Word) → (list ≡ true) × ((tap ≡ true) ⊎ (junit ≢ None))
-    → tap ≡ false → junit ≡ None → ⊥
-titles_alone list tap junit (lists, inl taps) no_tap no_junit = cc
-titles_alone list tap junit (lists, inr some) no_tap no_junit = some no_junit
+one_case_form : (rows : List Row) (form : CaseForm) → WantsTwoCaseForms rows → AsksForCaseForm rows form → ⊥
+one_case_form rows case_forms.Text (tap, json) asks = cc
+one_case_form rows case_forms.Tap (tap, json) asks = cc
+one_case_form rows case_forms.JsonLines (tap, json) asks = cc
+
+titles_alone : (list tap json : Bool) (junit : Option Word)
+    → (list ≡ true) × ((tap ≡ true) ⊎ ((json ≡ true) ⊎ (junit ≢ None)))
+    → (tap ≡ false) × (json ≡ false) → junit ≡ None → ⊥
+titles_alone list tap json junit (lists, inl taps) no_form no_junit = search rules
+titles_alone list tap json junit (lists, inr (inl lines)) no_form no_junit = search rules
+titles_alone list tap json junit (lists, inr (inr some)) no_form no_junit = some no_junit
 
 pub no_test : (rows : List Row) (job : Job) → LacksTest rows → AsksFor (codes "test", rows) job → ⊥
-no_test rows (jobs.One hex why) lacks asks = search rules
+no_test rows (jobs.One hex form) lacks asks = search rules
 no_test rows (jobs.Say hex server) lacks asks = search rules
 no_test rows (jobs.Spell statement) lacks asks = search rules
-no_test rows (jobs.Play file device from to why) lacks asks = search rules
+no_test rows (jobs.Play file device from to form) lacks asks = search rules
 no_test rows (jobs.Asm input output) lacks asks = search rules
 no_test rows (jobs.Dis input) lacks asks = search rules
 no_test rows (jobs.Run image workers batch trace) lacks asks = search rules
-no_test rows (jobs.Check image trace) lacks asks = search rules
+no_test rows (jobs.Check image trace json) lacks asks = search rules
 no_test rows (jobs.Show image trace device from to form) lacks asks = search rules
 no_test rows (jobs.Pcap image trace output) lacks asks = search rules
 no_test rows (jobs.Debug image trace) lacks asks = search rules
 no_test rows (jobs.Titles files only) (inl none) asks = cc
-no_test rows (jobs.Titles files only) (inr both) asks =
-    titles_alone (is_set (codes "list") rows) (is_set (codes "tap") rows) (first_of (codes "junit") rows) both asks.2
-    asks.3
-no_test rows (jobs.Test files only tap junit) (inl none) asks = cc
-no_test rows (jobs.Test files only tap junit) (inr both) asks =
+no_test rows (jobs.Titles files only) (inr (inl both)) asks = one_case_form rows case_forms.Text both asks.2
+no_test rows (jobs.Titles files only) (inr (inr both)) asks =
+    titles_alone (is_set (codes "list") rows) (is_set (codes "tap") rows) (is_set (codes "json") rows)
+    (first_of (codes "junit") rows) both asks.2 asks.3
+no_test rows (jobs.Test files only form junit) (inl none) asks = cc
+no_test rows (jobs.Test files only form junit) (inr (inl both)) asks = one_case_form rows form both asks.2
+no_test rows (jobs.Test files only form junit) (inr (inr both)) asks =
     let lists : is_set (codes "list") rows ≡ true = both.0 in
     let plays : is_set (codes "list") rows ≡ false = asks.1 in
     cc
@@ -225,19 +239,19 @@ lacks_live rows live (inr (inr (inr none))) asks = none live.turns asks.4
 
 -- they ask for no job
 live_alone : (rows : List Row) (job : Job) → AsksFor (codes "live", rows) job → ⊥
-live_alone rows (jobs.One hex why) asks = search rules
+live_alone rows (jobs.One hex form) asks = search rules
 live_alone rows (jobs.Say hex server) asks = search rules
 live_alone rows (jobs.Spell statement) asks = search rules
-live_alone rows (jobs.Play file device from to why) asks = search rules
+live_alone rows (jobs.Play file device from to form) asks = search rules
 live_alone rows (jobs.Asm input output) asks = search rules
 live_alone rows (jobs.Dis input) asks = search rules
 live_alone rows (jobs.Run image workers batch trace) asks = search rules
-live_alone rows (jobs.Check image trace) asks = search rules
+live_alone rows (jobs.Check image trace json) asks = search rules
 live_alone rows (jobs.Show image trace device from to form) asks = search rules
 live_alone rows (jobs.Pcap image trace output) asks = search rules
 live_alone rows (jobs.Debug image trace) asks = search rules
 live_alone rows (jobs.Titles files only) asks = search rules
-live_alone rows (jobs.Test files only tap junit) asks = search rules
+live_alone rows (jobs.Test files only form junit) asks = search rules
 
 pub not_live : (rows : List Row) (wanted : Asked) → LacksLive rows → MayAskFor (codes "live", rows) wanted → ⊥
 not_live rows (asked.Job job) lacks asks = live_alone rows job asks
@@ -247,20 +261,20 @@ not_live rows (asked.Text text is_mistake) lacks asks = absurd asks
 
 -- the words of `say`
 lacks_hex : (rows : List Row) (job : Job) → LacksSay rows → AsksFor (codes "say", rows) job → ⊥
-lacks_hex rows (jobs.One hex why) lacks asks = search rules
+lacks_hex rows (jobs.One hex form) lacks asks = search rules
 lacks_hex rows (jobs.Say hex server) (inl none) asks = search rules
 lacks_hex rows (jobs.Say hex server) (inr none) asks = none server asks.3
 lacks_hex rows (jobs.Spell statement) lacks asks = search rules
-lacks_hex rows (jobs.Play file device from to why) lacks asks = search rules
+lacks_hex rows (jobs.Play file device from to form) lacks asks = search rules
 lacks_hex rows (jobs.Asm input output) lacks asks = search rules
 lacks_hex rows (jobs.Dis input) lacks asks = search rules
 lacks_hex rows (jobs.Run image workers batch trace) lacks asks = search rules
-lacks_hex rows (jobs.Check image trace) lacks asks = search rules
+lacks_hex rows (jobs.Check image trace json) lacks asks = search rules
 lacks_hex rows (jobs.Show image trace device from to form) lacks asks = search rules
 lacks_hex rows (jobs.Pcap image trace output) lacks asks = search rules
 lacks_hex rows (jobs.Debug image trace) lacks asks = search rules
 lacks_hex rows (jobs.Titles files only) lacks asks = search rules
-lacks_hex rows (jobs.Test files only tap junit) lacks asks = search rules
+lacks_hex rows (jobs.Test files only form junit) lacks asks = search rules
 
 lacks_log : (rows : List Row) (server : ℕ) → LacksSay rows → AsksForLog (codes "say", rows) server → ⊥
 lacks_log rows server (inl none) asks = search rules

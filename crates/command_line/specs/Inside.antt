@@ -8,9 +8,13 @@ use Rattle.command_line.specs.Words.{AsksFor, AsksForLog, AsksToLive, IsNoNumber
 use Rattle.command_line.specs.Words.{needed_number, number, number_from, optional_number, several, text_option}
 use Rattle.command_line.specs.Words.{with_settings}
 
--- `one HEX [--why]`
+-- `[--json] [--why]`
+abbrev pub with_trace_forms : App → App
+with_trace_forms a = with_rule (with_rule a (flag (codes "json"))) (flag (codes "why"))
+
+-- `one HEX [--json] [--why]`
 abbrev pub one_app : App
-one_app = with_rule (with_rule (new_app (codes "one")) (needed (codes "HEX"))) (flag (codes "why"))
+one_app = with_trace_forms (with_rule (new_app (codes "one")) (needed (codes "HEX")))
 
 -- `--server S`
 abbrev pub server : Rule
@@ -46,9 +50,11 @@ run_app =
     with_rule (with_rule (with_rule (with_rule (new_app (codes "run")) (needed (codes "IMAGE"))) workers) batch)
     (text_option (codes "trace"))
 
--- `check IMAGE TRACE`
+-- `check IMAGE TRACE [--json]`
 abbrev pub check_app : App
-check_app = with_rule (with_rule (new_app (codes "check")) (needed (codes "IMAGE"))) (needed (codes "TRACE"))
+check_app =
+    with_rule (with_rule (with_rule (new_app (codes "check")) (needed (codes "IMAGE"))) (needed (codes "TRACE")))
+    (flag (codes "json"))
 
 -- `IMAGE TRACE`
 abbrev pub with_trace : App → App
@@ -65,13 +71,11 @@ with_selection a = with_range (with_rule a (optional_number (codes "device") 655
 
 -- `show IMAGE TRACE [--device N] [--from N] [--to N] [--json] [--why]`
 abbrev pub show_app : App
-show_app =
-    with_rule (with_rule (with_selection (with_trace (new_app (codes "show")))) (flag (codes "json")))
-    (flag (codes "why"))
+show_app = with_trace_forms (with_selection (with_trace (new_app (codes "show"))))
 
--- `play FILE [--device N] [--from N] [--to N] [--why]`
+-- `play FILE [--device N] [--from N] [--to N] [--json] [--why]`
 abbrev pub play_app : App
-play_app = with_rule (with_selection (with_rule (new_app (codes "play")) (needed (codes "FILE")))) (flag (codes "why"))
+play_app = with_trace_forms (with_selection (with_rule (new_app (codes "play")) (needed (codes "FILE"))))
 
 -- `pcap IMAGE TRACE OUT`
 abbrev pub pcap_app : App
@@ -99,11 +103,11 @@ live_app = with_rule (with_turns (with_port (new_app (codes "live")))) (flag (co
 abbrev pub with_cases : App → App
 with_cases a = with_rule (with_rule a (several (codes "FILE"))) (text_option (codes "only"))
 
--- `[--list] [--tap]`
+-- `[--list] [--tap] [--json]`
 abbrev pub with_forms : App → App
-with_forms a = with_rule (with_rule a (flag (codes "list"))) (flag (codes "tap"))
+with_forms a = with_rule (with_rule (with_rule a (flag (codes "list"))) (flag (codes "tap"))) (flag (codes "json"))
 
--- `test FILE .. [--only WORDS] [--list] [--tap] [--junit FILE]`
+-- `test FILE .. [--only WORDS] [--list] [--tap] [--json] [--junit FILE]`
 abbrev pub test_app : App
 test_app = with_rule (with_forms (with_cases (new_app (codes "test")))) (text_option (codes "junit"))
 
@@ -133,18 +137,36 @@ LacksLive rows =
     ⊎ (IsNoNumber 16 (one_of (codes "DEVICE") rows) ⊎ (IsNoNumber 16 (one_of (codes "PORT") rows)
     ⊎ IsNoNumber 32 (one_of (codes "TURNS") rows)))
 
--- `--list` stands beside `--tap` or `--junit`, of which each wants cases that are played
+-- `--list` stands beside `--tap`, `--json` or `--junit`, of which each wants cases that are played
 abbrev pub ListsAndPlays : List Row → Type 0
 ListsAndPlays rows =
-    (is_set (codes "list") rows ≡ true) × ((is_set (codes "tap") rows ≡ true) ⊎ (first_of (codes "junit") rows ≢ None))
+    (is_set (codes "list") rows ≡ true)
+    × ((is_set (codes "tap") rows ≡ true)
+    ⊎ ((is_set (codes "json") rows ≡ true) ⊎ (first_of (codes "junit") rows ≢ None)))
+
+-- `--tap` stands beside `--json`, of which each wants a form of its own
+abbrev pub WantsTwoCaseForms : List Row → Type 0
+WantsTwoCaseForms rows = (is_set (codes "tap") rows ≡ true) × (is_set (codes "json") rows ≡ true)
+
+-- the words of `test` exclude each other
+abbrev pub ExcludesInTest : List Row → Type 0
+ExcludesInTest rows = WantsTwoCaseForms rows ⊎ ListsAndPlays rows
 
 -- `test` has no file, or words that exclude each other
 abbrev pub LacksTest : List Row → Type 0
-LacksTest rows = (all_of (codes "FILE") rows ≡ None) ⊎ ListsAndPlays rows
+LacksTest rows = (all_of (codes "FILE") rows ≡ None) ⊎ ExcludesInTest rows
 
 -- `--json` stands beside `--why`, of which each wants a form of its own
 abbrev pub WantsTwoForms : List Row → Type 0
 WantsTwoForms rows = (is_set (codes "json") rows ≡ true) × (is_set (codes "why") rows ≡ true)
+
+-- `one` has no datagram, or words that exclude each other
+abbrev pub LacksOne : List Row → Type 0
+LacksOne rows = (first_of (codes "HEX") rows ≡ None) ⊎ WantsTwoForms rows
+
+-- `play` has no file, or words that exclude each other
+abbrev pub LacksPlay : List Row → Type 0
+LacksPlay rows = (first_of (codes "FILE") rows ≡ None) ⊎ WantsTwoForms rows
 
 -- `show` has no file, or words that exclude each other
 abbrev pub LacksShow : List Row → Type 0

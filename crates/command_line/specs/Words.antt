@@ -16,6 +16,8 @@ use Rattle.command_line.specs.declared.words.Asked.{Asked}
 use Rattle.command_line.specs.declared.words.Asked.TheVariants as asked
 use Rattle.command_line.specs.declared.words.TraceForm.{TraceForm}
 use Rattle.command_line.specs.declared.words.TraceForm.TheVariants as forms
+use Rattle.command_line.specs.declared.words.CaseForm.{CaseForm}
+use Rattle.command_line.specs.declared.words.CaseForm.TheVariants as case_forms
 
 -- ---- what is taken
 
@@ -63,15 +65,16 @@ command name rules = fold with_rule (new_app name) rules
 
 abbrev pub commands : List App
 commands =
-    -- `one HEX [--why]`
-    command (codes "one") (needed (codes "HEX") ∷ flag (codes "why") ∷ [])
+    -- `one HEX [--json] [--why]`
+    command (codes "one") (needed (codes "HEX") ∷ flag (codes "json") ∷ flag (codes "why") ∷ [])
     -- `say HEX [--server S]`
     ∷ command (codes "say") (needed (codes "HEX") ∷ number_from (codes "server") 1 65534 (codes "1") ∷ [])
     -- `spell STATEMENT ..`
     ∷ command (codes "spell") (several (codes "STATEMENT") ∷ [])
-    -- `play FILE [--device N] [--from N] [--to N] [--why]`
+    -- `play FILE [--device N] [--from N] [--to N] [--json] [--why]`
     ∷ command (codes "play") (needed (codes "FILE") ∷ optional_number (codes "device") 65535
-    ∷ optional_number (codes "from") 4294967295 ∷ optional_number (codes "to") 4294967295 ∷ flag (codes "why") ∷ [])
+    ∷ optional_number (codes "from") 4294967295 ∷ optional_number (codes "to") 4294967295 ∷ flag (codes "json")
+    ∷ flag (codes "why") ∷ [])
     -- `asm IN OUT`
     ∷ command (codes "asm") (needed (codes "IN") ∷ needed (codes "OUT") ∷ [])
     -- `dis IN`
@@ -79,8 +82,8 @@ commands =
     -- `run IMAGE [--workers N] [--batch N] [--trace FILE]`
     ∷ command (codes "run") (needed (codes "IMAGE") ∷ number (codes "workers") 65535 (codes "2")
     ∷ number (codes "batch") 4294967295 (codes "16") ∷ text_option (codes "trace") ∷ [])
-    -- `check IMAGE TRACE`
-    ∷ command (codes "check") (needed (codes "IMAGE") ∷ needed (codes "TRACE") ∷ [])
+    -- `check IMAGE TRACE [--json]`
+    ∷ command (codes "check") (needed (codes "IMAGE") ∷ needed (codes "TRACE") ∷ flag (codes "json") ∷ [])
     -- `show IMAGE TRACE [--device N] [--from N] [--to N] [--json] [--why]`
     ∷ command (codes "show") (needed (codes "IMAGE") ∷ needed (codes "TRACE") ∷ optional_number (codes "device") 65535
     ∷ optional_number (codes "from") 4294967295 ∷ optional_number (codes "to") 4294967295 ∷ flag (codes "json")
@@ -93,9 +96,9 @@ commands =
     ∷ command (codes "live") (needed (codes "IMAGE") ∷ needed_number (codes "DEVICE") 0 65535
     ∷ needed_number (codes "PORT") 0 65535 ∷ needed_number (codes "TURNS") 1 100000 ∷ text_option (codes "save")
     ∷ flag (codes "show") ∷ [])
-    -- `test FILE .. [--only WORDS] [--list] [--tap] [--junit FILE]`
+    -- `test FILE .. [--only WORDS] [--list] [--tap] [--json] [--junit FILE]`
     ∷ command (codes "test") (several (codes "FILE") ∷ text_option (codes "only") ∷ flag (codes "list")
-    ∷ flag (codes "tap") ∷ text_option (codes "junit") ∷ []) ∷ []
+    ∷ flag (codes "tap") ∷ flag (codes "json") ∷ text_option (codes "junit") ∷ []) ∷ []
 
 -- the program
 abbrev pub bench_app : App
@@ -144,26 +147,32 @@ abbrev pub AsksForCases : Word × List Row → List Word → Option Word → Typ
 AsksForCases found files only =
     (found.0 ≡ codes "test") × AreTexts found (codes "FILE") files × (first_of (codes "only") found.1 ≡ only)
 
--- the words of `show` ask for a trace in this form: `--json` and `--why` exclude each other
+-- the words of `show`, `play` and `one` ask for this form: `--json` and `--why` exclude each other
 abbrev pub AsksForForm : List Row → TraceForm → Type 0
 AsksForForm rows forms.Text = (is_set (codes "json") rows ≡ false) × (is_set (codes "why") rows ≡ false)
 AsksForForm rows forms.Reasons = (is_set (codes "json") rows ≡ false) × (is_set (codes "why") rows ≡ true)
 AsksForForm rows forms.JsonLines = (is_set (codes "json") rows ≡ true) × (is_set (codes "why") rows ≡ false)
 
+-- the words of `test` ask for this form: `--tap` and `--json` exclude each other
+abbrev pub AsksForCaseForm : List Row → CaseForm → Type 0
+AsksForCaseForm rows case_forms.Text = (is_set (codes "tap") rows ≡ false) × (is_set (codes "json") rows ≡ false)
+AsksForCaseForm rows case_forms.Tap = (is_set (codes "tap") rows ≡ true) × (is_set (codes "json") rows ≡ false)
+AsksForCaseForm rows case_forms.JsonLines = (is_set (codes "tap") rows ≡ false) × (is_set (codes "json") rows ≡ true)
+
 -- a subcommand with its values asks for this
 abbrev pub AsksFor : Word × List Row → Job → Type 0
-AsksFor found (jobs.One hex why) =
-    (found.0 ≡ codes "one") × IsText found (codes "HEX") hex.now × (is_set (codes "why") found.1 ≡ why)
+AsksFor found (jobs.One hex form) =
+    (found.0 ≡ codes "one") × IsText found (codes "HEX") hex.now × AsksForForm found.1 form
 AsksFor found (jobs.Say hex server) =
     (found.0 ≡ codes "say") × IsText found (codes "HEX") hex.now × (hex.now ≢ codes "-")
     × IsNumber 16 (one_of (codes "server") found.1) server
 AsksFor found (jobs.Spell statement) =
     (found.0 ≡ codes "spell") × AreTexts found (codes "STATEMENT") (map (λ w. w.now) statement.items)
-AsksFor found (jobs.Play file device from to why) =
+AsksFor found (jobs.Play file device from to form) =
     (found.0 ≡ codes "play") × IsText found (codes "FILE") file.now
     × IsOptionalNumber 16 (one_of (codes "device") found.1) device
     × IsOptionalNumber 32 (one_of (codes "from") found.1) from × IsOptionalNumber 32 (one_of (codes "to") found.1) to
-    × (is_set (codes "why") found.1 ≡ why)
+    × AsksForForm found.1 form
 AsksFor found (jobs.Asm input output) =
     (found.0 ≡ codes "asm") × IsText found (codes "IN") input.now × IsText found (codes "OUT") output.now
 AsksFor found (jobs.Dis input) = (found.0 ≡ codes "dis") × IsText found (codes "IN") input.now
@@ -171,8 +180,9 @@ AsksFor found (jobs.Run image workers batch trace) =
     (found.0 ≡ codes "run") × IsText found (codes "IMAGE") image.now
     × IsNumber 16 (one_of (codes "workers") found.1) workers × IsNumber 32 (one_of (codes "batch") found.1) batch
     × (first_of (codes "trace") found.1 ≡ option_map (λ p. p.now) trace)
-AsksFor found (jobs.Check image trace) =
+AsksFor found (jobs.Check image trace json) =
     (found.0 ≡ codes "check") × IsText found (codes "IMAGE") image.now × IsText found (codes "TRACE") trace.now
+    × (is_set (codes "json") found.1 ≡ json)
 AsksFor found (jobs.Show image trace device from to form) =
     (found.0 ≡ codes "show") × IsText found (codes "IMAGE") image.now × IsText found (codes "TRACE") trace.now
     × IsOptionalNumber 16 (one_of (codes "device") found.1) device
@@ -185,11 +195,11 @@ AsksFor found (jobs.Debug image trace) =
     (found.0 ≡ codes "debug") × IsText found (codes "IMAGE") image.now × IsText found (codes "TRACE") trace.now
 AsksFor found (jobs.Titles files only) =
     AsksForCases found (map (λ p. p.now) files.items) (option_map (λ w. w.now) only)
-    × (is_set (codes "list") found.1 ≡ true) × (is_set (codes "tap") found.1 ≡ false)
+    × (is_set (codes "list") found.1 ≡ true) × AsksForCaseForm found.1 case_forms.Text
     × (first_of (codes "junit") found.1 ≡ None)
-AsksFor found (jobs.Test files only tap junit) =
+AsksFor found (jobs.Test files only form junit) =
     AsksForCases found (map (λ p. p.now) files.items) (option_map (λ w. w.now) only)
-    × (is_set (codes "list") found.1 ≡ false) × (is_set (codes "tap") found.1 ≡ tap)
+    × (is_set (codes "list") found.1 ≡ false) × AsksForCaseForm found.1 form
     × (first_of (codes "junit") found.1 ≡ option_map (λ p. p.now) junit)
 
 -- a subcommand with its values asks for this device on the network

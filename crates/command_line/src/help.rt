@@ -6,7 +6,8 @@ logic dac8208d650f15bf";
 
 pub const BENCH: &str =
     "An answer goes to standard output. A fault is the line `fault: NAME` there, and a line on standard
-error says which file or word it is about, and why.
+error says which file or word it is about, and why. With `--json` an object in JSON takes the place of that
+line.
 
 Status:
   0  it was done
@@ -21,7 +22,7 @@ pub const ONE: &str =
       # WORDS
       # REASON
   act NAME
-Writes no file.
+With `--json` prints the outputs as one object in JSON, in a line. Writes no file.
 
 Example:
   lwbench one 40010001B13301300139
@@ -54,7 +55,8 @@ pub const PLAY: &str =
     "Reads FILE: what begins with LWSC is a scenario's image, any other file its text. Makes the serial run, in
 which the lowest device that can step always steps, as worker 0. Prints its entries as `show` does, all or
 those that `--device`, `--from` and `--to` ask for, with reasons where `--why` asks for them, and then how
-the run ended, as `run` does. The status is 0 also where it stalled:
+the run ended, as `run` does; with `--json` an object in JSON for each of these lines. The status is 0 also
+where it stalled:
   N worker 0 device D step K second S: STEP
   => send SERVER HEX
   => act NAME
@@ -104,7 +106,7 @@ pub const CHECK: &str =
 from 0, at which it is not (status 3):
   run
   not a run at N
-Writes no file.
+With `--json` prints this as an object in JSON. Writes no file.
 
 Example:
   lwbench check reader.image reader.trace
@@ -184,8 +186,9 @@ title. Then prints how many cases there are, and how many differ (status 3 if an
   LINE
   C cases, D differ
 With `--list` prints the titles, a line for each, and plays no case. With `--tap` prints what comes of the
-cases as TAP, version 14, in place of this. With `--junit` a JUnit report goes to its FILE besides,
-which is replaced where it exists; no other file is written.
+cases as TAP, version 14, in place of this; with `--json` an object in JSON for each case, in a line of its
+own, and one that counts them. With `--junit` a JUnit report goes to its FILE besides, which is replaced
+where it exists; no other file is written.
 A file of which a line cannot be read, or that holds no case, is a fault: no case of any file is played.
 
 Example:

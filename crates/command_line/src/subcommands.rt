@@ -6,7 +6,8 @@ ghost use Rattle.command_line.specs.Words.{with_settings};
 ghost use Rattle.command_line.specs.Inside.{asm_app, batch, check_app, debug_app, dis_app, live_app, one_app, pcap_app};
 ghost use Rattle.command_line.specs.Inside.{play_app, run_app, say_app, server, show_app, spell_app, test_app};
 ghost use Rattle.command_line.specs.Inside.{whole_app, with_cases, with_forms, with_port};
-ghost use Rattle.command_line.specs.Inside.{with_range, with_selection, with_trace, with_turns, workers};
+ghost use Rattle.command_line.specs.Inside.{with_range, with_selection, with_trace, with_trace_forms};
+ghost use Rattle.command_line.specs.Inside.{with_turns, workers};
 
 use crate::help;
 use clap::{Arg, ArgAction, Command, value_parser};
@@ -101,17 +102,22 @@ fn one_command<'a>(alloc: Global) -> Result<Command<'a>, AllocError>
 {
     let about = "Gives the demonstration device one datagram from server 1";
     let hex = needed(alloc, "HEX").help("The bytes of the datagram, in hex");
-    described(alloc, "one", about, help::ONE)
-        .arg(hex)?
-        .arg(why(alloc))
+    with_trace_forms(alloc, described(alloc, "one", about, help::ONE).arg(hex)?)
 }
 
-/// `--why`.
-fn why<'a>(alloc: Global) -> Arg<'a>
-    ensures rule { rule_of result ≡ flag (codes "why") }
+/// Adds the words for forms other than text.
+fn with_trace_forms<'a>(alloc: Global, command: Command<'a>) -> Result<Command<'a>, AllocError>
+    ensures { IfOk result (λ c. app_of c ≡ with_trace_forms (app_of command.entry)) }
+{
+    command.arg(json(alloc))?.arg(flag(alloc, "why").help("Prints why the device answers so"))
+}
+
+/// `--json`.
+fn json<'a>(alloc: Global) -> Arg<'a>
+    ensures rule { rule_of result ≡ flag (codes "json") }
     ensures local { result.global ≡ false }
 {
-    flag(alloc, "why").help("Prints why the device answers so")
+    flag(alloc, "json").help("Prints JSON Lines, for scripts")
 }
 
 fn say_command<'a>(alloc: Global) -> Result<Command<'a>, AllocError>
@@ -154,7 +160,7 @@ fn play_command<'a>(alloc: Global) -> Result<Command<'a>, AllocError>
     let file = described(alloc, "play", about, help::PLAY).arg(needed(alloc, "FILE").help(
         "The scenario, as text or as an image",
     ))?;
-    with_selection(alloc, file)?.arg(why(alloc))
+    with_trace_forms(alloc, with_selection(alloc, file)?)
 }
 
 fn asm_command<'a>(alloc: Global) -> Result<Command<'a>, AllocError>
@@ -223,7 +229,8 @@ fn check_command<'a>(alloc: Global) -> Result<Command<'a>, AllocError>
     let about = "Says whether a trace is a run of a scenario";
     described(alloc, "check", about, help::CHECK)
         .arg(needed(alloc, "IMAGE").help("The scenario, as an image"))?
-        .arg(needed(alloc, "TRACE").help("The trace file"))
+        .arg(needed(alloc, "TRACE").help("The trace file"))?
+        .arg(json(alloc))
 }
 
 fn show_command<'a>(alloc: Global) -> Result<Command<'a>, AllocError>
@@ -231,8 +238,7 @@ fn show_command<'a>(alloc: Global) -> Result<Command<'a>, AllocError>
 {
     let about = "Prints the trace of a run, as text or as JSON Lines";
     let run = with_trace(alloc, described(alloc, "show", about, help::SHOW))?;
-    let json = flag(alloc, "json").help("Prints JSON Lines, for scripts");
-    with_selection(alloc, run)?.arg(json)?.arg(why(alloc))
+    with_trace_forms(alloc, with_selection(alloc, run)?)
 }
 
 /// Adds the words for a part of a trace.
@@ -321,7 +327,8 @@ fn with_forms<'a>(alloc: Global, command: Command<'a>) -> Result<Command<'a>, Al
 {
     command
         .arg(flag(alloc, "list").help("Prints the titles of the cases, and plays none"))?
-        .arg(flag(alloc, "tap").help("Prints what comes of them as TAP, version 14"))
+        .arg(flag(alloc, "tap").help("Prints what comes of them as TAP, version 14"))?
+        .arg(json(alloc))
 }
 
 /// Adds the words for cases of files.

@@ -4,10 +4,10 @@ ghost use Rattle.clap.specs.Words.{Row, Text as Word, all_of, first_of, found_of
 ghost use Rattle.clap.specs.Words.{subcommand_rows_of};
 ghost use Rattle.command_line.specs.declared.words.Asked.{Asked as AskedData};
 ghost use Rattle.command_line.specs.declared.words.Job.{Job as JobData};
-ghost use Rattle.command_line.specs.Words.{AsksFor, AsksForForm, AsksToLive, IsOptionalNumber, IsReadAs, MayAskFor};
-ghost use Rattle.command_line.specs.Words.{is_set};
-ghost use Rattle.command_line.specs.Inside.{IsTakenAs, LacksLive, LacksRun, LacksSay, LacksShow, LacksTest};
-ghost use Rattle.command_line.specs.Inside.{ListsAndPlays, WantsTwoForms};
+ghost use Rattle.command_line.specs.Words.{AsksFor, AsksForCaseForm, AsksForForm, AsksToLive, IsOptionalNumber};
+ghost use Rattle.command_line.specs.Words.{IsReadAs, MayAskFor, is_set};
+ghost use Rattle.command_line.specs.Inside.{ExcludesInTest, IsTakenAs, LacksLive, LacksOne, LacksPlay, LacksRun};
+ghost use Rattle.command_line.specs.Inside.{LacksSay, LacksShow, LacksTest, WantsTwoCaseForms, WantsTwoForms};
 
 use crate::subcommands::bench;
 use clap::error::ErrorKind;
@@ -21,20 +21,43 @@ pub const NO_TEXT: &str =
 
 /// What is said where titles are asked for and cases are to be played too.
 const LISTS_AND_PLAYS: &str =
-    "error: the argument '--list' cannot be used with '--tap' or '--junit <FILE>'\n\n\
+    "error: the argument '--list' cannot be used with '--tap', '--json' or '--junit <FILE>'\n\n\
+     Usage: lwbench test [OPTIONS] <FILE>...\n\nFor more information, try '--help'.\n";
+
+/// What is said where cases are asked for in two forms.
+const JSON_AND_TAP: &str = "error: the argument '--json' cannot be used with '--tap'\n\n\
      Usage: lwbench test [OPTIONS] <FILE>...\n\nFor more information, try '--help'.\n";
 
 /// What is said where a trace is asked for in two forms.
-const JSON_AND_WHY: &str = "error: the argument '--json' cannot be used with '--why'\n\n\
+const SHOW_JSON_AND_WHY: &str = "error: the argument '--json' cannot be used with '--why'\n\n\
      Usage: lwbench show [OPTIONS] <IMAGE> <TRACE>\n\nFor more information, try '--help'.\n";
 
-/// How the entries of a trace are printed.
+/// The same of a run.
+const PLAY_JSON_AND_WHY: &str = "error: the argument '--json' cannot be used with '--why'\n\n\
+     Usage: lwbench play [OPTIONS] <FILE>\n\nFor more information, try '--help'.\n";
+
+/// The same of one datagram.
+const ONE_JSON_AND_WHY: &str = "error: the argument '--json' cannot be used with '--why'\n\n\
+     Usage: lwbench one [OPTIONS] <HEX>\n\nFor more information, try '--help'.\n";
+
+/// How the entries of a trace are printed, or the outputs of a device.
 #[derive(Clone, Copy)]
 pub enum TraceForm {
     /// As text.
     Text,
     /// As text, and below what a datagram that arrives says why the device handles it so.
     Reasons,
+    /// As an object in JSON for each.
+    JsonLines,
+}
+
+/// How it is printed what came of cases.
+#[derive(Clone, Copy)]
+pub enum CaseForm {
+    /// As text.
+    Text,
+    /// As TAP.
+    Tap,
     /// As an object in JSON for each.
     JsonLines,
 }
@@ -46,8 +69,8 @@ pub enum Job<'a> {
     One {
         /// The bytes of the datagram, in hex.
         hex: &'a str,
-        /// Whether it is also asked why the device answers so.
-        why: bool,
+        /// How the outputs are printed.
+        form: TraceForm,
     },
     /// What a datagram says.
     Say {
@@ -71,8 +94,8 @@ pub enum Job<'a> {
         from: Option<u32>,
         /// The number of the last entry that may be shown; where it is not given, that of the last of all.
         to: Option<u32>,
-        /// Whether it is also asked why the devices answer so.
-        why: bool,
+        /// How the entries are printed.
+        form: TraceForm,
     },
     /// The image of a scenario, from its text.
     Asm {
@@ -103,6 +126,8 @@ pub enum Job<'a> {
         image: &'a str,
         /// The path of the trace file.
         trace: &'a str,
+        /// Whether the verdict is printed as an object in JSON.
+        json: bool,
     },
     /// A run's trace, or a part of it.
     Show {
@@ -148,8 +173,8 @@ pub enum Job<'a> {
         files: Vec<&'a str>,
         /// How the titles begin of the cases that are played; where it is not given, all are.
         only: Option<&'a str>,
-        /// Whether the answer is in the form of TAP.
-        tap: bool,
+        /// How it is printed what came of them.
+        form: CaseForm,
         /// Where the JUnit report goes, if anywhere.
         junit: Option<&'a str>,
     },
@@ -283,11 +308,11 @@ fn job_in<'a>(
 
 fn one_job<'a>(found: &ArgMatches<'a>) -> Option<Job<'a>>
     ensures some { IfSome result (AsksFor (codes "one", rows_of (found_of found.now))) }
-    ensures none { IfNone result (first_of (codes "HEX") (rows_of (found_of found.now)) ≡ None) }
+    ensures none { IfNone result (LacksOne (rows_of (found_of found.now))) }
 {
     let hex = value_of(found, "HEX")?;
-    let why = flag(found, "why");
-    Some(Job::One { hex, why })
+    let form = form_of(found)?;
+    Some(Job::One { hex, form })
 }
 
 fn spell_job<'a>(alloc: Global, found: &ArgMatches<'a>) -> Result<Option<Job<'a>>, AllocError>
@@ -302,14 +327,14 @@ fn spell_job<'a>(alloc: Global, found: &ArgMatches<'a>) -> Result<Option<Job<'a>
 
 fn play_job<'a>(found: &ArgMatches<'a>) -> Option<Job<'a>>
     ensures some { IfSome result (AsksFor (codes "play", rows_of (found_of found.now))) }
-    ensures none { IfNone result (first_of (codes "FILE") (rows_of (found_of found.now)) ≡ None) }
+    ensures none { IfNone result (LacksPlay (rows_of (found_of found.now))) }
 {
     Some(Job::Play {
         file: value_of(found, "FILE")?,
         device: small_number(found, "device"),
         from: number(found, "from"),
         to: number(found, "to"),
-        why: flag(found, "why"),
+        form: form_of(found)?,
     })
 }
 
@@ -353,6 +378,7 @@ fn check_job<'a>(found: &ArgMatches<'a>) -> Option<Job<'a>>
     Some(Job::Check {
         image: value_of(found, "IMAGE")?,
         trace: value_of(found, "TRACE")?,
+        json: flag(found, "json"),
     })
 }
 
@@ -370,7 +396,7 @@ fn show_job<'a>(found: &ArgMatches<'a>) -> Option<Job<'a>>
     })
 }
 
-/// In which form the words of `show` ask for a trace; none where they ask for two.
+/// In which form the words of `show`, `play` and `one` ask for an answer; none where they ask for two.
 fn form_of(found: &ArgMatches) -> Option<TraceForm>
     ensures some { IfSome result (AsksForForm (rows_of (found_of found.now))) }
     ensures none { IfNone result (WantsTwoForms (rows_of (found_of found.now))) }
@@ -421,23 +447,36 @@ fn test_job<'a>(alloc: Global, found: &ArgMatches<'a>) -> Result<Option<Job<'a>>
 fn cases_job<'a>(found: &ArgMatches<'a>, files: Vec<&'a str>) -> Option<Job<'a>>
     requires { all_of (codes "FILE") (rows_of (found_of found.now)) ≡ Some (map (λ p. p.now) files.items) }
     ensures some { IfSome result (AsksFor (codes "test", rows_of (found_of found.now))) }
-    ensures none { IfNone result (ListsAndPlays (rows_of (found_of found.now))) }
+    ensures none { IfNone result (ExcludesInTest (rows_of (found_of found.now))) }
 {
     let only = value_of(found, "only");
-    let tap = flag(found, "tap");
+    let form = case_form_of(found)?;
     let junit = value_of(found, "junit");
     if !flag(found, "list") {
         return Some(Job::Test {
             files,
             only,
-            tap,
+            form,
             junit,
         });
     }
-    if tap || junit.is_some() {
-        return None;
+    match (form, junit) {
+        (CaseForm::Text, None) => Some(Job::Titles { files, only }),
+        _ => None,
     }
-    Some(Job::Titles { files, only })
+}
+
+/// In which form the words of `test` ask for what came of cases; none where they ask for two.
+fn case_form_of(found: &ArgMatches) -> Option<CaseForm>
+    ensures some { IfSome result (AsksForCaseForm (rows_of (found_of found.now))) }
+    ensures none { IfNone result (WantsTwoCaseForms (rows_of (found_of found.now))) }
+{
+    match (flag(found, "tap"), flag(found, "json")) {
+        (false, false) => Some(CaseForm::Text),
+        (true, false) => Some(CaseForm::Tap),
+        (false, true) => Some(CaseForm::JsonLines),
+        (true, true) => None,
+    }
 }
 
 /// What is asked of a datagram, or of a log where `-` stands for its hex.
@@ -543,9 +582,19 @@ fn told(alloc: Global, error: &Error) -> Result<String, AllocError>
 
 /// The text on words that `clap` took, and that ask for nothing.
 fn usage(alloc: Global, found: &ArgMatches) -> Result<String, AllocError> {
-    match found.subcommand_name() {
-        Some("test") => String::from_str(alloc, LISTS_AND_PLAYS),
-        Some("show") => String::from_str(alloc, JSON_AND_WHY),
+    match found.subcommand() {
+        Some(("test", test)) => String::from_str(alloc, test_usage(test)),
+        Some(("show", _)) => String::from_str(alloc, SHOW_JSON_AND_WHY),
+        Some(("play", _)) => String::from_str(alloc, PLAY_JSON_AND_WHY),
+        Some(("one", _)) => String::from_str(alloc, ONE_JSON_AND_WHY),
         _ => bench(alloc)?.render_help(),
+    }
+}
+
+fn test_usage(found: &ArgMatches) -> &'static str {
+    if flag(found, "list") {
+        LISTS_AND_PLAYS
+    } else {
+        JSON_AND_TAP
     }
 }

@@ -19,11 +19,14 @@ use Rattle.command_files.specs.declared.answer.Answer.{Answer}
 use Rattle.command_files.specs.declared.fault.Fault.{Fault}
 use Rattle.command_files.specs.declared.fault.Fault.TheVariants.{Memory}
 use Rattle.command_files.specs.declared.status.Status.TheVariants.{Done}
-use Rattle.command_texts.specs.Endings.{end_line}
+use Rattle.trace_json.specs.Entries.{trace_json}
+use Rattle.trace_json.specs.Lines.{AreLinesOf}
 use Rattle.command_texts.specs.Selections.{selection_fault}
 use Rattle.command_texts.specs.Texts.{IsNoText}
 use Rattle.command_play.specs.Play.{IsNoScenario, IsPlayDone, IsPlayFault, IsPlayed, IsScenarioOf}
-use Rattle.command_play.specs.Play.{IsToldAs, IsUnplayed, is_marked}
+use Rattle.command_play.specs.Play.{IsToldAs, IsUnplayed, ending, is_marked}
+use Rattle.command_play.specs.declared.form.PlayForm.{PlayForm}
+use Rattle.command_play.specs.declared.form.PlayForm.TheVariants as forms
 
 -- ---- the scenario of a file
 
@@ -72,11 +75,16 @@ unselected sel s es selection.Memory serial h = tt
 pub no_memory : (sel : Selection) (s : Scenario) (f : Fault) → f ≡ Memory → IsUnplayed sel s f
 no_memory sel s f same = subst (λ g. IsUnplayed sel s g) (sym same) tt
 
-pub played : (why : Bool) (sel : Selection) (s : Scenario) (es : List Entry) (shown : List ℕ) (answer : Answer)
-    → IsSerial s es → IsSelectable s sel es → IsToldAs why s sel es shown
-    → string_bytes answer.text ≡ shown ++ end_line (length es) (waiting s es)
-    → answer.status ≡ Done → files_of answer.file ≡ [] → IsPlayed why sel s answer
-played why sel s es shown answer serial selectable told said ended none = record {
+-- JSON Lines are those of the entries that are asked for
+pub lines_are : (sel : Selection) (s : Scenario) (es : List Entry) (text : List ℕ)
+    → AreLinesOf (trace_json s sel es) text → IsToldAs forms.JsonLines s sel es text
+lines_are sel s es text are = are.text_is
+
+pub played : (form : PlayForm) (sel : Selection) (s : Scenario) (es : List Entry) (shown : List ℕ) (answer : Answer)
+    → IsSerial s es → IsSelectable s sel es → IsToldAs form s sel es shown
+    → string_bytes answer.text ≡ shown ++ ending form (length es) (waiting s es)
+    → answer.status ≡ Done → files_of answer.file ≡ [] → IsPlayed form sel s answer
+played form sel s es shown answer serial selectable told said ended none = record {
   entries = es;
   serial = serial;
   selectable = selectable;
@@ -89,10 +97,10 @@ played why sel s es shown answer serial selectable told said ended none = record
 
 -- ---- the command
 
-pub played_at : (holds : List ℕ → List ℕ → Type 0) (path : List ℕ) (why : Bool) (sel : Selection) (s : Scenario)
-    (answer : Answer) → IsHeld holds path (λ bytes. IsScenarioOf bytes s) → IsPlayed why sel s answer
-    → IsPlayDone holds path why sel answer
-played_at holds path why sel s answer found h = record { scenario = s; found = found; so = h }
+pub played_at : (holds : List ℕ → List ℕ → Type 0) (path : List ℕ) (form : PlayForm) (sel : Selection) (s : Scenario)
+    (answer : Answer) → IsHeld holds path (λ bytes. IsScenarioOf bytes s) → IsPlayed form sel s answer
+    → IsPlayDone holds path form sel answer
+played_at holds path form sel s answer found h = record { scenario = s; found = found; so = h }
 
 pub refused_file : (holds : List ℕ → List ℕ → Type 0) (fails : List ℕ → Type 0) (path : List ℕ) (sel : Selection)
     (f : Fault) → IsReadingFault (fails path) f ⊎ IsHeld holds path (λ bytes. IsNoScenario bytes f)

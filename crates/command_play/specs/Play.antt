@@ -1,5 +1,5 @@
--- What `play FILE [--device N] [--from N] [--to N] [--why]` comes to.
-use Rattle.std.specs.Prelude.{⊤, ℕ, ◌≡◌, ◌⊎◌, nat_eq, Bool, true, false, MatchBool, List, [], ◌++◌, length, codes}
+-- What `play FILE [--device N] [--from N] [--to N] [--json] [--why]` comes to.
+use Rattle.std.specs.Prelude.{⊤, ℕ, ◌≡◌, ◌⊎◌, nat_eq, Bool, MatchBool, List, [], ◌++◌, length, codes}
 use Rattle.std.specs.List.{starts_with}
 use Rattle.std.specs.String.{string_bytes}
 use Rattle.scenario_image.specs.Scenario.{Scenario}
@@ -12,6 +12,10 @@ use Rattle.trace_text.specs.declared.selection.Selection.{Selection}
 use Rattle.trace_text.specs.declared.selection.SelectionFault.TheVariants as selection
 use Rattle.trace_text.specs.Selection.{IsSelectable, IsSelectionFault, selected_text}
 use Rattle.trace_reasons.specs.Text.{IsReasonedText}
+use Rattle.trace_json.specs.Answers.{end_json}
+use Rattle.trace_json.specs.Entries.{trace_json}
+use Rattle.trace_json.specs.Lines.{json_lines}
+use Rattle.trace_json.specs.Writing.{json_line}
 use Rattle.command_files.specs.Answers.{files_of}
 use Rattle.command_files.specs.Fault.{IsReadingFault}
 use Rattle.command_files.specs.Loading.{IsHeld, IsNoImage}
@@ -21,6 +25,8 @@ use Rattle.command_files.specs.declared.fault.Fault.TheVariants as faults
 use Rattle.command_files.specs.declared.status.Status.TheVariants.{Done}
 use Rattle.command_texts.specs.Endings.{end_line}
 use Rattle.command_texts.specs.Texts.{IsNoText}
+use Rattle.command_play.specs.declared.form.PlayForm.{PlayForm}
+use Rattle.command_play.specs.declared.form.PlayForm.TheVariants as forms
 
 -- ---- the scenario of a file
 
@@ -39,19 +45,26 @@ IsNoScenario bytes fault = MatchBool (is_marked bytes) (IsNoImage bytes fault) (
 -- ---- its serial run
 
 -- the text of the entries that are asked for; with `--why` that with the reasons why devices handle what arrives as
--- they do
-abbrev pub IsToldAs : Bool → Scenario → Selection → List Entry → List ℕ → Type 0
-IsToldAs false s sel es text = text ≡ selected_text s sel es
-IsToldAs true s sel es text = IsReasonedText s sel es text
+-- they do; with `--json` an object for each of them, in a line of its own
+abbrev pub IsToldAs : PlayForm → Scenario → Selection → List Entry → List ℕ → Type 0
+IsToldAs forms.Text s sel es text = text ≡ selected_text s sel es
+IsToldAs forms.Reasons s sel es text = IsReasonedText s sel es text
+IsToldAs forms.JsonLines s sel es text = text ≡ json_lines (trace_json s sel es)
+
+-- the line of how a run of this many entries ended, after which these devices are not at the end of their rows
+abbrev pub ending : PlayForm → ℕ → List ℕ → List ℕ
+ending forms.Text count waiting = end_line count waiting
+ending forms.Reasons count waiting = end_line count waiting
+ending forms.JsonLines count waiting = json_line (end_json count waiting)
 
 -- the text of the entries that are asked for, and then the line of the run's end; no file is made
-pub record IsPlayed (why : Bool) (sel : Selection) (s : Scenario) (answer : Answer) : Type 0 where
+pub record IsPlayed (form : PlayForm) (sel : Selection) (s : Scenario) (answer : Answer) : Type 0 where
   pub entries : List Entry
   pub serial : IsSerial s entries
   pub selectable : IsSelectable s sel entries
   pub shown : List ℕ
-  pub told : IsToldAs why s sel entries shown
-  pub text_is : string_bytes answer.text ≡ shown ++ end_line (length entries) (waiting s entries)
+  pub told : IsToldAs form s sel entries shown
+  pub text_is : string_bytes answer.text ≡ shown ++ ending form (length entries) (waiting s entries)
   pub status_is : answer.status ≡ Done
   pub made_is : files_of answer.file ≡ []
 
@@ -78,8 +91,8 @@ pub record IsOverScenario (holds : List ℕ → List ℕ → Type 0) (path : Lis
   pub found : IsHeld holds path (λ bytes. IsScenarioOf bytes scenario)
   pub so : over scenario
 
-abbrev pub IsPlayDone : (List ℕ → List ℕ → Type 0) → List ℕ → Bool → Selection → Answer → Type 0
-IsPlayDone holds path why sel answer = IsOverScenario holds path (λ s. IsPlayed why sel s answer)
+abbrev pub IsPlayDone : (List ℕ → List ℕ → Type 0) → List ℕ → PlayForm → Selection → Answer → Type 0
+IsPlayDone holds path form sel answer = IsOverScenario holds path (λ s. IsPlayed form sel s answer)
 
 -- the file could not be read, or is not a scenario; then it is what is asked for that is to blame
 abbrev pub IsPlayFault : (List ℕ → List ℕ → Type 0) → (List ℕ → Type 0) → List ℕ → Selection → Fault → Type 0

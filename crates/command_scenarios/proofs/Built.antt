@@ -13,11 +13,16 @@ use Rattle.fleet_workers.specs.Blocks.{anyone}
 use Rattle.fleet_workers.specs.Fleet.{IsFleetRun, AreByBlocks, AreWorkers, left_by}
 use Rattle.command_scenarios.specs.Runs.{end_status}
 use Rattle.command_texts.specs.Endings.{end_line}
-use Rattle.command_files.specs.Verdicts.{IsJudged, IsCheckDone}
+use Rattle.fleet_core.specs.declared.verdict.Verdict.{Verdict}
+use Rattle.fleet_core.specs.Verdict.{Judges}
+use Rattle.trace_json.specs.Notes.{verdict_json}
+use Rattle.trace_json.specs.Writing.{json_line}
+use Rattle.command_files.specs.Verdicts.{IsJudged, IsCheckDone, verdict_status}
 use Rattle.command_files.specs.Files.{Made}
 use Rattle.command_scenarios.specs.RunAnswer.{IsSavedAs, IsRunBy, IsRunAnswer, IsRunFault, IsWrongBatch, RunOptions}
 use Rattle.command_files.specs.Loading.{IsScenarioAt, IsTraceAt, IsImageFault, RunPaths}
-use Rattle.command_scenarios.specs.Jobs.{IsAsmDone, IsDisDone, IsRunDone, IsRunRefused, TextPaths}
+use Rattle.command_scenarios.specs.Jobs.{IsAsmDone, IsCheckJsonDone, IsDisDone, IsJudgedInJson, IsRunDone}
+use Rattle.command_scenarios.specs.Jobs.{IsRunRefused, TextPaths}
 use Rattle.command_scenarios.specs.Texts.{count_line}
 use Rattle.command_texts.specs.Texts.{IsTextAt}
 use Rattle.command_files.specs.declared.fault.Fault.{Fault}
@@ -97,6 +102,18 @@ pub check_done : (holds : List ℕ → List ℕ → Type 0) (paths : RunPaths) (
     (answer : Answer) → IsScenarioAt holds paths.image s → IsTraceAt holds paths.trace es → IsJudged s es answer
     → files_of answer.file ≡ [] → IsCheckDone holds paths answer
 check_done holds paths s es answer found read right none =
+    record { scenario = s; found = found; entries = es; read = read; judged = right; made_is = none }
+
+pub judged_in_json : (s : Scenario) (es : List Entry) (verdict : Verdict) (answer : Answer) → Judges s es verdict
+    → string_bytes answer.text ≡ json_line (verdict_json verdict) → answer.status ≡ verdict_status verdict
+    → IsJudgedInJson s es answer
+judged_in_json s es verdict answer right said ended =
+    record { verdict = verdict; judged = right; text_is = said; status_is = ended }
+
+pub check_json_done : (holds : List ℕ → List ℕ → Type 0) (paths : RunPaths) (s : Scenario) (es : List Entry)
+    (answer : Answer) → IsScenarioAt holds paths.image s → IsTraceAt holds paths.trace es → IsJudgedInJson s es answer
+    → files_of answer.file ≡ [] → IsCheckJsonDone holds paths answer
+check_json_done holds paths s es answer found read right none =
     record { scenario = s; found = found; entries = es; read = read; judged = right; made_is = none }
 
 pub run_image : (holds : List ℕ → List ℕ → Type 0) (fails : List ℕ → Type 0) (image : List ℕ) (options : RunOptions)

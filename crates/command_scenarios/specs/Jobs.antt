@@ -1,5 +1,5 @@
--- What is answered to the words that are about scenarios: `asm`, `dis` and `run`; what each prints, the file that it
--- makes, how it ends, and what is refused. What `check` comes to is said of verdicts (command_files).
+-- What is answered to the words that are about scenarios: `asm`, `dis`, `run` and `check --json`; what each prints, the
+-- file that it makes, how it ends, and what is refused. What `check` comes to is said of verdicts (command_files).
 --
 -- Two relations say what is known of the files: `holds path bytes`, the file at the path had these bytes when it was
 -- read; `fails path`, it could not be read.
@@ -8,8 +8,14 @@ use Rattle.std.specs.String.{string_bytes}
 use Rattle.scenario_image.specs.Scenario.{Scenario}
 use Rattle.scenario_image.specs.Image.{IsImageIn}
 use Rattle.scenario_asm.specs.Canonical as canonical
+use Rattle.trace_file.specs.declared.entry.Entry.{Entry}
+use Rattle.fleet_core.specs.declared.verdict.Verdict.{Verdict}
+use Rattle.fleet_core.specs.Verdict.{Judges}
+use Rattle.trace_json.specs.Notes.{verdict_json}
+use Rattle.trace_json.specs.Writing.{json_line}
 use Rattle.command_files.specs.Answers.{files_of}
-use Rattle.command_files.specs.Loading.{IsImageFault, IsScenarioAt, IsWorkFault}
+use Rattle.command_files.specs.Loading.{IsImageFault, IsScenarioAt, IsTraceAt, IsWorkFault, RunPaths}
+use Rattle.command_files.specs.Verdicts.{verdict_status}
 use Rattle.command_files.specs.declared.answer.Answer.{Answer}
 use Rattle.command_files.specs.declared.fault.Fault.{Fault}
 use Rattle.command_files.specs.declared.status.Status.TheVariants.{Done}
@@ -52,3 +58,19 @@ pub record IsRunDone (holds : List ℕ → List ℕ → Type 0) (image : List �
 abbrev pub IsRunRefused : (List ℕ → List ℕ → Type 0) → (List ℕ → Type 0) → List ℕ → RunOptions → Fault → Type 0
 IsRunRefused holds fails image options fault =
     IsImageFault holds fails image fault ⊎ IsWorkFault holds image (λ s. IsRunFault s options fault)
+
+-- the answer is the verdict on the entries, as an object in a line, and the status
+pub record IsJudgedInJson (s : Scenario) (es : List Entry) (answer : Answer) : Type 0 where
+  pub verdict : Verdict
+  pub judged : Judges s es verdict
+  pub text_is : string_bytes answer.text ≡ json_line (verdict_json verdict)
+  pub status_is : answer.status ≡ verdict_status verdict
+
+-- `check IMAGE TRACE --json`: the verdict on the entries
+pub record IsCheckJsonDone (holds : List ℕ → List ℕ → Type 0) (paths : RunPaths) (answer : Answer) : Type 0 where
+  pub scenario : Scenario
+  pub found : IsScenarioAt holds paths.image scenario
+  pub entries : List Entry
+  pub read : IsTraceAt holds paths.trace entries
+  pub judged : IsJudgedInJson scenario entries answer
+  pub made_is : files_of answer.file ≡ []

@@ -3,11 +3,13 @@
 ghost use Rattle.std.specs.Prelude.{IfErr, IfOk, option_map};
 ghost use Rattle.command_files.specs.Loading.{IsCheckRefused, IsImageFault};
 ghost use Rattle.command_files.specs.Verdicts.{IsCheckDone};
-ghost use Rattle.command_scenarios.specs.Jobs.{IsAsmDone, IsDisDone, IsRunDone, IsRunRefused};
+ghost use Rattle.command_scenarios.specs.Jobs.{IsAsmDone, IsCheckJsonDone, IsDisDone, IsRunDone};
+ghost use Rattle.command_scenarios.specs.Jobs.{IsRunRefused};
 ghost use Rattle.command_texts.specs.Texts.{IsTextFault};
 
 use crate::runs::run_scenario;
 use crate::texts::count_line;
+use crate::verdicts::judge_in_json;
 use command_files::files::Files;
 use command_files::{Answer, Refusal, Status, image_file, judge, load_scenario, load_trace};
 use command_texts::load_text;
@@ -89,4 +91,22 @@ pub fn check<'a, F: Files>(
     let scenario = load_scenario(alloc, image, files)?;
     let entries = load_trace(alloc, trace, files)?;
     Ok(judge(alloc, &scenario, entries.as_slice())?)
+}
+
+/// `check IMAGE TRACE --json`: the same verdict as an object in a line.
+#[tactic(auto, using(crate::proofs::Built::check_json_done, command_files::proofs::Built::check_image, command_files::proofs::Built::check_trace, command_files::proofs::Faults::file_memory))]
+pub fn check_json<'a, F: Files>(
+    alloc: Global,
+    image: &'a str,
+    trace: &'a str,
+    files: &F,
+) -> Result<Answer<'a>, Refusal<'a>>
+    ensures done { IfOk result
+        (IsCheckJsonDone (F.holds files.now) (record { image = image.entry.now; trace = trace.entry.now })) }
+    ensures refused { IfErr result (λ r. IsCheckRefused (F.holds files.now) (F.fails files.now)
+        (record { image = image.entry.now; trace = trace.entry.now }) r.fault) }
+{
+    let scenario = load_scenario(alloc, image, files)?;
+    let entries = load_trace(alloc, trace, files)?;
+    Ok(judge_in_json(alloc, &scenario, entries.as_slice())?)
 }

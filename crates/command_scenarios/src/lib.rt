@@ -4,6 +4,7 @@
 mod answers;
 mod runs;
 mod texts;
+mod verdicts;
 
-pub use answers::{asm, check, dis, run};
+pub use answers::{asm, check, check_json, dis, run};
 pub use texts::count_line;

@@ -3,3 +3,4 @@ pub mod Faults
 pub mod Files
 pub mod LinesAt
 pub mod Played
+pub mod OfTap

@@ -1,5 +1,5 @@
 -- What came, in the words of a case.
-use Rattle.std.specs.Prelude.{ℕ, List, [], ◌∷◌, ◌++◌, Option, None, Some, codes}
+use Rattle.std.specs.Prelude.{ℕ, List, [], ◌∷◌, ◌++◌, Option, None, Some, codes, map}
 use Rattle.std.specs.Fmt.{decimal}
 use Rattle.std.specs.List.{flat_map}
 use Rattle.std.specs.Str.Lines.{lines}
@@ -101,3 +101,20 @@ came_lines form (came.Outputs outputs) = all_output_lines form outputs
 came_lines form (came.Text text) = answer_line form (codes "text") ++ text_lines form text
 came_lines form (came.Entries text) = answer_line form (codes "entries") ++ text_lines form text
 came_lines form answer = answer_line form (came_words answer)
+
+-- ---- the same answers, one by one
+
+-- the words of outputs, or that there are none
+abbrev pub output_items : List Output → List (List ℕ)
+output_items [] = codes "nothing" ∷ []
+output_items (output ∷ outputs) = map output_words (output ∷ outputs)
+
+abbrev pub text_items : List ℕ → List (List ℕ)
+text_items text = map (λ line. codes "=| " ++ line) (lines text)
+
+-- what came, the words of each answer
+abbrev pub came_items : Came → List (List ℕ)
+came_items (came.Outputs outputs) = output_items outputs
+came_items (came.Text text) = codes "text" ∷ text_items text
+came_items (came.Entries text) = codes "entries" ∷ text_items text
+came_items answer = came_words answer ∷ []

@@ -1,5 +1,5 @@
 -- What is answered to `test`, and what is refused.
-use Rattle.std.specs.Prelude.{⊤, ℕ, ◌≡◌, ◌≢◌, Bool, List, [], Option}
+use Rattle.std.specs.Prelude.{⊤, ℕ, ◌≡◌, ◌≢◌, List, [], Option}
 use Rattle.command_files.specs.declared.answer.Answer.{Answer}
 use Rattle.command_files.specs.declared.fault.Fault.{Fault}
 use Rattle.command_files.specs.declared.fault.Fault.TheVariants.{Memory, NoSuchCase}
@@ -7,6 +7,7 @@ use Rattle.command_test.specs.Answers.{IsListOf, IsReportOf}
 use Rattle.command_test.specs.Playing.{choice}
 use Rattle.command_test.specs.Reading.{AreRead, IsFirstRefused}
 use Rattle.command_test.specs.declared.case_file.CaseFile.{CaseFile}
+use Rattle.command_test.specs.declared.form.ReportForm.{ReportForm}
 
 -- the files at these paths were read, and some of their cases are chosen
 pub record AreReadWith (holds : List ℕ → List ℕ → Type 0) (paths : List (List ℕ)) (only : Option (List ℕ))
@@ -23,10 +24,10 @@ pub record IsTitlesDone (holds : List ℕ → List ℕ → Type 0) (paths : List
 
 -- `test FILE ..`: the report of the cases
 pub record IsTestDone (holds : List ℕ → List ℕ → Type 0) (paths : List (List ℕ)) (only : Option (List ℕ))
-    (is_tap : Bool) (junit_path : Option (List ℕ)) (answer : Answer) : Type 0 where
+    (form : ReportForm) (junit_path : Option (List ℕ)) (answer : Answer) : Type 0 where
   pub files : List CaseFile
   pub read : AreReadWith holds paths only files
-  pub reported : IsReportOf only is_tap junit_path files answer
+  pub reported : IsReportOf only form junit_path files answer
 
 -- the files were read, and none of their cases is chosen
 pub record HasNoSuchCase (holds : List ℕ → List ℕ → Type 0) (paths : List (List ℕ)) (only : Option (List ℕ))

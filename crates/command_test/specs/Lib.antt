@@ -8,3 +8,4 @@ pub mod Reading
 pub mod Report
 pub mod Stated
 pub mod Tap
+pub mod InJson

@@ -8,6 +8,8 @@ ghost use Rattle.command_test.specs.Jobs.{IsTestDone, IsTestFault, IsTitlesDone}
 ghost use Rattle.command_test.specs.Playing.{AreChosen};
 
 use crate::case_file::CaseFile;
+use crate::form::ReportForm;
+use crate::in_json::json_report;
 use crate::judged::Judged;
 use crate::junit::junit_text;
 use crate::playing::play;
@@ -45,19 +47,20 @@ pub fn titles<'a, F: Files>(
     Ok(Answer::printed(Status::Done, text))
 }
 
-/// `test FILE ..`: the report of the cases, each of which is played, or the same as TAP; with words, of those whose
-/// titles begin with them. It is a fault if there are none. A JUnit report goes to a file besides, if it has a path.
+/// `test FILE ..`: the report of the cases, each of which is played, or the same as TAP or as JSON Lines; with words,
+/// of those whose titles begin with them. It is a fault if there are none. A JUnit report goes to a file besides, if it
+/// has a path.
 #[tactic(auto, using(crate::proofs::Built::tested, crate::proofs::Faults::unread, crate::proofs::Faults::unchosen, crate::proofs::Faults::memory))]
 pub fn test<'a, F: Files>(
     alloc: Global,
     paths: &[&'a str],
     only: Option<&'a str>,
-    is_tap: bool,
+    form: ReportForm,
     junit_path: Option<&'a str>,
     files: &F,
 ) -> Result<Answer<'a>, Refusal<'a>>
     ensures done { IfOk result (IsTestDone (F.holds files.now) (map (λ p. p.now) paths.now)
-        (option_map (λ w. w.now) only.entry) is_tap (option_map (λ p. p.now) junit_path.entry)) }
+        (option_map (λ w. w.now) only.entry) form (option_map (λ p. p.now) junit_path.entry)) }
     ensures refused { IfErr result (λ r. IsTestFault (F.holds files.now) (F.fails files.now)
         (map (λ p. p.now) paths.now) (option_map (λ w. w.now) only.entry) r.fault) }
 {
@@ -67,7 +70,7 @@ pub fn test<'a, F: Files>(
     if tests.is_empty() {
         return Err(no_such_case(only));
     }
-    let answer = report_of(alloc, read.as_slice(), tests, is_tap, junit_path)?;
+    let answer = report_of(alloc, read.as_slice(), tests, form, junit_path)?;
     Ok(answer)
 }
 
@@ -95,14 +98,14 @@ fn report_of<'a>(
     alloc: Global,
     files: &[CaseFile],
     tests: &[TestCase],
-    is_tap: bool,
+    form: ReportForm,
     junit_path: Option<&'a str>,
 ) -> Result<Answer<'a>, AllocError>
     ensures { (only : Option (List ℕ)) → AreChosen only files.now tests.now
-        → IfOk result (IsReportOf only is_tap (option_map (λ p. p.now) junit_path.entry) files.now) }
+        → IfOk result (IsReportOf only form (option_map (λ p. p.now) junit_path.entry) files.now) }
 {
     let judged = play(alloc, tests)?;
-    let text = printed(alloc, is_tap, are_several(files), judged.as_slice())?;
+    let text = printed(alloc, form, are_several(files), judged.as_slice())?;
     let file = junit_file(alloc, junit_path, files, judged.as_slice())?;
     Ok(Answer {
         status: status_of(judged.as_slice()),
@@ -111,14 +114,19 @@ fn report_of<'a>(
     })
 }
 
-/// What is printed: the form of TAP, or the report.
-fn printed(alloc: Global, is_tap: bool, several: bool, all: &[Judged]) -> Result<String, AllocError>
-    ensures { IfOk result (λ text. string_bytes text ≡ printed is_tap several all.now) }
+/// What is printed: the report, the form of TAP, or JSON Lines.
+fn printed(
+    alloc: Global,
+    form: ReportForm,
+    several: bool,
+    all: &[Judged],
+) -> Result<String, AllocError>
+    ensures { IfOk result (λ text. string_bytes text ≡ printed form several all.now) }
 {
-    if is_tap {
-        tap_text(alloc, all)
-    } else {
-        report(alloc, several, all)
+    match form {
+        ReportForm::Text => report(alloc, several, all),
+        ReportForm::Tap => tap_text(alloc, all),
+        ReportForm::JsonLines => json_report(alloc, all),
     }
 }
 

@@ -75,7 +75,7 @@ pub(crate) fn differs(verdict: &Verdict) -> bool
     }
 }
 
-fn count_differing(all: &[Judged]) -> usize
+pub(crate) fn count_differing(all: &[Judged]) -> usize
     ensures { result ≡ count_differing all.now }
 {
     all.iter().filter(|judged| differs(&judged.verdict)).count()

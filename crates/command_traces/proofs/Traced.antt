@@ -18,7 +18,9 @@ use Rattle.trace_pcap.specs.Packets.{has_long, trace_packets}
 use Rattle.udp_capture.specs.Capture.{IsCapture}
 use Rattle.command_files.proofs.Built.{check_image, check_trace, judged_none}
 use Rattle.command_texts.specs.Selections.{selection_fault}
-use Rattle.command_traces.specs.Traces.{pcap_fault, IsCapturedAs, IsNoRun, IsPcapDone, IsPcapFault}
+use Rattle.trace_json.specs.Notes.{verdict_json}
+use Rattle.trace_json.specs.Writing.{json_line}
+use Rattle.command_traces.specs.Traces.{pcap_fault, IsCapturedAs, IsNoRun, IsNoRunIn, IsPcapDone, IsPcapFault}
 use Rattle.command_traces.specs.Traces.{IsPcapRefused, IsRunCaptured, IsRunShown, IsShowDone, IsShowFault}
 use Rattle.command_traces.specs.Traces.{IsShowRefused, IsShownAs, IsShownIn, packets_line}
 use Rattle.command_traces.specs.declared.form.TraceForm.{TraceForm}
@@ -29,7 +31,7 @@ use Rattle.command_files.specs.Verdicts.{verdict_line, verdict_status}
 use Rattle.command_files.specs.declared.fault.Fault.{Fault}
 use Rattle.command_files.specs.declared.fault.Fault.TheVariants.{Memory}
 use Rattle.command_files.specs.declared.answer.Answer.{Answer}
-use Rattle.command_files.specs.declared.status.Status.TheVariants.{Done}
+use Rattle.command_files.specs.declared.status.Status.TheVariants.{Done, NotRun}
 
 -- the verdict that entries are no run
 pub no_run : (s : Scenario) (es : List Entry) (place : ℕ) (answer : Answer) → BreaksAt s es place
@@ -38,10 +40,16 @@ pub no_run : (s : Scenario) (es : List Entry) (place : ℕ) (answer : Answer) �
 no_run s es place answer breaks said ended none =
     record { judged = judged_none s es place answer breaks said ended; no_run = ended; made_is = none }
 
+pub no_run_in_json : (s : Scenario) (es : List Entry) (place : ℕ) (answer : Answer) → BreaksAt s es place
+    → string_bytes answer.text ≡ json_line (verdict_json (verdicts.NotRun place)) → answer.status ≡ NotRun
+    → files_of answer.file ≡ [] → IsNoRunIn forms.JsonLines s es answer
+no_run_in_json s es place answer breaks said ended none =
+    record { place = place; breaks = breaks; text_is = said; status_is = ended; made_is = none }
+
 -- ---- show
 
 pub unshown_run : (form : TraceForm) (sel : Selection) (s : Scenario) (es : List Entry) (answer : Answer)
-    → IsNoRun s es answer → IsShownAs form sel answer s es
+    → IsNoRunIn form s es answer → IsShownAs form sel answer s es
 unshown_run form sel s es answer none = inl none
 
 pub shown_run : (form : TraceForm) (sel : Selection) (s : Scenario) (es : List Entry) (answer : Answer)

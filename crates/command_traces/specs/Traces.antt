@@ -5,12 +5,16 @@ use Rattle.std.specs.String.{string_bytes}
 use Rattle.scenario_image.specs.Scenario.{Scenario}
 use Rattle.trace_file.specs.declared.entry.Entry.{Entry}
 use Rattle.fleet_core.specs.Run.{IsRun}
+use Rattle.fleet_core.specs.Verdict.{BreaksAt}
+use Rattle.fleet_core.specs.declared.verdict.Verdict.TheVariants as verdicts
 use Rattle.trace_text.specs.declared.selection.Selection.{Selection}
 use Rattle.trace_text.specs.declared.selection.SelectionFault.TheVariants as selection
 use Rattle.trace_text.specs.Selection.{IsSelectable, IsSelectionFault, selected_text}
 use Rattle.trace_reasons.specs.Text.{IsReasonedText}
 use Rattle.trace_json.specs.Entries.{trace_json}
 use Rattle.trace_json.specs.Lines.{json_lines}
+use Rattle.trace_json.specs.Notes.{verdict_json}
+use Rattle.trace_json.specs.Writing.{json_line}
 use Rattle.trace_pcap.specs.declared.fault.PcapFault.{PcapFault}
 use Rattle.trace_pcap.specs.declared.fault.PcapFault.TheVariants as pcap
 use Rattle.trace_pcap.specs.Packets.{has_long, trace_packets}
@@ -41,7 +45,21 @@ pub record IsNoRun (s : Scenario) (es : List Entry) (answer : Answer) : Type 0 w
   pub no_run : answer.status ≡ NotRun
   pub made_is : files_of answer.file ≡ []
 
+-- the same as an object in a line: the least place from which on they are none
+pub record IsNoRunInJson (s : Scenario) (es : List Entry) (answer : Answer) : Type 0 where
+  pub place : ℕ
+  pub breaks : BreaksAt s es place
+  pub text_is : string_bytes answer.text ≡ json_line (verdict_json (verdicts.NotRun place))
+  pub status_is : answer.status ≡ NotRun
+  pub made_is : files_of answer.file ≡ []
+
 -- ---- `show IMAGE TRACE [--device N] [--from N] [--to N] [--json] [--why]`
+
+-- the entries are not a run, which is said in words or, where JSON is asked for, as an object
+abbrev pub IsNoRunIn : TraceForm → Scenario → List Entry → Answer → Type 0
+IsNoRunIn forms.Text s es answer = IsNoRun s es answer
+IsNoRunIn forms.Reasons s es answer = IsNoRun s es answer
+IsNoRunIn forms.JsonLines s es answer = IsNoRunInJson s es answer
 
 -- the entries that are asked for, in this form: their text; the same with the reasons why devices handle what arrives
 -- as they do; or an object for each of them, in a line of its own
@@ -60,7 +78,7 @@ pub record IsRunShown (form : TraceForm) (sel : Selection) (s : Scenario) (es : 
   pub made_is : files_of answer.file ≡ []
 
 abbrev pub IsShownAs : TraceForm → Selection → Answer → Scenario → List Entry → Type 0
-IsShownAs form sel answer s es = IsNoRun s es answer ⊎ IsRunShown form sel s es answer
+IsShownAs form sel answer s es = IsNoRunIn form s es answer ⊎ IsRunShown form sel s es answer
 
 abbrev pub IsShowDone : (List ℕ → List ℕ → Type 0) → RunPaths → TraceForm → Selection → Answer → Type 0
 IsShowDone holds paths form sel answer = IsOverTrace holds paths (IsShownAs form sel answer)

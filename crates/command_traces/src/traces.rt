@@ -1,12 +1,15 @@
 //! What the program answers to its words about the trace of a run: `show` and `pcap`. Where the trace is not a run, the
 //! answer is that of `check`.
-ghost use Rattle.std.specs.Prelude.{◌≡◌, IfErr, IfNone, IfOk, IfSome, OnOk};
+ghost use Rattle.std.specs.Prelude.{◌≡◌, IfErr, IfNone, IfOk, IfSome, List, OnOk};
 ghost use Rattle.std.specs.String.{string_bytes};
 ghost use Rattle.fleet_core.specs.Run.{IsRun};
+ghost use Rattle.fleet_core.specs.Verdict.{BreaksAt};
+ghost use Rattle.scenario_image.specs.Scenario.{Scenario as ScenarioData};
+ghost use Rattle.trace_file.specs.declared.entry.Entry.{Entry as EntryData};
 ghost use Rattle.trace_text.specs.Selection.{IsSelectable, IsSelectionFault};
-ghost use Rattle.command_traces.specs.Traces.{IsCapturedAs, IsNoRun, IsPcapDone, IsPcapFault, IsPcapRefused};
-ghost use Rattle.command_traces.specs.Traces.{IsRunCaptured, IsRunShown, IsShowDone, IsShowFault, IsShowRefused};
-ghost use Rattle.command_traces.specs.Traces.{IsShownAs, IsShownIn, packets_line, pcap_fault};
+ghost use Rattle.command_traces.specs.Traces.{IsCapturedAs, IsNoRun, IsNoRunIn, IsPcapDone, IsPcapFault};
+ghost use Rattle.command_traces.specs.Traces.{IsPcapRefused, IsRunCaptured, IsRunShown, IsShowDone, IsShowFault};
+ghost use Rattle.command_traces.specs.Traces.{IsShowRefused, IsShownAs, IsShownIn, packets_line, pcap_fault};
 
 use crate::form::TraceForm;
 use command_files::files::Files;
@@ -16,7 +19,7 @@ use fleet_core::{Verdict, check};
 use scenario_image::Scenario;
 use std::alloc::{AllocError, Global};
 use trace_file::Entry;
-use trace_json::selected_lines;
+use trace_json::{selected_lines, verdict_line};
 use trace_pcap::{PcapFault, packet_count, trace_pcap};
 use trace_reasons::selected_reasons;
 use trace_text::{Selection, SelectionFault, selected_text};
@@ -69,9 +72,24 @@ fn show_trace<'a>(
     ensures done { IfOk result (λ a. IsShownAs form selection a scenario.now entries.now) }
     ensures refused { IfErr result (λ f. IsShowFault selection f scenario.now entries.now) }
 {
-    match answer_no_run(alloc, scenario, entries)? {
-        Some(answer) => Ok(answer),
-        None => show_run(alloc, scenario, entries, form, selection),
+    match check(alloc, scenario, entries)? {
+        Verdict::Run => show_run(alloc, scenario, entries, form, selection),
+        Verdict::NotRun(place) => Ok(show_no_run(alloc, form, place)?),
+    }
+}
+
+/// The answer that entries are not a run, from this one on, in this form.
+#[tactic(auto, using(crate::proofs::Traced::no_run, crate::proofs::Traced::no_run_in_json))]
+fn show_no_run<'a>(alloc: Global, form: TraceForm, place: usize) -> Result<Answer<'a>, AllocError>
+    ensures { (s : ScenarioData) (es : List EntryData) → BreaksAt s es place → IfOk result (IsNoRunIn form s es) }
+{
+    match form {
+        TraceForm::Text => no_run(alloc, place),
+        TraceForm::Reasons => no_run(alloc, place),
+        TraceForm::JsonLines => {
+            let text = verdict_line(alloc, Verdict::NotRun(place))?;
+            Ok(Answer::printed(Status::NotRun, text))
+        }
     }
 }
 

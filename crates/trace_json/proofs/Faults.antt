@@ -24,6 +24,16 @@ members_end (f ∷ fs) =
     ap (λ ts. member_tokens f.0 f.1 ++ ts) (members_end fs)
     ∙ sym (append_assoc (member_tokens f.0 f.1) (fields_tokens fs) (token.end_object ∷ []))
 
+-- members, and others with the end of the object
+pub fields_then : (fs gs : List Field)
+    → members_tokens (members_outline (fields_json (fs ++ gs)))
+    ≡ fields_tokens fs ++ members_tokens (members_outline (fields_json gs))
+fields_then [] gs = refl
+fields_then (f ∷ fs) gs =
+    ap (λ ts. member_tokens f.0 f.1 ++ ts) (fields_then fs gs)
+    ∙ sym
+    (append_assoc (member_tokens f.0 f.1) (fields_tokens fs) (members_tokens (members_outline (fields_json gs))))
+
 after : (fs gs : List Field) (ts us : List Token) → fields_tokens gs ++ ts ≡ us
     → fields_tokens (fs ++ gs) ++ ts ≡ fields_tokens fs ++ us
 after [] gs ts us e = e

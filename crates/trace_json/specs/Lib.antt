@@ -5,3 +5,4 @@ pub mod Entries
 pub mod Lines
 pub mod Members
 pub mod Notes
+pub mod Answers

@@ -1,9 +1,11 @@
 //! A trace as JSON Lines, for scripts: a line that begins it, and one for each entry, with all that the text of the
-//! trace says of it.
+//! trace says of it. And single lines: a verdict, a fault, how a run ended, what a device outputs, whether a case holds.
 #![tactic(auto)]
 
 mod asked;
+mod cases;
 mod datagrams;
+mod ends;
 mod entries;
 mod events;
 mod laws;
@@ -15,6 +17,8 @@ mod trace;
 mod values;
 mod words;
 
+pub use cases::{CaseDifference, CaseParts, case_line, counts_line};
+pub use ends::{outputs_line, run_end_line};
 pub use laws::{lines_are_counted, lines_have_entries, lines_tell_entries};
 pub use lines::{JsonLines, head_line};
 pub use notes::{FaultParts, fault_line, verdict_line};

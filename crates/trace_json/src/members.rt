@@ -1,11 +1,12 @@
 //! The members of an object, written one after another.
 
-ghost use Rattle.std.specs.Prelude.{◌≡◌, ◌++◌, OnOk};
+ghost use Rattle.std.specs.Prelude.{◌≡◌, ◌++◌, OnOk, option_map};
 ghost use Rattle.serde_json.specs.Data.{boolean, string};
 ghost use Rattle.hex.specs.Hex.{encode_upper};
-ghost use Rattle.trace_json.specs.Json.{integer_json, number_json};
+ghost use Rattle.trace_json.specs.Json.{integer_json, number_json, object_json};
+ghost use Rattle.trace_json.specs.Notes.{if_there};
 ghost use Rattle.trace_json.specs.Steps.{hex_json};
-ghost use Rattle.trace_json.specs.Writing.{Has64Bits, member_tokens};
+ghost use Rattle.trace_json.specs.Writing.{Has64Bits, fields_tokens, member_tokens};
 
 use json::Writer;
 use std::alloc::{AllocError, Global};
@@ -18,6 +19,23 @@ pub(crate) fn put_number(out: &mut Writer, key: &str, number: u64) -> Result<(),
 {
     out.key(key)?;
     out.u64(number)
+}
+
+/// Writes a number, if there is one.
+pub(crate) fn put_number_if(
+    out: &mut Writer,
+    key: &str,
+    number: Option<u64>,
+) -> Result<(), AllocError>
+    ensures adds { OnOk result (out.new.tokens
+        ≡ out.old.tokens ++ fields_tokens (if_there key.now (option_map number_json number))) }
+    ensures before { out.new.before ≡ out.old.before }
+    ensures exact { Has64Bits (object_json (if_there key.now (option_map number_json number))) }
+{
+    match number {
+        None => Ok(()),
+        Some(number) => put_number(out, key, number),
+    }
 }
 
 /// Writes an integer.

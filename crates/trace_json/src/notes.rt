@@ -9,7 +9,7 @@ ghost use Rattle.trace_json.specs.Notes.{fault_json, if_there, verdict_json};
 ghost use Rattle.trace_json.specs.Writing.{Has64Bits, IsReadAgain, fields_tokens, json_line, tokens_of};
 
 use crate::lines::{end_line, text_of};
-use crate::members::{put_number, put_string};
+use crate::members::{put_number, put_number_if, put_string};
 use fleet_core::Verdict;
 use json::Writer;
 use std::alloc::{AllocError, Global};
@@ -20,9 +20,9 @@ pub struct FaultParts<'a> {
     /// The name of the fault.
     pub name: &'a str,
     /// The line of the text that is refused, counted from 1.
-    pub line: Option<usize>,
+    pub line: Option<u64>,
     /// The place in the file that is refused, in bytes from 0.
-    pub place: Option<usize>,
+    pub place: Option<u64>,
     /// Why the line is refused.
     pub cause: Option<&'a str>,
     /// The word that is refused.
@@ -81,19 +81,6 @@ pub fn verdict_line(alloc: Global, verdict: Verdict) -> Result<String, AllocErro
     put_verdict(&mut writer, verdict)?;
     let bytes = end_line(writer)?;
     Ok(text_of(bytes))
-}
-
-/// Writes a number, if there is one.
-fn put_number_if(out: &mut Writer, key: &str, number: Option<usize>) -> Result<(), AllocError>
-    ensures adds { OnOk result (out.new.tokens
-        ≡ out.old.tokens ++ fields_tokens (if_there key.now (option_map number_json number))) }
-    ensures before { out.new.before ≡ out.old.before }
-    ensures exact { Has64Bits (object_json (if_there key.now (option_map number_json number))) }
-{
-    match number {
-        None => Ok(()),
-        Some(number) => put_number(out, key, number as u64),
-    }
 }
 
 /// Writes a text, if there is one.
