@@ -81,10 +81,11 @@ fn put_difference_if(
     out: &mut Writer,
     difference: Option<CaseDifference<'_>>,
 ) -> Result<(), AllocError>
-    ensures adds { OnOk result (out.new.tokens ≡ out.old.tokens
-        ++ members_tokens (members_outline (fields_json (differing_fields (option_map differing_of difference.entry))))) }
+    ensures adds { OnOk result (out.new.tokens ≡ out.old.tokens ++ members_tokens (members_outline (fields_json
+        (differing_fields (option_map differing_of difference.entry))))) }
     ensures before { out.new.before ≡ out.old.before }
-    ensures exact { OnOk result (Has64Bits (object_json (differing_fields (option_map differing_of difference.entry)))) }
+    ensures exact { OnOk result (Has64Bits
+        (object_json (differing_fields (option_map differing_of difference.entry)))) }
 {
     match difference {
         None => {

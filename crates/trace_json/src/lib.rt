@@ -1,5 +1,6 @@
 //! A trace as JSON Lines, for scripts: a line that begins it, and one for each entry, with all that the text of the
-//! trace says of it. And single lines: a verdict, a fault, how a run ended, what a device outputs, whether a case holds.
+//! trace says of it. And single lines: a verdict, a fault, how a run ended, what a device outputs, whether a case
+//! holds.
 #![tactic(auto)]
 
 mod asked;
