@@ -5,6 +5,7 @@ use Rattle.std.specs.Io.KnownBytes.{Appends}
 use Rattle.std.specs.String.{string_bytes}
 use Rattle.command_line.specs.Words.{IsReadAs}
 use Rattle.command_line.specs.declared.words.Asked.{Asked}
+use Rattle.command_line.specs.declared.words.AskedFleet.{AskedFleet}
 use Rattle.command_line.specs.declared.words.Asked.TheVariants as asked
 use Rattle.command_line.specs.declared.words.Job.{Job}
 use Rattle.command_line.specs.declared.words.Job.TheVariants as jobs
@@ -14,6 +15,7 @@ use Rattle.bench_commands.specs.Command.{Ends, IsAnswerTo, IsCutJob, IsDebugCut,
 use Rattle.bench_commands.specs.Command.{IsFinished, IsFormOf, IsRefused, IsToldIn, IsUnfinished, wants_json}
 use Rattle.command_files.specs.Files.{Grows, most_bytes}
 use Rattle.command_files.specs.Input.{IsWithin, WhereKnown}
+use Rattle.command_fleet.specs.Fleet.{IsFleetDone, IsFleetFault}
 use Rattle.command_live.specs.Live.{IsLiveDone, IsLiveFault}
 use Rattle.command_words.specs.Inputs.{IsInputRefused, IsInputSaid}
 use Rattle.command_files.specs.World.{FilesKnown, IsAside, IsIdle, StreamFaults, Streams, World}
@@ -31,6 +33,14 @@ aside_faults faults = record { input_fails = ⊥; output_refuses = faults.output
 
 abbrev pub aside_streams : Option (List ℕ) → Streams
 aside_streams output = record { input = None; output = output; errors = None }
+
+-- what is known of a call that has no input
+abbrev pub beside_faults : StreamFaults → StreamFaults
+beside_faults faults =
+    record { input_fails = ⊥; output_refuses = faults.output_refuses; errors_refuse = faults.errors_refuse }
+
+abbrev pub beside_input : Streams → Streams
+beside_input streams = record { input = None; output = streams.output; errors = streams.errors }
 
 -- ---- done
 
@@ -105,6 +115,34 @@ lived_if files faults before after words live (Ok status) read done ended aside 
     lived files faults before after words live status read done ended aside
 lived_if files faults before after words live (Err e) read done ended aside = tt
 
+-- a session of several devices that may have been lost
+pub served_if : {E : Type 0}
+    → (files : FilesKnown) (faults : StreamFaults) (before after : World) (words : List (List ℕ)) (fleet : AskedFleet)
+    (result : Result Status E) → IsReadAs words (asked.Fleet fleet)
+    → IfOk result (IsFleetDone files (record { made = before.made; streams = beside_input before.streams })
+    (record { made = after.made; streams = beside_input after.streams }) fleet)
+    → after.streams.input ≡ before.streams.input → IfOk result (IsFinished files faults before after words)
+served_if files faults before after words fleet (Ok status) read done unread =
+    inr (inr (inr (
+      record {
+        fleet = fleet;
+        read = read;
+        done = record {
+          part = done.part;
+          ready = done.ready;
+          session = done.session;
+          served = done.served;
+          concluded = record {
+            printed = done.concluded.printed;
+            saved = done.concluded.saved;
+            ended = done.concluded.ended;
+          };
+        };
+      },
+      unread,
+    )))
+served_if files faults before after words fleet (Err e) read done unread = tt
+
 -- ---- not done
 
 -- a session was not concluded
@@ -150,6 +188,41 @@ pub live_lost_if : (files : FilesKnown) (faults : StreamFaults) (before after : 
 live_lost_if files faults before after words live (Ok status) read lost aside none = tt
 live_lost_if files faults before after words live (Err r) read lost aside none =
     live_lost files faults before after words live r.fault read lost aside none
+
+-- a session of several devices that may have been concluded
+pub fleet_lost_if : (files : FilesKnown) (faults : StreamFaults) (before after : World) (words : List (List ℕ))
+    (fleet : AskedFleet) (result : Result Status Refusal) → IsReadAs words (asked.Fleet fleet)
+    → IfErr result (λ r. IsFleetFault files (beside_faults faults) (beside_input before.streams)
+    (beside_input after.streams) fleet r.fault)
+    → after.streams.input ≡ before.streams.input → OnErr result (after.made ≡ before.made)
+    → IfErr result (λ r. IsUnfinished files faults before after words r.fault)
+fleet_lost_if files faults before after words fleet (Ok status) read lost unread none = tt
+fleet_lost_if files faults before after words fleet (Err r) read lost unread none =
+    inr (inr (inr (record { fleet = fleet; read = read; lost = so lost; none_made = none }, unread)))
+  where
+    so : IsFleetFault files (beside_faults faults) (beside_input before.streams) (beside_input after.streams) fleet
+        r.fault → IsFleetFault files faults before.streams after.streams fleet r.fault
+    so (inl none) = inl (record { why = none.why; silent = none.silent; untold = none.untold })
+    so (inr (inl untold)) =
+        inr (inl (record {
+          scenario = untold.scenario;
+          devices = untold.devices;
+          asked_for = untold.asked_for;
+          place = untold.place;
+          place_is = untold.place_is;
+          why = untold.why;
+          silent = untold.silent;
+        }))
+    so (inr (inr (inl cut))) =
+        inr (inr (inl (record { part = cut.part; ready = cut.ready; why = cut.why; silent = cut.silent })))
+    so (inr (inr (inr lost))) =
+        inr (inr (inr (record {
+          part = lost.part;
+          ready = lost.ready;
+          session = lost.session;
+          served = lost.served;
+          why = lost.why;
+        })))
 
 pub no_memory : (files : FilesKnown) (faults : StreamFaults) (before after : World) (words : List (List ℕ))
     (fault : Fault) → fault ≡ Memory → after.made ≡ before.made → IsIdle before.streams after.streams
@@ -215,7 +288,7 @@ pub log_said_if : {E : Type 0}
     → OnOk delivered (Appends before.streams.output after.streams.output (string_bytes answer.text))
     → IfOk delivered (IsFinished files faults before after words)
 log_said_if files faults before after words server answer (Ok status) read said within silent ended made printed =
-    inr (inr (
+    inr (inr (inl (
       record {
         server = server;
         read = read;
@@ -227,7 +300,7 @@ log_said_if files faults before after words server answer (Ok status) read said 
         ended = ended;
       },
       silent,
-    ))
+    )))
 log_said_if files faults before after words server answer (Err e) read said within silent ended made printed = tt
 
 pub log_unprinted_if : (files : FilesKnown) (faults : StreamFaults) (before after : World) (words : List (List ℕ))
@@ -242,7 +315,7 @@ pub log_unprinted_if : (files : FilesKnown) (faults : StreamFaults) (before afte
 log_unprinted_if files faults before after words server answer (Ok status) read said within silent lost = tt
 log_unprinted_if files faults before after words server answer (Err r) read said within silent lost =
     let so = undelivered_so files faults before after before.streams.output answer r.fault refl lost in
-    inr (inr (
+    inr (inr (inl (
       record {
         server = server;
         read = read;
@@ -250,7 +323,7 @@ log_unprinted_if files faults before after words server answer (Err r) read said
         within = within;
       },
       silent,
-    ))
+    )))
 
 pub log_refused : (files : FilesKnown) (faults : StreamFaults) (before after : World) (words : List (List ℕ))
     (server : ℕ) (fault : Fault) → IsReadAs words (asked.Log server)
@@ -259,10 +332,10 @@ pub log_refused : (files : FilesKnown) (faults : StreamFaults) (before after : W
     → after.made ≡ before.made → after.streams.output ≡ before.streams.output
     → after.streams.errors ≡ before.streams.errors → IsUnfinished files faults before after words fault
 log_refused files faults before after words server fault read refused within none unprinted silent =
-    inr (inr (
+    inr (inr (inl (
       record { server = server; read = read; lost = inl (refused, none, unprinted); within = within },
       silent,
-    ))
+    )))
 
 -- ---- what was read
 
@@ -310,6 +383,7 @@ within_asked : (holds : List ℕ → List ℕ → Type 0) (faults : StreamFaults
     → IsDebugged holds faults asked before after → WhereKnown (IsWithin most_bytes) before.input after.input
 within_asked holds faults (asked.Job job) before after h = within_job holds faults job before after h
 within_asked holds faults (asked.Live live) before after h = absurd h
+within_asked holds faults (asked.Fleet fleet) before after h = absurd h
 within_asked holds faults (asked.Log server) before after h = absurd h
 within_asked holds faults (asked.Text help is_mistake) before after h = absurd h
 
@@ -318,6 +392,7 @@ within_lost : (holds : List ℕ → List ℕ → Type 0) (faults : StreamFaults)
     → WhereKnown (IsWithin most_bytes) before.input after.input
 within_lost holds faults (asked.Job job) before after fault h = within_cut holds faults job before after fault h
 within_lost holds faults (asked.Live live) before after fault h = absurd h
+within_lost holds faults (asked.Fleet fleet) before after fault h = absurd h
 within_lost holds faults (asked.Log server) before after fault h = absurd h
 within_lost holds faults (asked.Text help is_mistake) before after fault h = absurd h
 
@@ -342,7 +417,8 @@ finished files faults before after words status done = record { ended = inl done
     so (inl (answered, aside)) = unread before.streams.input after.streams.input aside.0
     so (inr (inl (conversed, none))) =
         within_asked files.holds faults conversed.asked before.streams after.streams conversed.debugged
-    so (inr (inr (said, silent))) = said.within
+    so (inr (inr (inl (said, silent)))) = said.within
+    so (inr (inr (inr (served, same)))) = unread before.streams.input after.streams.input same
 
 -- what is told is the same beside an input
 told_in : (json : Bool) (faults : StreamFaults) (between after : World) (about : Option (List ℕ)) (fault : Fault)
@@ -388,5 +464,6 @@ faulted files faults before between after about words fault json status ended un
     so (inl (undone, aside)) = unread before.streams.input between.streams.input aside.0
     so (inr (inl (inl lost, none))) =
         within_lost files.holds faults lost.asked before.streams between.streams fault lost.cut
-    so (inr (inr (lost, silent))) = lost.within
+    so (inr (inr (inl (lost, silent)))) = lost.within
+    so (inr (inr (inr (lost, same)))) = unread before.streams.input between.streams.input same
     so (inr (inl (inr (lost, aside), none))) = unread before.streams.input between.streams.input aside.0

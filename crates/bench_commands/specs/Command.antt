@@ -4,6 +4,7 @@ use Rattle.std.specs.Io.KnownBytes.{Appends}
 use Rattle.std.specs.String.{string_bytes}
 use Rattle.command_line.specs.Words.{IsReadAs}
 use Rattle.command_line.specs.declared.words.Asked.{Asked}
+use Rattle.command_line.specs.declared.words.AskedFleet.{AskedFleet}
 use Rattle.command_line.specs.declared.words.Asked.TheVariants as asked
 use Rattle.command_line.specs.declared.words.Job.{Job}
 use Rattle.command_line.specs.declared.words.Job.TheVariants as jobs
@@ -22,6 +23,7 @@ use Rattle.command_files.specs.Loading.{IsCheckRefused, IsImageFault}
 use Rattle.command_demo.specs.InJson.{IsOneJsonDone}
 use Rattle.command_demo.specs.One.{IsOneDone, IsOneFault}
 use Rattle.command_demo.specs.Why.{IsOneWhyDone}
+use Rattle.command_fleet.specs.Fleet.{IsFleetDone, IsFleetFault}
 use Rattle.command_live.specs.Live.{IsLiveDone, IsLiveFault}
 use Rattle.command_files.specs.Refusals.{IsTold}
 use Rattle.command_json.specs.Told.{IsToldInJson}
@@ -124,6 +126,7 @@ IsRefusedJob holds fails (jobs.Test files only form junit) fault =
 abbrev pub IsAnswerTo : (List ℕ → List ℕ → Type 0) → Asked → Answer → Type 0
 IsAnswerTo holds (asked.Job job) answer = IsDone holds job answer
 IsAnswerTo holds (asked.Live live) answer = ⊥
+IsAnswerTo holds (asked.Fleet fleet) answer = ⊥
 IsAnswerTo holds (asked.Log server) answer = ⊥
 IsAnswerTo holds (asked.Text help is_mistake) answer =
     (answer.status ≡ text_status is_mistake) × (string_bytes answer.text ≡ string_bytes help)
@@ -132,6 +135,7 @@ IsAnswerTo holds (asked.Text help is_mistake) answer =
 abbrev pub IsRefused : (List ℕ → List ℕ → Type 0) → (List ℕ → Type 0) → Asked → Fault → Type 0
 IsRefused holds fails (asked.Job job) fault = IsRefusedJob holds fails job fault
 IsRefused holds fails (asked.Live live) fault = ⊥
+IsRefused holds fails (asked.Fleet fleet) fault = ⊥
 IsRefused holds fails (asked.Log server) fault = ⊥
 IsRefused holds fails (asked.Text help is_mistake) fault = ⊥
 
@@ -152,12 +156,14 @@ IsCutJob holds faults _ before after fault = ⊥
 abbrev pub IsDebugged : (List ℕ → List ℕ → Type 0) → StreamFaults → Asked → Streams → Streams → Type 0
 IsDebugged holds faults (asked.Job job) before after = IsDebuggedJob holds faults job before after
 IsDebugged holds faults (asked.Live live) before after = ⊥
+IsDebugged holds faults (asked.Fleet fleet) before after = ⊥
 IsDebugged holds faults (asked.Log server) before after = ⊥
 IsDebugged holds faults (asked.Text help is_mistake) before after = ⊥
 
 abbrev pub IsDebugCut : (List ℕ → List ℕ → Type 0) → StreamFaults → Asked → Streams → Streams → Fault → Type 0
 IsDebugCut holds faults (asked.Job job) before after fault = IsCutJob holds faults job before after fault
 IsDebugCut holds faults (asked.Live live) before after fault = ⊥
+IsDebugCut holds faults (asked.Fleet fleet) before after fault = ⊥
 IsDebugCut holds faults (asked.Log server) before after fault = ⊥
 IsDebugCut holds faults (asked.Text help is_mistake) before after fault = ⊥
 
@@ -226,6 +232,21 @@ pub record IsLiveLost (files : FilesKnown) (faults : StreamFaults) (before after
   pub read : IsReadAs words (asked.Live live)
   pub lost : IsLiveFault files faults before.streams after.streams live fault
 
+-- the words ask for devices on UDP, whose session was concluded
+pub record AreServed (files : FilesKnown) (before after : World) (words : List (List ℕ)) (status : Status) : Type 0
+  where
+    pub fleet : AskedFleet
+    pub read : IsReadAs words (asked.Fleet fleet)
+    pub done : IsFleetDone files before after fleet status
+
+-- the words ask for devices on UDP, and this fault kept them from a session or from its conclusion
+pub record IsFleetLost (files : FilesKnown) (faults : StreamFaults) (before after : World) (words : List (List ℕ))
+    (fault : Fault) : Type 0 where
+  pub fleet : AskedFleet
+  pub read : IsReadAs words (asked.Fleet fleet)
+  pub lost : IsFleetFault files faults before.streams after.streams fleet fault
+  pub none_made : after.made ≡ before.made
+
 -- the words ask for what a log says, which standard input has; all of it was read, and that was printed
 pub record IsLogAnswered (before after : World) (words : List (List ℕ)) (status : Status) : Type 0 where
   pub server : ℕ
@@ -260,24 +281,26 @@ pub record IsLogLost (files : FilesKnown) (faults : StreamFaults) (before after 
 
 -- the words were answered, or a session was concluded, and nothing was read from standard input, and standard error got
 -- nothing; or a conversation came to its end, and no file was made; or a log was answered, and standard error got
--- nothing
+-- nothing; or a session of several devices was concluded, and nothing was read
 abbrev pub IsFinished : FilesKnown → StreamFaults → World → World → List (List ℕ) → Status → Type 0
 IsFinished files faults before after words status =
     ((IsAnswered files before after words status ⊎ IsLived files before after words status)
     × IsAside before.streams after.streams)
     ⊎ ((IsConversed files faults before after words status × (after.made ≡ before.made))
-    ⊎ (IsLogAnswered before after words status × (after.streams.errors ≡ before.streams.errors)))
+    ⊎ ((IsLogAnswered before after words status × (after.streams.errors ≡ before.streams.errors))
+    ⊎ (AreServed files before after words status × (after.streams.input ≡ before.streams.input))))
 
 -- there was no answer, or it was lost, and nothing was read from standard input, and standard error got nothing; or a
 -- conversation was cut short, or a session lost likewise, and no file was made; or a log was not answered, and standard
--- error got nothing
+-- error got nothing; or a session of several devices was lost, and nothing was read
 abbrev pub IsUnfinished : FilesKnown → StreamFaults → World → World → List (List ℕ) → Fault → Type 0
 IsUnfinished files faults before after words fault =
     (IsUndone files faults before after words fault × IsAside before.streams after.streams)
     ⊎ (((IsConversationLost files faults before after words fault
     ⊎ (IsLiveLost files faults before after words fault × IsAside before.streams after.streams))
     × (after.made ≡ before.made))
-    ⊎ (IsLogLost files faults before after words fault × (after.streams.errors ≡ before.streams.errors)))
+    ⊎ ((IsLogLost files faults before after words fault × (after.streams.errors ≡ before.streams.errors))
+    ⊎ (IsFleetLost files faults before after words fault × (after.streams.input ≡ before.streams.input))))
 
 -- ---- the form of a fault
 
@@ -304,6 +327,7 @@ job_wants_json _ = false
 abbrev pub wants_json : Asked → Bool
 wants_json (asked.Job job) = job_wants_json job
 wants_json (asked.Live live) = false
+wants_json (asked.Fleet fleet) = false
 wants_json (asked.Log server) = false
 wants_json (asked.Text help is_mistake) = false
 

@@ -11,9 +11,10 @@
 //! | `debug` | `command_debug` |
 //! | `test` | `command_test` |
 //! | `live` | `command_live` |
+//! | `fleet` | `command_fleet` |
 //!
 //! What they share is in `command_files`. What each is answered with stands in specs/Command.antt (`IsDone`,
-//! `IsDebugged`, `IsLived`, `IsLogAnswered`), and why it is refused (`IsRefusedJob`).
+//! `IsDebugged`, `IsLived`, `AreServed`, `IsLogAnswered`), and why it is refused (`IsRefusedJob`).
 #![tactic(auto)]
 
 mod program;

@@ -9,6 +9,7 @@ ghost use Rattle.command_line.specs.Words.{IsReadAs};
 
 use command_debug::debug;
 use command_demo::{one, one_json, one_why};
+use command_fleet::fleet;
 use command_files::files::Files;
 use command_files::{Answer, Input, Output, Refusal, Status, deliver, tell};
 use command_json::tell_in_json;
@@ -40,6 +41,9 @@ use trace_text::Selection;
 ///   status is 0.
 /// - `live`: a device of the row's class makes at most as many turns as were asked for, from its start; the line of its
 ///   session is printed, and the image of its steps is made, if that was asked for.
+/// - `fleet`: devices of a scenario are served for a session, each from the start of its class; exactly the line that
+///   says that their ports are there goes to `errors`, and that of the session to `output`; the image of their steps is
+///   made, if that was asked for; and the status is 3 where datagrams were dropped or lost, if that was asked for.
 /// - Status 1, and a fault: exactly its line is printed, where the words ask for JSON its object as a line, and then at
 ///   most one line goes to `errors`, or the stream did not take it, and `errors` got nothing. What was left at it is
 ///   said too: nothing made and nothing printed where memory ran out or the words were refused; the file made where its
@@ -170,7 +174,7 @@ fn wants_json(asked: &Asked) -> bool
 {
     match asked {
         Asked::Job(job) => job_wants_json(job),
-        Asked::Live(_) | Asked::Log { .. } | Asked::Text { .. } => false,
+        Asked::Live(_) | Asked::Fleet(_) | Asked::Log { .. } | Asked::Text { .. } => false,
     }
 }
 
@@ -295,6 +299,7 @@ fn answer_words<
 {
     match wanted {
         Asked::Live(asked) => live(rt, alloc, asked, files, output),
+        Asked::Fleet(asked) => fleet(rt, alloc, asked, files, output, errors),
         Asked::Log { server } => {
             let answer = say_input(alloc, input, server)?;
             deliver(&answer, files, output)

@@ -9,16 +9,17 @@ use Rattle.clap.specs.declared.error.kind.ErrorKind.TheVariants as kind
 use Rattle.command_line.specs.declared.words.Job.{Job}
 use Rattle.command_line.specs.declared.words.Job.TheVariants as jobs
 use Rattle.command_line.specs.declared.words.Live.{Live}
+use Rattle.command_line.specs.declared.words.AskedFleet.{AskedFleet}
 use Rattle.command_line.specs.declared.words.Asked.{Asked}
 use Rattle.command_line.specs.declared.words.Asked.TheVariants as asked
 use Rattle.command_line.specs.declared.words.TraceForm.{TraceForm}
 use Rattle.command_line.specs.declared.words.TraceForm.TheVariants as forms
 use Rattle.command_line.specs.declared.words.CaseForm.{CaseForm}
 use Rattle.command_line.specs.declared.words.CaseForm.TheVariants as case_forms
-use Rattle.command_line.specs.Words.{AsksFor, AsksForCaseForm, AsksForForm, AsksForLog, AsksToLive, IsReadAs}
-use Rattle.command_line.specs.Words.{IsRefusedAs, MayAskFor, bench_app, is_set, refusals}
-use Rattle.command_line.specs.Inside.{IsTakenAs, LacksLive, LacksOne, LacksPlay, LacksRun, LacksSay, LacksShow}
-use Rattle.command_line.specs.Inside.{LacksTest, WantsTwoCaseForms, WantsTwoForms}
+use Rattle.command_line.specs.Words.{AsksFor, AsksForCaseForm, AsksForFleet, AsksForForm, AsksForLog, AsksToLive}
+use Rattle.command_line.specs.Words.{IsReadAs, IsRefusedAs, MayAskFor, bench_app, is_set, refusals}
+use Rattle.command_line.specs.Inside.{IsTakenAs, LacksFleet, LacksLive, LacksOne, LacksPlay, LacksRun, LacksSay}
+use Rattle.command_line.specs.Inside.{LacksShow, LacksTest, WantsTwoCaseForms, WantsTwoForms}
 
 -- words that exclude each other ask for no form
 one_form : (rows : List Row) (form : TraceForm) → WantsTwoForms rows → AsksForForm rows form → ⊥
@@ -257,7 +258,38 @@ pub not_live : (rows : List Row) (wanted : Asked) → LacksLive rows → MayAskF
 not_live rows (asked.Job job) lacks asks = live_alone rows job asks
 not_live rows (asked.Log server) lacks asks = search rules
 not_live rows (asked.Live live) lacks asks = lacks_live rows live lacks asks
+not_live rows (asked.Fleet fleet) lacks asks = search rules
 not_live rows (asked.Text text is_mistake) lacks asks = absurd asks
+
+-- the words of devices on the network
+lacks_fleet : (rows : List Row) (fleet : AskedFleet) → LacksFleet rows → AsksForFleet (codes "fleet", rows) fleet → ⊥
+lacks_fleet rows fleet (inl none) asks = search rules
+lacks_fleet rows fleet (inr (inl none)) asks = none fleet.port asks.2
+lacks_fleet rows fleet (inr (inr (inl none))) asks = none fleet.seconds asks.3
+lacks_fleet rows fleet (inr (inr (inr none))) asks = search rules
+
+-- they ask for no job
+fleet_alone : (rows : List Row) (job : Job) → AsksFor (codes "fleet", rows) job → ⊥
+fleet_alone rows (jobs.One hex form) asks = search rules
+fleet_alone rows (jobs.Say hex server) asks = search rules
+fleet_alone rows (jobs.Spell statement) asks = search rules
+fleet_alone rows (jobs.Play file device from to form) asks = search rules
+fleet_alone rows (jobs.Asm input output) asks = search rules
+fleet_alone rows (jobs.Dis input) asks = search rules
+fleet_alone rows (jobs.Run image workers batch trace) asks = search rules
+fleet_alone rows (jobs.Check image trace json) asks = search rules
+fleet_alone rows (jobs.Show image trace device from to form) asks = search rules
+fleet_alone rows (jobs.Pcap image trace output) asks = search rules
+fleet_alone rows (jobs.Debug image trace) asks = search rules
+fleet_alone rows (jobs.Titles files only) asks = search rules
+fleet_alone rows (jobs.Test files only form junit) asks = search rules
+
+pub not_fleet : (rows : List Row) (wanted : Asked) → LacksFleet rows → MayAskFor (codes "fleet", rows) wanted → ⊥
+not_fleet rows (asked.Job job) lacks asks = fleet_alone rows job asks
+not_fleet rows (asked.Log server) lacks asks = search rules
+not_fleet rows (asked.Live live) lacks asks = search rules
+not_fleet rows (asked.Fleet fleet) lacks asks = lacks_fleet rows fleet lacks asks
+not_fleet rows (asked.Text text is_mistake) lacks asks = absurd asks
 
 -- the words of `say`
 lacks_hex : (rows : List Row) (job : Job) → LacksSay rows → AsksFor (codes "say", rows) job → ⊥
@@ -284,15 +316,17 @@ pub not_say : (rows : List Row) (wanted : Asked) → LacksSay rows → MayAskFor
 not_say rows (asked.Job job) lacks asks = lacks_hex rows job lacks asks
 not_say rows (asked.Log server) lacks asks = lacks_log rows server lacks asks
 not_say rows (asked.Live live) lacks asks = search rules
+not_say rows (asked.Fleet fleet) lacks asks = search rules
 not_say rows (asked.Text text is_mistake) lacks asks = absurd asks
 
--- other words ask for no device on the network, and for no log
-pub no_job : (name : Word) (rows : List Row) (wanted : Asked) → (name ≢ codes "live") → (name ≢ codes "say")
-    → ((job : Job) → AsksFor (name, rows) job → ⊥) → MayAskFor (name, rows) wanted → ⊥
-no_job name rows (asked.Job job) other another none asks = none job asks
-no_job name rows (asked.Log server) other another none asks = absurd (another asks.0)
-no_job name rows (asked.Live live) other another none asks = absurd (other asks.0)
-no_job name rows (asked.Text text is_mistake) other another none asks = absurd asks
+-- other words ask for no devices on the network, and for no log
+pub no_job : (name : Word) (rows : List Row) (wanted : Asked) → (name ≢ codes "live") → (name ≢ codes "fleet")
+    → (name ≢ codes "say") → ((job : Job) → AsksFor (name, rows) job → ⊥) → MayAskFor (name, rows) wanted → ⊥
+no_job name rows (asked.Job job) one two three none asks = none job asks
+no_job name rows (asked.Log server) one two three none asks = absurd (three asks.0)
+no_job name rows (asked.Live live) one two three none asks = absurd (one asks.0)
+no_job name rows (asked.Fleet fleet) one two three none asks = absurd (two asks.0)
+no_job name rows (asked.Text text is_mistake) one two three none asks = absurd asks
 
 -- the second of two, where the first is not
 pub second_of : {A B : Type 0} → A ⊎ B → (A → ⊥) → B
@@ -340,6 +374,7 @@ pub taken_for : (found : Option (Word × List Row)) (wanted : Asked)
 taken_for found (asked.Job job) asks = asks
 taken_for found (asked.Log server) asks = asks
 taken_for found (asked.Live live) asks = asks
+taken_for found (asked.Fleet fleet) asks = asks
 taken_for found (asked.Text text is_mistake) (p, at, asks) = absurd asks
 
 -- what words that were taken ask for
@@ -355,6 +390,10 @@ read_as app words m (asked.Log server) same matches kinds (p, at, asks) = (
   record { found = p; entered = sym (same_subcommand app words m same matches) ∙ at; asks = asks },
 )
 read_as app words m (asked.Live live) same matches kinds (p, at, asks) = (
+  taken_whole app words same kinds,
+  record { found = p; entered = sym (same_subcommand app words m same matches) ∙ at; asks = asks },
+)
+read_as app words m (asked.Fleet fleet) same matches kinds (p, at, asks) = (
   taken_whole app words same kinds,
   record { found = p; entered = sym (same_subcommand app words m same matches) ∙ at; asks = asks },
 )

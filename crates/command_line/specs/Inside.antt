@@ -4,9 +4,9 @@ use Rattle.clap.specs.Words.{App, Row, Rule, Text as Word, all_of, first_of, new
 use Rattle.clap.specs.Words.{with_subcommand}
 use Rattle.command_line.specs.declared.words.Asked.{Asked}
 use Rattle.command_line.specs.declared.words.Asked.TheVariants as asked
-use Rattle.command_line.specs.Words.{AsksFor, AsksForLog, AsksToLive, IsNoNumber, MayAskFor, flag, is_set, needed}
-use Rattle.command_line.specs.Words.{needed_number, number, number_from, optional_number, several, text_option}
-use Rattle.command_line.specs.Words.{with_settings}
+use Rattle.command_line.specs.Words.{AsksFor, AsksForFleet, AsksForLog, AsksToLive, IsNoNumber, MayAskFor, flag, is_set}
+use Rattle.command_line.specs.Words.{needed, needed_number, number, number_from, optional_number, several, text_option}
+use Rattle.command_line.specs.Words.{text_or, with_settings}
 
 -- `[--json] [--why]`
 abbrev pub with_trace_forms : App → App
@@ -99,6 +99,29 @@ with_turns a = with_rule (with_rule a (needed_number (codes "TURNS") 1 100000)) 
 abbrev pub live_app : App
 live_app = with_rule (with_turns (with_port (new_app (codes "live")))) (flag (codes "show"))
 
+-- `--seconds N`
+abbrev pub seconds : Rule
+seconds = number_from (codes "seconds") 1 4294967295 (codes "86400")
+
+-- `--bind ADDRESS`
+abbrev pub bind : Rule
+bind = text_or (codes "bind") (codes "127.0.0.1")
+
+-- `FILE PORT [--seconds N]`
+abbrev pub with_service : App → App
+with_service a =
+    with_rule (with_rule (with_rule a (needed (codes "FILE"))) (needed_number (codes "PORT") 1 65535)) seconds
+
+-- `[--devices A-B] [--bind ADDRESS]`
+abbrev pub with_places : App → App
+with_places a = with_rule (with_rule a (text_option (codes "devices"))) bind
+
+-- `fleet FILE PORT [--seconds N] [--devices A-B] [--bind ADDRESS] [--save FILE] [--strict]`
+abbrev pub fleet_app : App
+fleet_app =
+    with_rule (with_rule (with_places (with_service (new_app (codes "fleet")))) (text_option (codes "save")))
+    (flag (codes "strict"))
+
 -- `FILE .. [--only WORDS]`
 abbrev pub with_cases : App → App
 with_cases a = with_rule (with_rule a (several (codes "FILE"))) (text_option (codes "only"))
@@ -116,9 +139,9 @@ abbrev pub whole_app : App
 whole_app =
     with_subcommand (with_subcommand (with_subcommand (with_subcommand (with_subcommand (with_subcommand
     (with_subcommand (with_subcommand (with_subcommand (with_subcommand (with_subcommand (with_subcommand
-    (with_subcommand (with_settings (new_app (codes "lwbench"))) one_app.top) say_app.top) spell_app.top) play_app.top)
-    asm_app.top) dis_app.top) run_app.top) check_app.top) show_app.top) pcap_app.top) debug_app.top) live_app.top)
-    test_app.top
+    (with_subcommand (with_subcommand (with_settings (new_app (codes "lwbench"))) one_app.top) say_app.top)
+    spell_app.top) play_app.top) asm_app.top) dis_app.top) run_app.top) check_app.top) show_app.top) pcap_app.top)
+    debug_app.top) live_app.top) fleet_app.top) test_app.top
 
 -- a value that a run needs is not there
 abbrev pub LacksRun : List Row → Type 0
@@ -136,6 +159,13 @@ LacksLive rows =
     (first_of (codes "IMAGE") rows ≡ None)
     ⊎ (IsNoNumber 16 (one_of (codes "DEVICE") rows) ⊎ (IsNoNumber 16 (one_of (codes "PORT") rows)
     ⊎ IsNoNumber 32 (one_of (codes "TURNS") rows)))
+
+-- a value that the devices on the network need is not there
+abbrev pub LacksFleet : List Row → Type 0
+LacksFleet rows =
+    (first_of (codes "FILE") rows ≡ None)
+    ⊎ (IsNoNumber 16 (one_of (codes "PORT") rows) ⊎ (IsNoNumber 32 (one_of (codes "seconds") rows)
+    ⊎ (first_of (codes "bind") rows ≡ None)))
 
 -- `--list` stands beside `--tap`, `--json` or `--junit`, of which each wants cases that are played
 abbrev pub ListsAndPlays : List Row → Type 0
@@ -178,5 +208,6 @@ abbrev pub IsTakenAs : Option (Word × List Row) → Asked → Type 0
 IsTakenAs found (asked.Job job) = (p : Word × List Row) × (found ≡ Some p) × AsksFor p job
 IsTakenAs found (asked.Log server) = (p : Word × List Row) × (found ≡ Some p) × AsksForLog p server
 IsTakenAs found (asked.Live live) = (p : Word × List Row) × (found ≡ Some p) × AsksToLive p live
+IsTakenAs found (asked.Fleet fleet) = (p : Word × List Row) × (found ≡ Some p) × AsksForFleet p fleet
 IsTakenAs found (asked.Text text is_mistake) =
     (is_mistake ≡ true) × ((p : Word × List Row) (wanted : Asked) → found ≡ Some p → MayAskFor p wanted → ⊥)

@@ -12,6 +12,7 @@ use Rattle.clap.specs.declared.error.kind.ErrorKind.TheVariants.{DisplayHelp, Di
 use Rattle.command_line.specs.declared.words.Job.{Job}
 use Rattle.command_line.specs.declared.words.Job.TheVariants as jobs
 use Rattle.command_line.specs.declared.words.Live.{Live}
+use Rattle.command_line.specs.declared.words.AskedFleet.{AskedFleet}
 use Rattle.command_line.specs.declared.words.Asked.{Asked}
 use Rattle.command_line.specs.declared.words.Asked.TheVariants as asked
 use Rattle.command_line.specs.declared.words.TraceForm.{TraceForm}
@@ -55,6 +56,10 @@ abbrev pub number_from : Word → ℕ → ℕ → Word → Rule
 number_from name least most default =
     record (number name most default) { parser = Some (parsers.Signed (pos least) (pos most)) }
 
+-- `--NAME TEXT`; where it is not given, `default`
+abbrev pub text_or : Word → Word → Rule
+text_or name default = record (text_option name) { defaults = default ∷ [] }
+
 -- a subcommand has to be there, and there is a version
 abbrev pub with_settings : App → App
 with_settings a = record a { top = record a.top { subcommand_required = true; has_version = true } }
@@ -96,6 +101,10 @@ commands =
     ∷ command (codes "live") (needed (codes "IMAGE") ∷ needed_number (codes "DEVICE") 0 65535
     ∷ needed_number (codes "PORT") 0 65535 ∷ needed_number (codes "TURNS") 1 100000 ∷ text_option (codes "save")
     ∷ flag (codes "show") ∷ [])
+    -- `fleet FILE PORT [--seconds N] [--devices A-B] [--bind ADDRESS] [--save FILE] [--strict]`
+    ∷ command (codes "fleet") (needed (codes "FILE") ∷ needed_number (codes "PORT") 1 65535
+    ∷ number_from (codes "seconds") 1 4294967295 (codes "86400") ∷ text_option (codes "devices")
+    ∷ text_or (codes "bind") (codes "127.0.0.1") ∷ text_option (codes "save") ∷ flag (codes "strict") ∷ [])
     -- `test FILE .. [--only WORDS] [--list] [--tap] [--json] [--junit FILE]`
     ∷ command (codes "test") (several (codes "FILE") ∷ text_option (codes "only") ∷ flag (codes "list")
     ∷ flag (codes "tap") ∷ flag (codes "json") ∷ text_option (codes "junit") ∷ []) ∷ []
@@ -211,6 +220,17 @@ AsksToLive found live =
     × (first_of (codes "save") found.1 ≡ option_map (λ p. p.now) live.save)
     × (is_set (codes "show") found.1 ≡ live.show)
 
+-- a subcommand with its values asks for these devices on the network
+abbrev pub AsksForFleet : Word × List Row → AskedFleet → Type 0
+AsksForFleet found fleet =
+    (found.0 ≡ codes "fleet") × IsText found (codes "FILE") fleet.file.now
+    × IsNumber 16 (one_of (codes "PORT") found.1) fleet.port
+    × IsNumber 32 (one_of (codes "seconds") found.1) fleet.seconds
+    × (first_of (codes "devices") found.1 ≡ option_map (λ w. w.now) fleet.devices)
+    × IsText found (codes "bind") fleet.bind.now
+    × (first_of (codes "save") found.1 ≡ option_map (λ p. p.now) fleet.save)
+    × (is_set (codes "strict") found.1 ≡ fleet.strict)
+
 -- a subcommand with its values asks what the log says that standard input has: HEX is `-`
 abbrev pub AsksForLog : Word × List Row → ℕ → Type 0
 AsksForLog found server =
@@ -222,6 +242,7 @@ abbrev pub MayAskFor : Word × List Row → Asked → Type 0
 MayAskFor found (asked.Job job) = AsksFor found job
 MayAskFor found (asked.Log server) = AsksForLog found server
 MayAskFor found (asked.Live live) = AsksToLive found live
+MayAskFor found (asked.Fleet fleet) = AsksForFleet found fleet
 MayAskFor found (asked.Text text is_mistake) = ⊥
 
 -- these words, of which the first is the program's name, ask for this
@@ -249,5 +270,6 @@ abbrev pub IsReadAs : List Word → Asked → Type 0
 IsReadAs words (asked.Job job) = (refusals words ≡ []) × IsAsked words (asked.Job job)
 IsReadAs words (asked.Log server) = (refusals words ≡ []) × IsAsked words (asked.Log server)
 IsReadAs words (asked.Live live) = (refusals words ≡ []) × IsAsked words (asked.Live live)
+IsReadAs words (asked.Fleet fleet) = (refusals words ≡ []) × IsAsked words (asked.Fleet fleet)
 IsReadAs words (asked.Text text is_mistake) =
     IsRefusedAs (refusals words) is_mistake ⊎ ((refusals words ≡ []) × (is_mistake ≡ true) × AsksNothing words)

@@ -13,7 +13,7 @@ Status:
   0  it was done
   1  a fault
   2  the words are not a command
-  3  the run stalled, the trace is not a run, or a case differs";
+  3  the run stalled, the trace is not a run, a case differs, or `--strict` and a datagram was lost";
 
 pub const ONE: &str =
     "Reads no file. Prints a line for each output of the device, a datagram or another act, or `nothing`. With
@@ -171,6 +171,22 @@ it. With `--show` prints what happens while it goes on. At the end prints
 
 Example:
   lwbench live reader.image 0 5683 1000 --show";
+
+pub const FLEET: &str =
+    "Reads FILE: what begins with LWSC is a scenario's image, any other file its text. Starts the devices of it,
+without the steps of their rows, and lets each answer the datagrams that arrive at a UDP port of its own:
+device d at PORT + d of the address of `--bind`, or, with `--devices`, only devices A to B, device A at
+PORT. Once all ports are there, prints on standard error
+  lwbench: ready N at ADDRESS:PORT
+After so many seconds as `--seconds` says, a day if it is not given, it ends. Writes the image of what
+happened to the FILE of `--save`, which is replaced where it exists, and no file without it: the steps of
+each device, at most 4096. At the end prints
+  done seconds S devices N received N sent N dropped N lost N
+A datagram is dropped that comes from no account of its device, or is longer than 1500 bytes; one is lost
+that the system did not take. With `--strict` the status is 3 where one was dropped or lost.
+
+Example:
+  lwbench fleet reader.txt 20000 --seconds 60";
 
 pub const TEST: &str =
     "Reads each FILE, which is UTF-8, and then plays the cases, file by file; with `--only` those whose titles

@@ -5,4 +5,4 @@ mod help;
 mod subcommands;
 mod words;
 
-pub use words::{Asked, CaseForm, Job, Live, NO_TEXT, TraceForm, read};
+pub use words::{Asked, AskedFleet, CaseForm, Job, Live, NO_TEXT, TraceForm, read};

@@ -3,11 +3,11 @@ ghost use Rattle.std.specs.Prelude.{◌≡◌, codes, false, true, IfOk};
 ghost use Rattle.clap.specs.Words.{App, app_of, new_app, rule_of, with_rule, with_subcommand};
 ghost use Rattle.command_line.specs.Words.{flag, needed, needed_number, optional_number, several, text_option};
 ghost use Rattle.command_line.specs.Words.{with_settings};
-ghost use Rattle.command_line.specs.Inside.{asm_app, batch, check_app, debug_app, dis_app, live_app, one_app, pcap_app};
-ghost use Rattle.command_line.specs.Inside.{play_app, run_app, say_app, server, show_app, spell_app, test_app};
-ghost use Rattle.command_line.specs.Inside.{whole_app, with_cases, with_forms, with_port};
-ghost use Rattle.command_line.specs.Inside.{with_range, with_selection, with_trace, with_trace_forms};
-ghost use Rattle.command_line.specs.Inside.{with_turns, workers};
+ghost use Rattle.command_line.specs.Inside.{asm_app, batch, bind, check_app, debug_app, dis_app, fleet_app, live_app};
+ghost use Rattle.command_line.specs.Inside.{one_app, pcap_app, play_app, run_app, say_app, seconds, server, show_app};
+ghost use Rattle.command_line.specs.Inside.{spell_app, test_app, whole_app, with_cases, with_forms, with_places};
+ghost use Rattle.command_line.specs.Inside.{with_port, with_range, with_selection, with_service, with_trace};
+ghost use Rattle.command_line.specs.Inside.{with_trace_forms, with_turns, workers};
 
 use crate::help;
 use clap::{Arg, ArgAction, Command, value_parser};
@@ -21,7 +21,8 @@ pub(crate) fn bench<'a>(alloc: Global) -> Result<Command<'a>, AllocError>
     let texts = with_texts(alloc, datagrams)?;
     let runs = with_runs(alloc, texts)?;
     let traces = with_traces(alloc, runs)?;
-    with_test(alloc, traces)
+    let fleets = with_fleet(alloc, traces)?;
+    with_test(alloc, fleets)
 }
 
 fn with_datagrams<'a>(alloc: Global, command: Command<'a>) -> Result<Command<'a>, AllocError>
@@ -58,6 +59,12 @@ fn with_traces<'a>(alloc: Global, command: Command<'a>) -> Result<Command<'a>, A
     let pcap = with_subcommand(Ok(command), pcap_command(alloc));
     let debug = with_subcommand(pcap, debug_command(alloc));
     with_subcommand(debug, live_command(alloc))
+}
+
+fn with_fleet<'a>(alloc: Global, command: Command<'a>) -> Result<Command<'a>, AllocError>
+    ensures { IfOk result (λ c. app_of c ≡ with_subcommand (app_of command.entry) fleet_app.top) }
+{
+    with_subcommand(Ok(command), fleet_command(alloc))
 }
 
 fn with_test<'a>(alloc: Global, command: Command<'a>) -> Result<Command<'a>, AllocError>
@@ -310,6 +317,70 @@ fn with_port<'a>(alloc: Global, command: Command<'a>) -> Result<Command<'a>, All
         .arg(needed(alloc, "IMAGE").help("The scenario, as an image"))?
         .arg(needed_small(alloc, "DEVICE").help("The number of the device"))?
         .arg(needed_small(alloc, "PORT").help("Its UDP port (0: any free port)"))
+}
+
+fn fleet_command<'a>(alloc: Global) -> Result<Command<'a>, AllocError>
+    ensures { IfOk result (λ c. app_of c ≡ fleet_app) }
+{
+    let about = "Lets all devices of a scenario answer, each at a UDP port of its own";
+    let service = with_service(alloc, described(alloc, "fleet", about, help::FLEET))?;
+    let save = text_option(alloc, "save", "FILE").help("Where the image of what happened goes");
+    let strict = flag(alloc, "strict").help(
+        "Ends with status 3 where a datagram was dropped or lost",
+    );
+    with_places(alloc, service)?.arg(save)?.arg(strict)
+}
+
+/// Adds the words for the devices of a scenario, the first of their ports, and how long they go on.
+fn with_service<'a>(alloc: Global, command: Command<'a>) -> Result<Command<'a>, AllocError>
+    ensures { IfOk result (λ c. app_of c ≡ with_service (app_of command.entry)) }
+{
+    command
+        .arg(needed(alloc, "FILE").help("The scenario, as text or as an image"))?
+        .arg(port(alloc))?
+        .arg(seconds(alloc))
+}
+
+/// Adds the words for a part of the devices, and for where their ports are.
+fn with_places<'a>(alloc: Global, command: Command<'a>) -> Result<Command<'a>, AllocError>
+    ensures { IfOk result (λ c. app_of c ≡ with_places (app_of command.entry)) }
+{
+    command
+        .arg(text_option(alloc, "devices", "A-B").help("Only the devices from A to B"))?
+        .arg(bind(alloc))
+}
+
+fn port<'a>(alloc: Global) -> Arg<'a>
+    ensures rule { rule_of result ≡ needed_number (codes "PORT") 1 65535 }
+    ensures local { result.global ≡ false }
+{
+    Arg::new(alloc, "PORT")
+        .required(true)
+        .value_parser(value_parser!(u16).range(1..=65_535))
+        .help("The UDP port of the first device, 1 to 65535")
+}
+
+fn seconds<'a>(alloc: Global) -> Arg<'a>
+    ensures rule { rule_of result ≡ seconds }
+    ensures local { result.global ≡ false }
+{
+    Arg::new(alloc, "seconds")
+        .long("seconds")
+        .value_name("N")
+        .value_parser(value_parser!(u32).range(1..=4_294_967_295))
+        .default_value("86400")
+        .help("For how many seconds they go on, 1 to 4294967295")
+}
+
+fn bind<'a>(alloc: Global) -> Arg<'a>
+    ensures rule { rule_of result ≡ bind }
+    ensures local { result.global ≡ false }
+{
+    Arg::new(alloc, "bind")
+        .long("bind")
+        .value_name("ADDRESS")
+        .default_value("127.0.0.1")
+        .help("The IP address of the ports")
 }
 
 fn test_command<'a>(alloc: Global) -> Result<Command<'a>, AllocError>

@@ -4,10 +4,11 @@ ghost use Rattle.clap.specs.Words.{Row, Text as Word, all_of, first_of, found_of
 ghost use Rattle.clap.specs.Words.{subcommand_rows_of};
 ghost use Rattle.command_line.specs.declared.words.Asked.{Asked as AskedData};
 ghost use Rattle.command_line.specs.declared.words.Job.{Job as JobData};
-ghost use Rattle.command_line.specs.Words.{AsksFor, AsksForCaseForm, AsksForForm, AsksToLive, IsOptionalNumber};
-ghost use Rattle.command_line.specs.Words.{IsReadAs, MayAskFor, is_set};
-ghost use Rattle.command_line.specs.Inside.{ExcludesInTest, IsTakenAs, LacksLive, LacksOne, LacksPlay, LacksRun};
-ghost use Rattle.command_line.specs.Inside.{LacksSay, LacksShow, LacksTest, WantsTwoCaseForms, WantsTwoForms};
+ghost use Rattle.command_line.specs.Words.{AsksFor, AsksForCaseForm, AsksForFleet, AsksForForm, AsksToLive};
+ghost use Rattle.command_line.specs.Words.{IsOptionalNumber, IsReadAs, MayAskFor, is_set};
+ghost use Rattle.command_line.specs.Inside.{ExcludesInTest, IsTakenAs, LacksFleet, LacksLive, LacksOne, LacksPlay};
+ghost use Rattle.command_line.specs.Inside.{LacksRun, LacksSay, LacksShow, LacksTest, WantsTwoCaseForms};
+ghost use Rattle.command_line.specs.Inside.{WantsTwoForms};
 
 use crate::subcommands::bench;
 use clap::error::ErrorKind;
@@ -197,6 +198,25 @@ pub struct Live<'a> {
     pub show: bool,
 }
 
+/// The devices of a scenario, which receive the datagrams of the network, each at a port of its own, and answer them.
+#[derive(Clone, Copy)]
+pub struct AskedFleet<'a> {
+    /// The path of the scenario's text or image.
+    pub file: &'a str,
+    /// The UDP port of the first device; each device has the next one.
+    pub port: u16,
+    /// For how many seconds they go on.
+    pub seconds: u32,
+    /// Which rows have a device, as `A-B`; where it is not given, all have.
+    pub devices: Option<&'a str>,
+    /// The IP address of the ports.
+    pub bind: &'a str,
+    /// Where the image of what happened goes, if anywhere.
+    pub save: Option<&'a str>,
+    /// Whether the status tells that a datagram was dropped or lost.
+    pub strict: bool,
+}
+
 /// What the words ask for.
 #[derive(Drop)]
 pub enum Asked<'a> {
@@ -209,6 +229,8 @@ pub enum Asked<'a> {
     },
     /// A device on the network, of which is printed while it goes on.
     Live(Live<'a>),
+    /// Devices on the network.
+    Fleet(AskedFleet<'a>),
     /// A text to print: help, or what is wrong with the words.
     Text {
         /// The text.
@@ -259,7 +281,7 @@ fn asked_of<'a>(alloc: Global, found: &ArgMatches<'a>) -> Result<Option<Asked<'a
     }
 }
 
-#[tactic(auto, using(crate::proofs::Asking::not_live, crate::proofs::Asking::not_say, crate::proofs::Asking::no_job))]
+#[tactic(auto, using(crate::proofs::Asking::not_live, crate::proofs::Asking::not_fleet, crate::proofs::Asking::not_say, crate::proofs::Asking::no_job))]
 fn asked_in<'a>(
     alloc: Global,
     name: &str,
@@ -271,6 +293,7 @@ fn asked_in<'a>(
 {
     match name {
         "live" => Ok(live_asked(found)),
+        "fleet" => Ok(fleet_asked(found)),
         "say" => Ok(say_asked(found)),
         _ => match job_in(alloc, name, found)? {
             Some(job) => Ok(Some(Asked::Job(job))),
@@ -510,6 +533,28 @@ fn live_of<'a>(found: &ArgMatches<'a>) -> Option<Live<'a>>
         turns: number(found, "TURNS")?,
         save: value_of(found, "save"),
         show: flag(found, "show"),
+    })
+}
+
+fn fleet_asked<'a>(found: &ArgMatches<'a>) -> Option<Asked<'a>>
+    ensures some { IfSome result (MayAskFor (codes "fleet", rows_of (found_of found.now))) }
+    ensures none { IfNone result (LacksFleet (rows_of (found_of found.now))) }
+{
+    Some(Asked::Fleet(fleet_of(found)?))
+}
+
+fn fleet_of<'a>(found: &ArgMatches<'a>) -> Option<AskedFleet<'a>>
+    ensures some { IfSome result (AsksForFleet (codes "fleet", rows_of (found_of found.now))) }
+    ensures none { IfNone result (LacksFleet (rows_of (found_of found.now))) }
+{
+    Some(AskedFleet {
+        file: value_of(found, "FILE")?,
+        port: small_number(found, "PORT")?,
+        seconds: number(found, "seconds")?,
+        devices: value_of(found, "devices"),
+        bind: value_of(found, "bind")?,
+        save: value_of(found, "save"),
+        strict: flag(found, "strict"),
     })
 }
 

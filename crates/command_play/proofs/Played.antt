@@ -1,10 +1,7 @@
 -- What `play` came to, put together from its parts.
-use Rattle.std.proofs.Common.{ℕ, ◌≡◌, ◌⊎◌, Bool, true, false, List, [], ◌++◌, length, inl, inr, subst, sym}
-use Rattle.std.specs.Prelude.{MatchBool}
+use Rattle.std.proofs.Common.{ℕ, ◌≡◌, ◌⊎◌, List, [], ◌++◌, length, inl, inr, subst, sym}
 use Rattle.std.specs.String.{string_bytes}
 use Rattle.scenario_image.specs.Scenario.{Scenario}
-use Rattle.scenario_image.specs.Image.{IsImage}
-use Rattle.scenario_asm.specs.Denotes.{Denotes}
 use Rattle.trace_file.specs.declared.entry.Entry.{Entry}
 use Rattle.fleet_core.specs.Run.{IsSerial}
 use Rattle.fleet_core.specs.Waiting.{waiting}
@@ -14,7 +11,7 @@ use Rattle.trace_text.specs.declared.selection.SelectionFault.TheVariants as sel
 use Rattle.trace_text.specs.Selection.{IsSelectable, IsSelectionFault}
 use Rattle.command_files.specs.Answers.{files_of}
 use Rattle.command_files.specs.Fault.{IsReadingFault}
-use Rattle.command_files.specs.Loading.{IsHeld, IsNoImage}
+use Rattle.command_files.specs.Loading.{IsHeld}
 use Rattle.command_files.specs.declared.answer.Answer.{Answer}
 use Rattle.command_files.specs.declared.fault.Fault.{Fault}
 use Rattle.command_files.specs.declared.fault.Fault.TheVariants.{Memory}
@@ -22,46 +19,10 @@ use Rattle.command_files.specs.declared.status.Status.TheVariants.{Done}
 use Rattle.trace_json.specs.Entries.{trace_json}
 use Rattle.trace_json.specs.Lines.{AreLinesOf}
 use Rattle.command_texts.specs.Selections.{selection_fault}
-use Rattle.command_texts.specs.Texts.{IsNoText}
-use Rattle.command_play.specs.Play.{IsNoScenario, IsPlayDone, IsPlayFault, IsPlayed, IsScenarioOf}
-use Rattle.command_play.specs.Play.{IsToldAs, IsUnplayed, ending, is_marked}
+use Rattle.command_sources.specs.Sources.{IsNoScenario, IsScenarioOf}
+use Rattle.command_play.specs.Play.{IsPlayDone, IsPlayFault, IsPlayed, IsToldAs, IsUnplayed, ending}
 use Rattle.command_play.specs.declared.form.PlayForm.{PlayForm}
 use Rattle.command_play.specs.declared.form.PlayForm.TheVariants as forms
-
--- ---- the scenario of a file
-
-of_true : (b : Bool) (P Q : Type 0) → b ≡ true → P → MatchBool b P Q
-of_true true P Q same h = h
-of_true false P Q same h = cc
-
-of_false : (b : Bool) (P Q : Type 0) → b ≡ false → Q → MatchBool b P Q
-of_false true P Q same h = cc
-of_false false P Q same h = h
-
-pub of_image : (bytes : List ℕ) (s : Scenario) → is_marked bytes ≡ true → IsImage bytes s → IsScenarioOf bytes s
-of_image bytes s marked h = of_true (is_marked bytes) (IsImage bytes s) (Denotes bytes s) marked h
-
-pub of_text : (bytes : List ℕ) (s : Scenario) → is_marked bytes ≡ false → Denotes bytes s → IsScenarioOf bytes s
-of_text bytes s plain h = of_false (is_marked bytes) (IsImage bytes s) (Denotes bytes s) plain h
-
-pub no_image : (bytes : List ℕ) (f : Fault) → is_marked bytes ≡ true → IsNoImage bytes f → IsNoScenario bytes f
-no_image bytes f marked h = of_true (is_marked bytes) (IsNoImage bytes f) (IsNoText bytes f) marked h
-
-pub no_text : (bytes : List ℕ) (f : Fault) → is_marked bytes ≡ false → IsNoText bytes f → IsNoScenario bytes f
-no_text bytes f plain h = of_false (is_marked bytes) (IsNoImage bytes f) (IsNoText bytes f) plain h
-
-pub held : (holds : List ℕ → List ℕ → Type 0) (path bytes : List ℕ) (s : Scenario) → holds path bytes
-    → IsScenarioOf bytes s → IsHeld holds path (λ bytes. IsScenarioOf bytes s)
-held holds path bytes s there h = record { bytes = bytes; held = there; so = h }
-
-pub unread : (holds : List ℕ → List ℕ → Type 0) (fails : List ℕ → Type 0) (path : List ℕ) (f : Fault)
-    → IsReadingFault (fails path) f → IsReadingFault (fails path) f ⊎ IsHeld holds path (λ bytes. IsNoScenario bytes f)
-unread holds fails path f h = inl h
-
-pub no_scenario : (holds : List ℕ → List ℕ → Type 0) (fails : List ℕ → Type 0) (path bytes : List ℕ) (f : Fault)
-    → holds path bytes → IsNoScenario bytes f
-    → IsReadingFault (fails path) f ⊎ IsHeld holds path (λ bytes. IsNoScenario bytes f)
-no_scenario holds fails path bytes f there h = inr (record { bytes = bytes; held = there; so = h })
 
 -- ---- its serial run
 

@@ -1,10 +1,7 @@
 -- What `play FILE [--device N] [--from N] [--to N] [--json] [--why]` comes to.
-use Rattle.std.specs.Prelude.{⊤, ℕ, ◌≡◌, ◌⊎◌, nat_eq, Bool, MatchBool, List, [], ◌++◌, length, codes}
-use Rattle.std.specs.List.{starts_with}
+use Rattle.std.specs.Prelude.{⊤, ℕ, ◌≡◌, ◌⊎◌, List, [], ◌++◌, length}
 use Rattle.std.specs.String.{string_bytes}
 use Rattle.scenario_image.specs.Scenario.{Scenario}
-use Rattle.scenario_image.specs.Image.{IsImage}
-use Rattle.scenario_asm.specs.Denotes.{Denotes}
 use Rattle.trace_file.specs.declared.entry.Entry.{Entry}
 use Rattle.fleet_core.specs.Run.{IsSerial}
 use Rattle.fleet_core.specs.Waiting.{waiting}
@@ -18,29 +15,15 @@ use Rattle.trace_json.specs.Lines.{json_lines}
 use Rattle.trace_json.specs.Writing.{json_line}
 use Rattle.command_files.specs.Answers.{files_of}
 use Rattle.command_files.specs.Fault.{IsReadingFault}
-use Rattle.command_files.specs.Loading.{IsHeld, IsNoImage}
+use Rattle.command_files.specs.Loading.{IsHeld}
 use Rattle.command_files.specs.declared.answer.Answer.{Answer}
 use Rattle.command_files.specs.declared.fault.Fault.{Fault}
 use Rattle.command_files.specs.declared.fault.Fault.TheVariants as faults
 use Rattle.command_files.specs.declared.status.Status.TheVariants.{Done}
+use Rattle.command_sources.specs.Sources.{IsNoScenario, IsScenarioOf}
 use Rattle.command_texts.specs.Endings.{end_line}
-use Rattle.command_texts.specs.Texts.{IsNoText}
 use Rattle.command_play.specs.declared.form.PlayForm.{PlayForm}
 use Rattle.command_play.specs.declared.form.PlayForm.TheVariants as forms
-
--- ---- the scenario of a file
-
--- bytes begin with the mark of an image, which begins no word of a scenario's text
-abbrev pub is_marked : List ℕ → Bool
-is_marked bytes = starts_with nat_eq bytes (codes "LWSC")
-
--- the bytes are the scenario's image, in either version, or a text that denotes it
-abbrev pub IsScenarioOf : List ℕ → Scenario → Type 0
-IsScenarioOf bytes s = MatchBool (is_marked bytes) (IsImage bytes s) (Denotes bytes s)
-
--- why bytes are neither: bytes with the mark are not an image, others are not a text
-abbrev pub IsNoScenario : List ℕ → Fault → Type 0
-IsNoScenario bytes fault = MatchBool (is_marked bytes) (IsNoImage bytes fault) (IsNoText bytes fault)
 
 -- ---- its serial run
 

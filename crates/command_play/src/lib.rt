@@ -2,7 +2,6 @@
 #![tactic(auto)]
 
 mod form;
-mod loading;
 mod playing;
 
 pub use form::PlayForm;

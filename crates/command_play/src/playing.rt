@@ -7,9 +7,9 @@ ghost use Rattle.trace_text.specs.Selection.{IsSelectable, IsSelectionFault};
 ghost use Rattle.command_play.specs.Play.{IsPlayDone, IsPlayFault, IsPlayed, IsToldAs, IsUnplayed, ending};
 
 use crate::form::PlayForm;
-use crate::loading::load;
 use command_files::files::Files;
 use command_files::{Answer, Fault, Refusal, Status};
+use command_sources::load_source;
 use command_texts::{end_line, selection_fault};
 use fleet_core::{run_serial, unfinished};
 use scenario_image::Scenario;
@@ -34,7 +34,7 @@ pub fn play<'a, F: Files>(
     ensures refused { IfErr result (λ r.
         IsPlayFault (F.holds files.now) (F.fails files.now) path.entry.now selection r.fault) }
 {
-    let scenario = load(alloc, path, files)?;
+    let scenario = load_source(alloc, path, files)?;
     Ok(play_scenario(alloc, &scenario, form, selection)?)
 }
 

@@ -1,7 +1,8 @@
 use Rattle.std.proofs.Common.{◌≡◌, refl, rules, subst}
 use Rattle.command_line.specs.Words.{IsReadAs}
 use Rattle.command_line.specs.declared.words.Asked.TheVariants as asked
-use Rattle.bench_commands.proofs.Ended.{answered_if, live_lost_if, lived_if, log_said_if, log_unprinted_if, undelivered_if}
+use Rattle.bench_commands.proofs.Ended.{answered_if, fleet_lost_if, live_lost_if, lived_if, log_said_if}
+use Rattle.bench_commands.proofs.Ended.{log_unprinted_if, served_if, undelivered_if}
 use Rattle.bench_commands.proofs.program.answer_words.Goals as goal
 
 pub returns-in-Live-clause-done : goal.returns-in-Live-clause-done
@@ -16,6 +17,19 @@ returns-in-Live-clause-refused g c = λ words is_read.
     let read : IsReadAs words (asked.Live c.in-Live.asked) = subst (IsReadAs words) same is_read in
     live_lost_if _ _ _ _ words c.in-Live.asked c.live.result read c.live.ensures.refused (refl, refl)
     c.live.ensures.kept
+
+pub returns-in-Fleet-clause-done : goal.returns-in-Fleet-clause-done
+returns-in-Fleet-clause-done g c = λ words is_read.
+    let same : c.args.wanted ≡ asked.Fleet c.in-Fleet.asked = search rules in
+    let read : IsReadAs words (asked.Fleet c.in-Fleet.asked) = subst (IsReadAs words) same is_read in
+    served_if _ _ _ _ words c.in-Fleet.asked c.fleet.result read c.fleet.ensures.done refl
+
+pub returns-in-Fleet-clause-refused : goal.returns-in-Fleet-clause-refused
+returns-in-Fleet-clause-refused g c = λ words is_read.
+    let same : c.args.wanted ≡ asked.Fleet c.in-Fleet.asked = search rules in
+    let read : IsReadAs words (asked.Fleet c.in-Fleet.asked) = subst (IsReadAs words) same is_read in
+    fleet_lost_if _ _ _ _ words c.in-Fleet.asked c.fleet.result read c.fleet.ensures.refused refl
+    c.fleet.ensures.kept
 
 pub returns-in-Some-clause-done : goal.returns-in-Some-clause-done
 returns-in-Some-clause-done g c = λ words is_read.

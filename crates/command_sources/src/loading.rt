@@ -2,7 +2,7 @@
 ghost use Rattle.std.specs.Prelude.{◌≡◌, ◌⊎◌, IfErr, IfOk};
 ghost use Rattle.command_files.specs.Fault.{IsReadingFault};
 ghost use Rattle.command_files.specs.Loading.{IsHeld};
-ghost use Rattle.command_play.specs.Play.{IsNoScenario, IsScenarioOf, is_marked};
+ghost use Rattle.command_sources.specs.Sources.{IsNoScenario, IsScenarioOf, is_marked};
 
 use command_files::files::Files;
 use command_files::{Refusal, image_of, read_file};
@@ -18,7 +18,7 @@ fn is_marked(bytes: &[u8]) -> bool
 }
 
 /// The scenario whose image or text these bytes of the file at this path are.
-#[tactic(auto, using(crate::proofs::Played::of_image, crate::proofs::Played::of_text, crate::proofs::Played::no_image, crate::proofs::Played::no_text))]
+#[tactic(auto, using(crate::proofs::Sourced::of_image, crate::proofs::Sourced::of_text, crate::proofs::Sourced::no_image, crate::proofs::Sourced::no_text))]
 fn scenario_of<'a>(alloc: Global, path: &'a str, bytes: &[u8]) -> Result<Scenario, Refusal<'a>>
     ensures found { IfOk result (IsScenarioOf bytes.now) }
     ensures refused { IfErr result (λ r. IsNoScenario bytes.now r.fault) }
@@ -30,9 +30,9 @@ fn scenario_of<'a>(alloc: Global, path: &'a str, bytes: &[u8]) -> Result<Scenari
     }
 }
 
-/// The scenario of the file at this path.
-#[tactic(auto, using(crate::proofs::Played::held, crate::proofs::Played::unread, crate::proofs::Played::no_scenario))]
-pub(crate) fn load<'a, F: Files>(
+/// The scenario of the file at this path, which is its image or its text.
+#[tactic(auto, using(crate::proofs::Sourced::held, crate::proofs::Sourced::unread, crate::proofs::Sourced::no_scenario))]
+pub fn load_source<'a, F: Files>(
     alloc: Global,
     path: &'a str,
     files: &F,

@@ -1,0 +1,77 @@
+use Rattle.std.proofs.Common.{None, refl, rules}
+use Rattle.command_files.specs.World.{FilesKnown, StreamFaults, Streams, World}
+use Rattle.command_fleet.specs.Fleet.{Session}
+use Rattle.command_fleet.proofs.Sessions.{concluded, line_unprinted, steps_unsaved}
+use Rattle.command_fleet.proofs.concluding.conclude_session.Goals as goal
+
+pub returns-clause-concluded : goal.returns-clause-concluded
+returns-clause-concluded g c =
+    let before : World = record {
+      made = g.F.Files.made c.args.files.now;
+      streams = record { input = None; output = g.O.Output.taken c.args.output.now; errors = None };
+    } in
+    let after : World = record {
+      made = g.F.Files.made c.save_steps.new.files;
+      streams = record { input = None; output = g.O.Output.taken c.print_session.new.output; errors = None };
+    } in
+    let session : Session = record {
+      slots = c.args.fleet.slots.items;
+      second = c.args.fleet.second;
+      counts = c.args.counts;
+    } in
+    concluded before after c.args.asked c.args.part.now session c.status_of.result
+    c.in_ok-print_session.ensures.printed c.in_ok-save_steps.ensures.saved c.status_of.ensures
+
+pub returns-in_err-print_session-clause-refused : goal.returns-in_err-print_session-clause-refused
+returns-in_err-print_session-clause-refused g c =
+    let files : FilesKnown = record {
+      holds = g.F.Files.holds c.args.files.now;
+      fails = g.F.Files.fails c.args.files.now;
+      refuses = g.F.Files.refuses;
+    } in
+    let faults : StreamFaults = record {
+      input_fails = ⊥;
+      output_refuses = g.O.Output.refuses;
+      errors_refuse = λ _. ⊥;
+    } in
+    let before : Streams = record { input = None; output = g.O.Output.taken c.args.output.now; errors = None } in
+    let after : Streams = record {
+      input = None;
+      output = g.O.Output.taken c.print_session.new.output;
+      errors = None;
+    } in
+    let session : Session = record {
+      slots = c.args.fleet.slots.items;
+      second = c.args.fleet.second;
+      counts = c.args.counts;
+    } in
+    let h = line_unprinted files faults before after c.args.asked session c.in_err-print_session.field-0.0.fault
+    c.in_err-print_session.ensures.refused in
+    search (rules, h)
+
+pub returns-in_err-save_steps-clause-refused : goal.returns-in_err-save_steps-clause-refused
+returns-in_err-save_steps-clause-refused g c =
+    let files : FilesKnown = record {
+      holds = g.F.Files.holds c.args.files.now;
+      fails = g.F.Files.fails c.args.files.now;
+      refuses = g.F.Files.refuses;
+    } in
+    let faults : StreamFaults = record {
+      input_fails = ⊥;
+      output_refuses = g.O.Output.refuses;
+      errors_refuse = λ _. ⊥;
+    } in
+    let before : Streams = record { input = None; output = g.O.Output.taken c.args.output.now; errors = None } in
+    let after : Streams = record {
+      input = None;
+      output = g.O.Output.taken c.print_session.new.output;
+      errors = None;
+    } in
+    let session : Session = record {
+      slots = c.args.fleet.slots.items;
+      second = c.args.fleet.second;
+      counts = c.args.counts;
+    } in
+    let h = steps_unsaved files faults before after c.args.asked session c.in_err-save_steps.field-0.0.fault
+    c.in_ok-print_session.ensures.printed c.in_err-save_steps.ensures.refused in
+    search (rules, h)

@@ -1,0 +1,226 @@
+-- What `fleet FILE PORT [--seconds N] [--devices A-B] [--bind ADDRESS] [--save FILE] [--strict]` comes to: devices of a
+-- scenario are served for a session, then its line is printed, and then their steps are saved as a scenario.
+use Rattle.std.specs.Prelude.{⊤, ℕ, ◌≡◌, ◌⊎◌, ◌≤◌, ◌==◌, ◌&&◌, Bool, false, not, List, [], ◌∷◌, ◌++◌, length, Option}
+use Rattle.std.specs.Prelude.{None, Some, codes, option_map, if◌then◌else◌}
+use Rattle.std.specs.Fmt.{decimal}
+use Rattle.std.specs.Io.KnownBytes.{Appends}
+use Rattle.std.specs.Net.Grammar.{IsIpText}
+use Rattle.std.specs.Net.Socket.{IsPlainSocket, socket_ip}
+use Rattle.std.specs.Net.Text.{socket_text}
+use Rattle.std.specs.declared.net.ip_addr.IpAddr.{IpAddr}
+use Rattle.std.specs.declared.net.socket_addr.SocketAddr.{SocketAddr}
+use Rattle.command_line.specs.declared.words.AskedFleet.{AskedFleet}
+use Rattle.scenario_image.specs.Image.{IsImageIn}
+use Rattle.scenario_image.specs.Scenario.{Scenario}
+use Rattle.fleet_link.specs.declared.slot.Slot.{Slot}
+use Rattle.fleet_link.specs.declared.udp.Counts.{Counts}
+use Rattle.fleet_link.specs.Saved.{IsSaved}
+use Rattle.fleet_link.specs.Serving.{AreAt, IsFleet}
+use Rattle.fleet_link.specs.Timing.{second_of}
+use Rattle.fleet_link.specs.Traffic.{Traffic}
+use Rattle.scenario_words.specs.Words.{ended_line}
+use Rattle.command_files.specs.Fault.{IsReadingFault, IsWritingFault}
+use Rattle.command_files.specs.Files.{Grows, Made}
+use Rattle.command_files.specs.Loading.{IsHeld}
+use Rattle.command_files.specs.World.{FilesKnown, StreamFaults, Streams, World}
+use Rattle.command_files.specs.declared.fault.Fault.{Fault}
+use Rattle.command_files.specs.declared.fault.Fault.TheVariants as faults
+use Rattle.command_files.specs.declared.status.Status.{Status}
+use Rattle.command_files.specs.declared.status.Status.TheVariants as ends
+use Rattle.command_sources.specs.Sources.{IsNoScenario, IsScenarioOf}
+use Rattle.command_fleet.specs.declared.devices.Devices.{Devices}
+use Rattle.command_fleet.specs.Devices.{AreChosen, part_of}
+
+-- ---- the session
+
+-- what came of a session: the devices, the second at its end, and how many datagrams went through the ports
+pub record Session : Type 0 where
+  pub slots : List Slot
+  pub second : ℕ
+  pub counts : Counts
+
+-- a session came to no end of its own: its clock was read 2^64 - 1 times before its last second
+pub record IsEndless (second : ℕ) : Type 0 where
+  pub readings : List ℕ
+  pub many : 18446744073709551615 ≤ length readings
+  pub second_is : second ≡ second_of readings
+
+-- the devices of a scenario were served, each from the start of its class to the end of the session, which has at least
+-- these seconds, at ports of which nothing else is known
+pub record IsServed (s : Scenario) (seconds : ℕ) (session : Session) : Type 0 where
+  pub before : ℕ → Option Traffic
+  pub after : ℕ → Option Traffic
+  pub fleet : IsFleet s before session.slots session.second false after
+  pub finished : AreAt session.slots (length session.slots) session.second
+  pub ended : (seconds ≤ session.second) ⊎ IsEndless session.second
+
+-- ---- before it
+
+-- the word is an IP address; this is the place at this port of it
+pub record IsPlace (word : List ℕ) (port : ℕ) (place : SocketAddr) : Type 0 where
+  pub address : IsIpText word (socket_ip place)
+  pub port_is : IsPlainSocket place port
+
+-- the file is a scenario, of which these devices are asked for
+pub record AreAskedFor (files : FilesKnown) (asked : AskedFleet) (s : Scenario) (devices : Devices) : Type 0 where
+  pub found : IsHeld files.holds asked.file.now (λ bytes. IsScenarioOf bytes s)
+  pub chosen : AreChosen s (option_map (λ w. w.now) asked.devices) devices
+
+-- a scenario has no such devices
+abbrev pub AreMissing : AskedFleet → Scenario → Type 0
+AreMissing asked s = (devices : Devices) → AreChosen s (option_map (λ w. w.now) asked.devices) devices → ⊥
+
+-- what stands on standard error once the ports are there: `lwbench: ready N at ADDRESS:PORT`
+abbrev pub ready_line : ℕ → SocketAddr → List ℕ
+ready_line devices place =
+    ended_line (codes "lwbench: ready " ++ decimal devices ++ codes " at " ++ socket_text place)
+
+-- the devices that are asked for are there, the first of them at this place, and that was told
+pub record AreReady (files : FilesKnown) (before after : Option (List ℕ)) (asked : AskedFleet) (part : Scenario)
+    : Type 0 where
+  pub scenario : Scenario
+  pub devices : Devices
+  pub asked_for : AreAskedFor files asked scenario devices
+  pub part_is : part ≡ part_of scenario devices
+  pub place : SocketAddr
+  pub place_is : IsPlace asked.bind.now asked.port place
+  pub told : Appends before after (ready_line (length part.rows) place)
+
+-- ---- its line
+
+-- `received N sent N dropped N lost N`
+abbrev pub counts_words : Counts → List ℕ
+counts_words counts =
+    codes "received " ++ decimal counts.received ++ codes " sent " ++ decimal counts.sent ++ codes " dropped "
+    ++ decimal counts.dropped ++ codes " lost " ++ decimal counts.lost
+
+abbrev pub counted_line : ℕ → ℕ → List ℕ → List ℕ
+counted_line seconds devices counted =
+    ended_line (codes "done seconds " ++ decimal seconds ++ codes " devices " ++ decimal devices ++ codes " "
+    ++ counted)
+
+-- `done seconds S devices N received N sent N dropped N lost N`
+abbrev pub done_line : ℕ → ℕ → Counts → List ℕ
+done_line seconds devices counts = counted_line seconds devices (counts_words counts)
+
+abbrev pub line_of : Session → List ℕ
+line_of session = done_line session.second (length session.slots) session.counts
+
+-- status 3, with `--strict`, where a datagram was dropped or lost
+abbrev pub status_of : Bool → Counts → Status
+status_of strict counts =
+    if strict && not (counts.dropped == 0 && counts.lost == 0) then ends.NotRun else ends.Done
+
+-- ---- its scenario
+
+-- the image, in version 2, of the scenario of the devices' steps was made at the path, and no other file
+pub record IsSavedAt (before after : Option (List Made)) (path : List ℕ) (part : Scenario) (slots : List Slot)
+    : Type 0 where
+  pub scenario : Scenario
+  pub saved : IsSaved part slots scenario
+  pub bytes : List ℕ
+  pub image : IsImageIn 2 bytes scenario
+  pub made : Grows before after ((record { path = path; bytes = bytes }) ∷ [])
+
+-- the same where there is a path; else no file was made
+abbrev pub IsSavedIf : Option (List Made) → Option (List Made) → Option (List ℕ) → Scenario → List Slot → Type 0
+IsSavedIf before after None part slots = after ≡ before
+IsSavedIf before after (Some path) part slots = IsSavedAt before after path part slots
+
+-- no memory was left for the image, or a step cannot be one of a scenario
+abbrev pub IsUnfit : Fault → Type 0
+IsUnfit faults.Memory = ⊤
+IsUnfit (faults.Session fault) = ⊤
+IsUnfit _ = ⊥
+
+-- there is no image, or no file could be made at the path
+abbrev pub IsSaveFault : (List ℕ → Type 0) → List ℕ → Fault → Type 0
+IsSaveFault refuses path fault = IsUnfit fault ⊎ IsWritingFault (refuses path) fault
+
+abbrev pub IsUnsaved : (List ℕ → Type 0) → Option (List ℕ) → Fault → Type 0
+IsUnsaved refuses None fault = ⊥
+IsUnsaved refuses (Some path) fault = IsSaveFault refuses path fault
+
+-- ---- its conclusion
+
+-- the session's line was printed, and the steps were saved, if they are to be; and the status tells of losses
+pub record IsConcluded (before after : World) (asked : AskedFleet) (part : Scenario) (session : Session)
+    (status : Status) : Type 0 where
+  pub printed : Appends before.streams.output after.streams.output (line_of session)
+  pub saved : IsSavedIf before.made after.made (option_map (λ p. p.now) asked.save) part session.slots
+  pub ended : status ≡ status_of asked.strict session.counts
+
+-- the session's line was not printed; or it was, and then the steps were not saved
+abbrev pub IsUnconcluded : FilesKnown → StreamFaults → Streams → Streams → AskedFleet → Session → Fault → Type 0
+IsUnconcluded files faults before after asked session fault =
+    IsWritingFault (faults.output_refuses (line_of session)) fault
+    ⊎ (Appends before.output after.output (line_of session)
+    × IsUnsaved files.refuses (option_map (λ p. p.now) asked.save) fault)
+
+-- ---- the command
+
+-- a session went on and was concluded
+pub record IsFleetDone (files : FilesKnown) (before after : World) (asked : AskedFleet) (status : Status) : Type 0 where
+  pub part : Scenario
+  pub ready : AreReady files before.streams.errors after.streams.errors asked part
+  pub session : Session
+  pub served : IsServed part asked.seconds session
+  pub concluded : IsConcluded before after asked part session status
+
+-- the scenario has no such devices; or it has, and the address is none or their ports could not be had; or no memory
+-- was left
+abbrev pub IsUnstarted : AskedFleet → Scenario → Fault → Type 0
+IsUnstarted asked s faults.Memory = ⊤
+IsUnstarted asked s faults.NoDevice = AreMissing asked s
+IsUnstarted asked s faults.Bind =
+    (devices : Devices) × AreChosen s (option_map (λ w. w.now) asked.devices) devices
+IsUnstarted asked s _ = ⊥
+
+-- the file is a scenario, of which this holds
+pub record IsOverSource (files : FilesKnown) (asked : AskedFleet) (over : Scenario → Type 0) : Type 0 where
+  pub scenario : Scenario
+  pub found : IsHeld files.holds asked.file.now (λ bytes. IsScenarioOf bytes scenario)
+  pub so : over scenario
+
+-- there was no session: the file is to blame, or the devices, the address or the ports; and nothing was printed
+pub record IsNoSession (files : FilesKnown) (before after : Streams) (asked : AskedFleet) (fault : Fault) : Type 0 where
+  pub why :
+      (IsReadingFault (files.fails asked.file.now) fault
+      ⊎ IsHeld files.holds asked.file.now (λ bytes. IsNoScenario bytes fault))
+      ⊎ IsOverSource files asked (λ s. IsUnstarted asked s fault)
+  pub silent : after.output ≡ before.output
+  pub untold : after.errors ≡ before.errors
+
+-- the devices were there, and that could not be told
+pub record IsUntold (files : FilesKnown) (faults : StreamFaults) (before after : Streams) (asked : AskedFleet)
+    (fault : Fault) : Type 0 where
+  pub scenario : Scenario
+  pub devices : Devices
+  pub asked_for : AreAskedFor files asked scenario devices
+  pub place : SocketAddr
+  pub place_is : IsPlace asked.bind.now asked.port place
+  pub why : IsWritingFault (faults.errors_refuse (ready_line (length (part_of scenario devices).rows) place)) fault
+  pub silent : after.output ≡ before.output
+
+-- a session was broken off: no memory was left, or the system failed at all ports
+pub record IsSessionCut (files : FilesKnown) (before after : Streams) (asked : AskedFleet) (fault : Fault) : Type 0
+  where
+    pub part : Scenario
+    pub ready : AreReady files before.errors after.errors asked part
+    pub why : (fault ≡ faults.Memory) ⊎ (fault ≡ faults.Bind)
+    pub silent : after.output ≡ before.output
+
+-- a session went on, and was not concluded
+pub record IsSessionLost (files : FilesKnown) (faults : StreamFaults) (before after : Streams) (asked : AskedFleet)
+    (fault : Fault) : Type 0 where
+  pub part : Scenario
+  pub ready : AreReady files before.errors after.errors asked part
+  pub session : Session
+  pub served : IsServed part asked.seconds session
+  pub why : IsUnconcluded files faults before after asked session fault
+
+abbrev pub IsFleetFault : FilesKnown → StreamFaults → Streams → Streams → AskedFleet → Fault → Type 0
+IsFleetFault files faults before after asked fault =
+    IsNoSession files before after asked fault
+    ⊎ (IsUntold files faults before after asked fault
+    ⊎ (IsSessionCut files before after asked fault ⊎ IsSessionLost files faults before after asked fault))

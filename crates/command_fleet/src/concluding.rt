@@ -1,0 +1,180 @@
+//! What is printed of a session at its end, and what is saved of it.
+ghost use Rattle.std.specs.Prelude.{◌≡◌, None, IfErr, IfOk, OnErr, OnOk, length, option_map};
+ghost use Rattle.std.specs.Io.KnownBytes.{Appends};
+ghost use Rattle.std.specs.String.{string_bytes};
+ghost use Rattle.fleet_link.specs.Saved.{IsSaved};
+ghost use Rattle.scenario_image.specs.Image.{IsImageIn};
+ghost use Rattle.scenario_image.specs.Scenario.{Scenario as ScenarioData};
+ghost use Rattle.command_files.specs.Fault.{IsWritingFault};
+ghost use Rattle.command_fleet.specs.Fleet.{IsConcluded, IsSaveFault, IsSavedAt, IsSavedIf, IsUnconcluded, IsUnfit};
+ghost use Rattle.command_fleet.specs.Fleet.{IsUnsaved, counted_line, counts_words, done_line, status_of};
+
+use command_files::files::Files;
+use command_files::{Fault, NewFile, Output, Refusal, Status, image_file, make, unwritten};
+use command_line::AskedFleet;
+use fleet_link::{Counts, Fleet};
+use scenario_image::Scenario;
+use std::alloc::{AllocError, Global};
+
+/// How many datagrams went through ports.
+fn counts_words(alloc: Global, counts: Counts) -> Result<String, AllocError>
+    ensures { IfOk result (λ text. string_bytes text ≡ counts_words counts) }
+{
+    let received = counts.received;
+    let sent = counts.sent;
+    let dropped = counts.dropped;
+    let lost = counts.lost;
+    format!(in alloc; "received {received} sent {sent} dropped {dropped} lost {lost}")
+}
+
+fn counted_line(
+    alloc: Global,
+    seconds: u64,
+    devices: usize,
+    counted: &str,
+) -> Result<String, AllocError>
+    ensures { IfOk result (λ text. string_bytes text ≡ counted_line seconds devices counted.now) }
+{
+    format!(in alloc; "done seconds {seconds} devices {devices} {counted}\n")
+}
+
+/// How long a session was, how many devices it had, and how many datagrams went through their ports.
+pub fn done_line(
+    alloc: Global,
+    seconds: u64,
+    devices: usize,
+    counts: Counts,
+) -> Result<String, AllocError>
+    ensures { IfOk result (λ text. string_bytes text ≡ done_line seconds devices counts) }
+{
+    let counted = counts_words(alloc, counts)?;
+    counted_line(alloc, seconds, devices, counted.as_str())
+}
+
+/// Whether datagrams were dropped or lost, if the status is to tell that.
+fn status_of(strict: bool, counts: Counts) -> Status
+    ensures { result ≡ status_of strict counts }
+{
+    if strict && !(counts.dropped == 0 && counts.lost == 0) {
+        Status::NotRun
+    } else {
+        Status::Done
+    }
+}
+
+/// Prints the line of a session, and then saves the devices' steps, if there is a path.
+pub fn conclude_session<'a, F: Files, O: Output>(
+    alloc: Global,
+    asked: AskedFleet<'a>,
+    part: &Scenario,
+    fleet: Fleet,
+    counts: Counts,
+    files: &mut F,
+    output: &mut O,
+) -> Result<Status, Refusal<'a>>
+    ensures concluded { IfOk result (IsConcluded
+        (record {
+          made = F.made files.old;
+          streams = record { input = None; output = O.taken output.old; errors = None };
+        })
+        (record {
+          made = F.made files.new;
+          streams = record { input = None; output = O.taken output.new; errors = None };
+        })
+        asked.entry part.now
+        (record { slots = fleet.slots.items; second = fleet.second; counts = counts })) }
+    ensures kept { OnErr result (F.made files.new ≡ F.made files.old) }
+    ensures refused { IfErr result (λ r. IsUnconcluded
+        (record { holds = F.holds files.old; fails = F.fails files.old; refuses = F.refuses })
+        (record { input_fails = ⊥; output_refuses = O.refuses; errors_refuse = λ _. ⊥ })
+        (record { input = None; output = O.taken output.old; errors = None })
+        (record { input = None; output = O.taken output.new; errors = None })
+        asked.entry (record { slots = fleet.slots.items; second = fleet.second; counts = counts }) r.fault) }
+{
+    print_session(alloc, &fleet, counts, output)?;
+    save_steps(alloc, asked.save, part, fleet, files)?;
+    Ok(status_of(asked.strict, counts))
+}
+
+/// The line of a session, after which the devices are these.
+fn session_line(alloc: Global, fleet: &Fleet, counts: Counts) -> Result<String, AllocError>
+    ensures { IfOk result (λ text. string_bytes text
+        ≡ done_line fleet.now.second (length fleet.now.slots.items) counts) }
+{
+    done_line(alloc, fleet.second(), fleet.devices().len(), counts)
+}
+
+#[tactic(auto, using(command_files::proofs::Delivered::unwritten))]
+fn print_session<'a, O: Output>(
+    alloc: Global,
+    fleet: &Fleet,
+    counts: Counts,
+    output: &mut O,
+) -> Result<(), Refusal<'a>>
+    ensures printed { OnOk result (Appends (O.taken output.old) (O.taken output.new)
+        (done_line fleet.now.second (length fleet.now.slots.items) counts)) }
+    ensures refused { IfErr result (λ r. IsWritingFault
+        (O.refuses (done_line fleet.now.second (length fleet.now.slots.items) counts)) r.fault) }
+{
+    let text = session_line(alloc, fleet, counts)?;
+    match output.print(text.as_str()) {
+        Ok(()) => Ok(()),
+        Err(fault) => Err(unwritten("standard output", fault)),
+    }
+}
+
+/// Saves the devices' steps as a scenario, if there is a path.
+fn save_steps<'a, F: Files>(
+    alloc: Global,
+    save: Option<&'a str>,
+    part: &Scenario,
+    fleet: Fleet,
+    files: &mut F,
+) -> Result<(), Refusal<'a>>
+    ensures saved { OnOk result (IsSavedIf (F.made files.old) (F.made files.new) (option_map (λ p. p.now) save.entry)
+        part.now fleet.slots.items) }
+    ensures kept { OnErr result (F.made files.new ≡ F.made files.old) }
+    ensures refused { IfErr result (λ r. IsUnsaved F.refuses (option_map (λ p. p.now) save.entry) r.fault) }
+{
+    match save {
+        None => Ok(()),
+        Some(path) => save_at(alloc, path, part, fleet, files),
+    }
+}
+
+/// Saves the devices' steps as a scenario.
+#[tactic(auto, using(crate::proofs::Sessions::saved_at, crate::proofs::Sessions::not_fit, crate::proofs::Sessions::not_made))]
+fn save_at<'a, F: Files>(
+    alloc: Global,
+    path: &'a str,
+    part: &Scenario,
+    fleet: Fleet,
+    files: &mut F,
+) -> Result<(), Refusal<'a>>
+    ensures saved { OnOk result (IsSavedAt (F.made files.old) (F.made files.new) path.entry.now part.now
+        fleet.slots.items) }
+    ensures kept { OnErr result (F.made files.new ≡ F.made files.old) }
+    ensures refused { IfErr result (λ r. IsSaveFault F.refuses path.entry.now r.fault) }
+{
+    let file = session_file(alloc, path, part, fleet)?;
+    make(&Some(file), files)
+}
+
+/// The image of the devices' steps, for the path.
+#[tactic(auto, using(crate::proofs::Sessions::unfit_memory, crate::proofs::Sessions::unfit_step))]
+fn session_file<'a>(
+    alloc: Global,
+    path: &'a str,
+    part: &Scenario,
+    fleet: Fleet,
+) -> Result<NewFile<'a>, Fault>
+    ensures path { IfOk result (λ f. f.path.now ≡ path.entry.now) }
+    ensures image { IfOk result (λ f. (s : ScenarioData) × IsSaved part.now fleet.slots.items s
+        × IsImageIn 2 f.bytes s) }
+    ensures refused { IfErr result IsUnfit }
+{
+    match fleet.into_scenario(alloc, part) {
+        Ok(scenario) => Ok(image_file(alloc, &scenario, path)?),
+        Err(fault) => Err(Fault::from(fault)),
+    }
+}

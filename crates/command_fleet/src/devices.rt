@@ -1,0 +1,112 @@
+//! Which devices of a scenario are put on ports.
+ghost use Rattle.std.specs.Prelude.{◌≡◌, ◌<◌, ◌≤◌, [], IfErr, IfNone, IfOk, IfSome, Some, length, option_map};
+ghost use Rattle.command_fleet.specs.declared.devices.Devices.{Devices as DevicesData};
+ghost use Rattle.command_fleet.specs.Devices.{AreChosen, IsRange, part_of};
+ghost use Rattle.command_line.specs.Words.{IsOptionalNumber, SpellsNumber};
+
+use command_files::Fault;
+use scenario_image::Scenario;
+use std::alloc::Global;
+
+/// Devices of a scenario, by the numbers of their rows.
+#[derive(Clone, Copy)]
+pub struct Devices {
+    pub first: u16,
+    /// The last one of them.
+    pub last: u16,
+}
+
+fn number_of(text: &str) -> Option<u16>
+    ensures { IsOptionalNumber 16 (Some text.now) result }
+{
+    text.parse::<u16>().ok()
+}
+
+/// The devices of `A-B`.
+fn range_of(text: &str) -> Option<Devices>
+    ensures range { IfSome result (IsRange text.now) }
+    ensures none { IfNone result ((devices : DevicesData) → IsRange text.now devices → ⊥) }
+{
+    let (first, last) = text.split_once('-')?;
+    devices_of(first, last)
+}
+
+/// The devices of two numbers.
+fn devices_of(first: &str, last: &str) -> Option<Devices>
+    ensures first { IfSome result (λ devices. SpellsNumber 16 first.now devices.first) }
+    ensures last { IfSome result (λ devices. SpellsNumber 16 last.now devices.last) }
+    ensures none { IfNone result ((devices : DevicesData) → SpellsNumber 16 first.now devices.first
+        → SpellsNumber 16 last.now devices.last → ⊥) }
+{
+    Some(Devices {
+        first: number_of(first)?,
+        last: number_of(last)?,
+    })
+}
+
+/// The devices of a scenario that `--devices` names, or all of them; none where it does not have them, or has none.
+pub fn chosen_devices(scenario: &Scenario, text: Option<&str>) -> Option<Devices>
+    ensures chosen { IfSome result (AreChosen scenario.now (option_map (λ w. w.now) text.entry)) }
+    ensures missing { IfNone result ((devices : DevicesData)
+        → AreChosen scenario.now (option_map (λ w. w.now) text.entry) devices → ⊥) }
+{
+    let rows = scenario.rows();
+    let devices = match text {
+        None => Devices {
+            first: 0,
+            last: rows.checked_sub(1)? as u16,
+        },
+        Some(text) => range_of(text)?,
+    };
+    if devices.first > devices.last || usize::from(devices.last) >= rows {
+        return None;
+    }
+    Some(devices)
+}
+
+/// The classes of a scenario, without a row.
+fn copy_classes(alloc: Global, scenario: &Scenario) -> Result<Scenario, Fault>
+    ensures classes { IfOk result (λ s. s.classes ≡ scenario.now.classes) }
+    ensures rows { IfOk result (λ s. s.rows ≡ []) }
+    ensures refused { IfErr result (λ fault. fault ≡ Fault.Memory) }
+{
+    // The proof needs that the scenario is valid, which this call says.
+    let _valid = scenario.rows();
+    let mut copy = Scenario::empty(alloc);
+    for place in 0..scenario.classes() {
+        let Some(class) = scenario.class(place as u16) else {
+            return Err(Fault::Memory);
+        };
+        let class = class.copy()?;
+        match copy.add_class(class) {
+            Ok(()) => {}
+            Err(_) => return Err(Fault::Memory),
+        }
+    }
+    Ok(copy)
+}
+
+/// The scenario that has the rows of these devices alone, without their steps. A part of a valid scenario is valid:
+/// only memory may lack for it.
+pub fn part_of(alloc: Global, scenario: &Scenario, devices: Devices) -> Result<Scenario, Fault>
+    requires some { devices.first ≤ devices.last }
+    requires there { devices.last < length scenario.now.rows }
+    ensures part { IfOk result (λ part. part ≡ part_of scenario.now devices) }
+    ensures refused { IfErr result (λ fault. fault ≡ Fault.Memory) }
+{
+    // The proof needs that the scenario is valid, which this call says.
+    let _valid = scenario.rows();
+    let mut part = copy_classes(alloc, scenario)?;
+    let first = usize::from(devices.first);
+    let count = usize::from(devices.last) + 1 - first;
+    for place in 0..count {
+        let Some((class, _)) = scenario.row((first + place) as u16) else {
+            return Err(Fault::Memory);
+        };
+        match part.add_row(class) {
+            Ok(()) => {}
+            Err(_) => return Err(Fault::Memory),
+        }
+    }
+    Ok(part)
+}

@@ -1,0 +1,107 @@
+//! Where the ports of devices are.
+ghost use Rattle.std.specs.Prelude.{◌≡◌, ◌⊎◌, IfErr, IfOk, OnOk};
+ghost use Rattle.std.specs.Io.KnownBytes.{Appends};
+ghost use Rattle.std.specs.String.{string_bytes};
+ghost use Rattle.command_files.specs.Fault.{IsWritingFault};
+ghost use Rattle.command_fleet.specs.Fleet.{IsPlace, ready_line};
+
+use command_files::{Fault, Output, Refusal, Why, unwritten};
+use fleet_link::{BindFault, UdpPorts};
+use scenario_image::Scenario;
+use std::alloc::{AllocError, Global};
+use std::net::{IpAddr, Net, SocketAddr};
+
+/// The place at this port of the IP address that a word is.
+pub(crate) fn place_of<'a>(word: &'a str, port: u16) -> Result<SocketAddr, Refusal<'a>>
+    ensures place { IfOk result (IsPlace word.entry.now port) }
+    ensures refused { IfErr result (λ r. r.fault ≡ Fault.Bind) }
+{
+    match word.parse::<IpAddr>() {
+        Ok(ip) => Ok(SocketAddr::new(ip, port)),
+        Err(_) => Err(Refusal {
+            fault: Fault::Bind,
+            about: Some(word),
+            why: Why::Known("it is not an IP address"),
+        }),
+    }
+}
+
+/// A socket for each device of a scenario: the first at this place, and each next one at the next port.
+pub(crate) fn ports_at<'a, R: Net>(
+    rt: &R,
+    alloc: Global,
+    scenario: &Scenario,
+    place: SocketAddr,
+) -> Result<UdpPorts, Refusal<'a>>
+    ensures refused { IfErr result (λ r. (r.fault ≡ Fault.Memory) ⊎ (r.fault ≡ Fault.Bind)) }
+{
+    let servers = Vec::new(alloc);
+    match UdpPorts::bind(rt, alloc, scenario, place.ip(), place.port(), servers) {
+        Ok(ports) => Ok(ports),
+        Err(fault) => Err(refusal_of(alloc, scenario.rows(), fault)),
+    }
+}
+
+/// Why ports could not be had, for people.
+fn refusal_of<'a>(alloc: Global, devices: usize, fault: BindFault) -> Refusal<'a>
+    ensures { (result.fault ≡ Fault.Memory) ⊎ (result.fault ≡ Fault.Bind) }
+{
+    match words_of(alloc, devices, fault) {
+        Ok(Some(why)) => Refusal {
+            fault: Fault::Bind,
+            about: None,
+            why: Why::Made(why),
+        },
+        Ok(None) | Err(_) => Refusal::from(Fault::Memory),
+    }
+}
+
+/// Which port could not be had, and why; none where no memory was left for one.
+fn words_of(alloc: Global, devices: usize, fault: BindFault) -> Result<Option<String>, AllocError> {
+    match fault {
+        BindFault::Memory => Ok(None),
+        BindFault::PastLast => Ok(Some(format!(in alloc;
+            "{devices} devices need ports past 65535"
+        )?)),
+        BindFault::Taken(port) => Ok(Some(format!(in alloc; "port {port} is taken")?)),
+        BindFault::TooManyFiles(port) => {
+            let files = devices.saturating_add(OTHER_FILES);
+            Ok(Some(format!(in alloc;
+                "too many files at port {port}: `ulimit -n {files}` is needed"
+            )?))
+        }
+        BindFault::Refused(port) => Ok(Some(format!(in alloc; "cannot bind port {port}")?)),
+        BindFault::Failed => Ok(Some(String::from_str(
+            alloc,
+            "the system cannot wait for datagrams",
+        )?)),
+    }
+}
+
+/// How many files the program may have open beside the ports.
+const OTHER_FILES: usize = 32;
+
+/// That all ports are there.
+pub fn ready_line(alloc: Global, devices: usize, place: SocketAddr) -> Result<String, AllocError>
+    ensures { IfOk result (λ text. string_bytes text ≡ ready_line devices place) }
+{
+    format!(in alloc; "lwbench: ready {devices} at {place}\n")
+}
+
+/// Tells a person, or a script, that all ports are there.
+#[tactic(auto, using(command_files::proofs::Delivered::unwritten))]
+pub(crate) fn tell_ready<'a, E: Output>(
+    alloc: Global,
+    devices: usize,
+    place: SocketAddr,
+    errors: &mut E,
+) -> Result<(), Refusal<'a>>
+    ensures told { OnOk result (Appends (E.taken errors.old) (E.taken errors.new) (ready_line devices place)) }
+    ensures refused { IfErr result (λ r. IsWritingFault (E.refuses (ready_line devices place)) r.fault) }
+{
+    let text = ready_line(alloc, devices, place)?;
+    match errors.print(text.as_str()) {
+        Ok(()) => Ok(()),
+        Err(fault) => Err(unwritten("standard error", fault)),
+    }
+}
