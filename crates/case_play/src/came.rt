@@ -4,7 +4,7 @@ use lwm2m_values::{Text, Value};
 use octets::Bytes;
 
 /// What came where a case states something else.
-#[derive(Debug, Drop)]
+#[derive(Drop)]
 pub enum Came {
     /// The item cannot be: no device has begun, the row has no such step, or the copy refuses the event.
     Nowhere,

@@ -2,7 +2,7 @@ use crate::came::Came;
 use scenario_words::Cause;
 
 /// Whether a case passes.
-#[derive(Debug, Drop)]
+#[derive(Drop)]
 pub enum Verdict {
     /// It does.
     Passes,

@@ -4,7 +4,7 @@ use crate::stated::Stated;
 use std::marker::Model;
 
 /// An answer that a line states.
-#[derive(Debug, Drop)]
+#[derive(Drop)]
 pub struct Answer {
     /// The line, counted in the file from 1.
     pub line: usize,
@@ -15,7 +15,7 @@ pub struct Answer {
 }
 
 /// Answers, in the order of their lines. Contracts see the list of them.
-#[derive(Debug, Drop)]
+#[derive(Drop)]
 pub struct Answers {
     items: Vec<Answer>,
 }

@@ -2,7 +2,7 @@ use crate::numbered::Numbered;
 use lwm2m_values::Text;
 
 /// A title, and the lines below it.
-#[derive(Debug, Drop)]
+#[derive(Drop)]
 pub(crate) struct Body {
     /// The title.
     pub(crate) title: Text,

@@ -3,7 +3,7 @@ use crate::scenario_case::ScenarioCase;
 use lwm2m_values::Text;
 
 /// A case: a title, and what stands below it.
-#[derive(Debug, Drop)]
+#[derive(Drop)]
 pub enum Case {
     /// A scenario, with what its devices have to output and to hold.
     Scenario(ScenarioCase),

@@ -1,5 +1,5 @@
 /// A digit of bytes that a case states.
-#[derive(Clone, Copy, Debug, PartialEq, Eq)]
+#[derive(Clone, Copy, PartialEq, Eq)]
 pub enum Digit {
     /// `.`: any hex digit.
     Any,

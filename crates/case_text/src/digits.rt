@@ -4,7 +4,7 @@ use crate::digit::Digit;
 use std::marker::Model;
 
 /// The digits of bytes, two a byte. Contracts see the list of them.
-#[derive(Debug, Drop)]
+#[derive(Drop)]
 pub struct Digits {
     items: Vec<Digit>,
 }

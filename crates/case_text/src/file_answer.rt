@@ -4,7 +4,7 @@ use crate::file_stated::FileStated;
 use std::marker::Model;
 
 /// An answer that a line states of a file.
-#[derive(Debug, Drop)]
+#[derive(Drop)]
 pub struct FileAnswer {
     /// The line, counted in the file of cases from 1.
     pub line: usize,
@@ -15,7 +15,7 @@ pub struct FileAnswer {
 }
 
 /// Answers of a file, in the order of their lines. Contracts see the list of them.
-#[derive(Debug, Drop)]
+#[derive(Drop)]
 pub struct FileAnswers {
     items: Vec<FileAnswer>,
 }

@@ -3,7 +3,7 @@ use lwm2m_values::Text;
 use octets::Bytes;
 
 /// What a file is.
-#[derive(Clone, Copy, Debug, PartialEq, Eq)]
+#[derive(Clone, Copy, PartialEq, Eq)]
 pub enum FileKind {
     /// `image BYTES`: the image of a scenario.
     Image,
@@ -14,7 +14,7 @@ pub enum FileKind {
 }
 
 /// A case of a file: what is found in it, and in others that are made of it.
-#[derive(Debug, Drop)]
+#[derive(Drop)]
 pub struct FileCase {
     /// The title.
     pub title: Text,

@@ -2,7 +2,7 @@ use crate::digits::Digits;
 use lwm2m_values::Text;
 
 /// What a line states of a file, after its `=>` or `=/>`.
-#[derive(Debug, Drop)]
+#[derive(Drop)]
 pub enum FileStated {
     /// `ok C classes D devices S steps`: it is the image, or the text, of a scenario with this many.
     Ok {

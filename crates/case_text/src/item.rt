@@ -7,7 +7,7 @@ use octets::Bytes;
 use std::marker::Model;
 
 /// What a line of a case is that states no answer.
-#[derive(Debug, Drop)]
+#[derive(Drop)]
 pub enum Part {
     /// What stands before the first of the others.
     Start,
@@ -37,7 +37,7 @@ pub enum Part {
 }
 
 /// A line that states no answer, and the answers that are stated below it.
-#[derive(Debug, Drop)]
+#[derive(Drop)]
 pub struct Item {
     /// The line, counted in the file from 1; of `Part::Start` the title's.
     pub line: usize,
@@ -48,7 +48,7 @@ pub struct Item {
 }
 
 /// Items, in the order of their lines. Contracts see the list of them.
-#[derive(Debug, Drop)]
+#[derive(Drop)]
 pub struct Items {
     items: Vec<Item>,
 }

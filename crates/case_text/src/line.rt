@@ -8,7 +8,7 @@ use lwm2m_values::Text;
 use octets::Bytes;
 
 /// What a line of a file of cases is.
-#[derive(Debug, Drop)]
+#[derive(Drop)]
 pub enum Line {
     /// A line without words: it is empty, or a comment.
     Remark,
@@ -39,7 +39,7 @@ pub enum Line {
 }
 
 /// What a line of a case of a file is that adds nothing to another one.
-#[derive(Debug, Drop)]
+#[derive(Drop)]
 pub enum FileLine {
     /// `image BYTES`, `trace BYTES` or `text`: the file.
     Gives {

@@ -1,7 +1,7 @@
 use crate::line::Line;
 
 /// A line of a file of cases and its number.
-#[derive(Debug, Drop)]
+#[derive(Drop)]
 pub(crate) struct Numbered {
     /// The number, counted from 1.
     pub(crate) number: usize,

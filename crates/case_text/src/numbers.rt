@@ -3,7 +3,7 @@ ghost use Rattle.std.specs.Prelude.{◌≡◌};
 use std::marker::Model;
 
 /// Numbers of devices. Contracts see the list of them.
-#[derive(Debug, Drop)]
+#[derive(Drop)]
 pub struct DeviceNumbers {
     items: Vec<u16>,
 }
@@ -33,7 +33,7 @@ impl DeviceNumbers {
 }
 
 /// Numbers of lines. Contracts see the list of them.
-#[derive(Debug, Drop)]
+#[derive(Drop)]
 pub struct LineNumbers {
     items: Vec<usize>,
 }

@@ -2,7 +2,7 @@ use lwm2m_values::Value;
 use object_defs::Path;
 
 /// What a line asks a device, and the answer that it states.
-#[derive(Debug, Drop)]
+#[derive(Drop)]
 pub enum Question {
     /// `value PATH => KIND VALUE`, `value PATH => none`: the value that the device has.
     Value {

@@ -3,7 +3,7 @@ use crate::numbers::LineNumbers;
 use lwm2m_values::Text;
 
 /// A case of a scenario.
-#[derive(Debug, Drop)]
+#[derive(Drop)]
 pub struct ScenarioCase {
     /// The title.
     pub title: Text,

@@ -5,7 +5,7 @@ use lwm2m_values::Text;
 use scenario_words::Cause;
 
 /// What a line states, after its `=>` or `=/>`.
-#[derive(Debug, Drop)]
+#[derive(Drop)]
 pub enum Stated {
     /// `nothing`: there is no output.
     Nothing,

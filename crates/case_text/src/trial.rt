@@ -5,7 +5,7 @@ use octets::Bytes;
 use std::marker::Model;
 
 /// Which files a trial is of.
-#[derive(Debug, Drop)]
+#[derive(Drop)]
 pub enum Made {
     /// The file that the body gives.
     Itself,
@@ -25,7 +25,7 @@ pub enum Made {
 }
 
 /// A file, or several in turn, and the answers that are stated of it.
-#[derive(Debug, Drop)]
+#[derive(Drop)]
 pub struct Trial {
     /// The line, counted in the file of cases from 1; of `Made::Itself` the first of the body.
     pub line: usize,
@@ -36,7 +36,7 @@ pub struct Trial {
 }
 
 /// Trials, in the order of their lines. Contracts see the list of them.
-#[derive(Debug, Drop)]
+#[derive(Drop)]
 pub struct Trials {
     items: Vec<Trial>,
 }

@@ -2,7 +2,7 @@ use case_text::Case;
 use lwm2m_values::Text;
 
 /// A file of cases that was read.
-#[derive(Debug, Drop)]
+#[derive(Drop)]
 pub struct CaseFile<'a> {
     /// Its path.
     pub path: &'a str,

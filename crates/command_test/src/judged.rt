@@ -2,7 +2,7 @@ use crate::test_case::TestCase;
 use case_play::Verdict;
 
 /// A case that was played.
-#[derive(Debug, Drop)]
+#[derive(Drop)]
 pub struct Judged<'a> {
     /// The case.
     pub test: TestCase<'a>,

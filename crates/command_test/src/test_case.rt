@@ -1,7 +1,7 @@
 use case_text::Case;
 
 /// A case that is asked for, and the file that it stands in.
-#[derive(Clone, Copy, Debug)]
+#[derive(Clone, Copy)]
 pub struct TestCase<'a> {
     /// The number of the file, counted from 0.
     pub file: usize,
