@@ -9,9 +9,9 @@ ghost use Rattle.command_line.specs.Words.{IsReadAs};
 
 use command_debug::debug;
 use command_demo::{one, one_json, one_why};
-use command_fleet::fleet;
 use command_files::files::Files;
 use command_files::{Answer, Input, Output, Refusal, Status, deliver, tell};
+use command_fleet::fleet;
 use command_json::tell_in_json;
 use command_line::{Asked, CaseForm, Job, TraceForm as AskedForm, read};
 use command_live::live;
