@@ -171,7 +171,8 @@ fn session_word(fault: ScenarioFault) -> &'static str
     }
 }
 
-fn case_word(why: Why) -> &'static str
+/// Why a line of a file of cases is refused, without its cause.
+pub fn case_word(why: Why) -> &'static str
     ensures { result.now ≡ case_word why }
 {
     match why {
@@ -195,7 +196,7 @@ fn case_word(why: Why) -> &'static str
 }
 
 /// The cause for which the words of an answer, a question, an event or bytes are refused.
-fn case_cause(why: Why) -> Option<Cause>
+pub fn case_cause(why: Why) -> Option<Cause>
     ensures { result ≡ case_cause why }
 {
     match why {

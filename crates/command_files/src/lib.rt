@@ -16,7 +16,7 @@ mod telling;
 mod verdicts;
 
 pub use answer::{Answer, NewFile, deliver, make, unwritten};
-pub use fault::{Fault, FaultLine};
+pub use fault::{Fault, FaultLine, case_cause, case_word};
 pub use hex_text::read_hex;
 pub use image::image_file;
 pub use input::Input;
@@ -24,5 +24,5 @@ pub use loading::{image_of, load_scenario, load_trace, read_file};
 pub use output::Output;
 pub use refusal::{Refusal, Why, complaint};
 pub use status::Status;
-pub use telling::tell;
+pub use telling::{complain, tell};
 pub use verdicts::{judge, no_run};

@@ -33,7 +33,7 @@ pub fn tell<O: Output, E: Output>(
 
 /// Prints what a refusal is about. Where no memory is left for the line there is none.
 #[tactic(auto, using(crate::proofs::Told::silent, crate::proofs::Told::reported, crate::proofs::Told::unreported))]
-fn complain<E: Output>(alloc: Global, refusal: &Refusal, errors: &mut E)
+pub fn complain<E: Output>(alloc: Global, refusal: &Refusal, errors: &mut E)
     ensures { IsReported
         (record { input_fails = ⊥; output_refuses = λ _. ⊥; errors_refuse = E.refuses })
         (record { input = None; output = None; errors = E.taken errors.old })

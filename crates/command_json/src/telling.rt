@@ -1,12 +1,11 @@
 //! What is said in JSON where something was refused.
 ghost use Rattle.std.specs.Prelude.{◌≡◌, List, None, OnErr, OnOk, option_map, ℕ};
 ghost use Rattle.std.specs.Io.KnownBytes.{Appends};
-ghost use Rattle.command_files.specs.Refusals.{IsReported};
 ghost use Rattle.command_json.specs.Told.{IsFaultObject, IsToldInJson};
 
 use crate::object::object_line;
 use command_files::files::FileFault;
-use command_files::{Output, Refusal, Status, complaint};
+use command_files::{Output, Refusal, Status, complain};
 use std::alloc::Global;
 
 /// The line of a lack of memory.
@@ -52,18 +51,4 @@ pub fn tell_in_json<O: Output, E: Output>(
         Err(_) => {}
     }
     Status::Fault
-}
-
-/// Prints what a refusal is about. Where no memory is left for the line there is none.
-#[tactic(auto, using(command_files::proofs::Told::silent, command_files::proofs::Told::reported, command_files::proofs::Told::unreported))]
-fn complain<E: Output>(alloc: Global, refusal: &Refusal, errors: &mut E)
-    ensures { IsReported
-        (record { input_fails = ⊥; output_refuses = λ _. ⊥; errors_refuse = E.refuses })
-        (record { input = None; output = None; errors = E.taken errors.old })
-        (record { input = None; output = None; errors = E.taken errors.new })
-        (option_map (λ p. p.now) refusal.now.about) }
-{
-    if let Ok(text) = complaint(alloc, refusal) {
-        let _ = errors.print(text.as_str());
-    }
 }
