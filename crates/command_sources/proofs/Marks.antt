@@ -1,14 +1,14 @@
 -- Bytes that begin with the mark of an image.
-use Rattle.std.proofs.Common.{ℕ, ◌≡◌, ◌×◌, ⊥, nat_eq, Bool, true, false, List, [], ◌∷◌, ◌++◌, Some, Result, Ok, Err}
-use Rattle.std.proofs.Common.{refl, sym, ap, absurd, ◌∙◌, onto_first, slice_split}
+use Rattle.std.proofs.Common.{ℕ, ◌≡◌, nat_eq, Bool, true, false, List, [], ◌∷◌, Ok, Some, refl, sym, ap, subst, ◌∙◌}
+use Rattle.std.proofs.Common.{eqb-true}
+use Rattle.std.specs.List.{onto_first, slice_split}
+use Rattle.byte_layout.specs.Layout.{number}
 use Rattle.scenario_image.specs.Scenario.{Scenario}
-use Rattle.scenario_image.specs.Image.{IsImage, image}
-use Rattle.scenario_words.specs.Words.{lines, plain, scan, words}
-use Rattle.scenario_words.specs.ValueWords.{name_fault}
-use Rattle.scenario_words.specs.declared.cause.Cause.{Cause}
+use Rattle.scenario_image.specs.Image.{image}
+use Rattle.scenario_words.specs.Words.{lines, plain, scan}
 use Rattle.scenario_statements.specs.declared.statement.Statement.{Statement}
 use Rattle.scenario_statements.specs.Grammar.{statement_of}
-use Rattle.scenario_asm.specs.Denotes.{AreSaid, Denotes, done, blank, stated}
+use Rattle.scenario_asm.specs.Denotes.{AreSaid, Denotes, blank, stated}
 use Rattle.command_sources.specs.Sources.{ImagesAreMarked, NoTextIsMarked, is_marked}
 
 -- ---- texts
@@ -42,7 +42,7 @@ plain_text : (b : Bool) (x : ℕ) (bs : List ℕ) (s : Scenario) → nat_eq 76 x
     → is_marked (x ∷ bs) ≡ false
 plain_text false x bs s e h = cc
 plain_text true x bs s e h =
-    let same : 76 ≡ x = cc in
+    let same : 76 ≡ x = eqb-true 76 x e in
     absurd (unsaid_text bs h.statements (subst (λ y. AreSaid (lines (y ∷ bs)) h.statements) (sym same) h.said))
 
 pub no_text : NoTextIsMarked
@@ -51,5 +51,6 @@ no_text (x ∷ bs) s h = plain_text (nat_eq 76 x) x bs s refl h
 
 -- ---- images
 
-pub image_marked : ImagesAreMarked
-image_marked bytes s (v, good, spelled) = cc
+pub marked_image : ImagesAreMarked
+unfolding image number
+marked_image bytes s h = ap is_marked h.1.1 ∙ refl
