@@ -9,3 +9,9 @@ pub mod Ending
 pub mod Recording
 pub mod Coming
 pub mod Differing
+pub mod Before
+pub mod Found
+pub mod Stated
+pub mod Tried
+pub mod FileJudged
+pub mod Changed

@@ -9,3 +9,13 @@ pub mod Came
 pub mod Walks
 pub mod Refusals
 pub mod Cases
+pub mod FaultWords
+pub mod EntryWords
+pub mod Files
+pub mod Findings
+pub mod Answers
+pub mod Arrivals
+pub mod Trials
+pub mod Trying
+pub mod Verdicts
+pub mod Laws

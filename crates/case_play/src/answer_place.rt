@@ -1,5 +1,5 @@
 /// Where an answer of a case stands.
-#[derive(Clone, Copy, PartialEq, Eq)]
+#[derive(Clone, Copy)]
 pub struct AnswerPlace {
     /// The place of its item among the items, counted from 0.
     pub item: usize,

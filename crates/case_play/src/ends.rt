@@ -28,7 +28,11 @@ fn is_run(
 }
 
 /// Whether these are the digits of the image.
-fn is_image(alloc: Global, scenario: &Scenario, digits: &[Digit]) -> Result<bool, AllocError>
+pub(crate) fn is_image(
+    alloc: Global,
+    scenario: &Scenario,
+    digits: &[Digit],
+) -> Result<bool, AllocError>
     ensures { IfOk result (λ b. IsTrue b ↔ IsImageOf scenario.now digits.now) }
 {
     let image = save(alloc, scenario)?;
@@ -36,7 +40,11 @@ fn is_image(alloc: Global, scenario: &Scenario, digits: &[Digit]) -> Result<bool
 }
 
 /// Whether these are the digits of the entries' trace file.
-fn is_trace(alloc: Global, entries: &[Entry], digits: &[Digit]) -> Result<bool, AllocError>
+pub(crate) fn is_trace(
+    alloc: Global,
+    entries: &[Entry],
+    digits: &[Digit],
+) -> Result<bool, AllocError>
     ensures { IfOk result (λ b. IsTrue b ↔ IsTraceOf entries.now digits.now) }
 {
     match write_entries(alloc, entries) {

@@ -17,14 +17,14 @@ use scenario_asm::disassemble;
 use scenario_image::{Scenario, save};
 use std::alloc::{AllocError, Global};
 
-fn image_came(alloc: Global, scenario: &Scenario) -> Result<Came, AllocError>
+pub(crate) fn image_came(alloc: Global, scenario: &Scenario) -> Result<Came, AllocError>
     ensures { IfOk result (λ x. ImageCame scenario.now x) }
 {
     let image = save(alloc, scenario)?;
     Ok(Came::Image(Bytes::from_vec(image)))
 }
 
-fn trace_came(alloc: Global, entries: &[Entry]) -> Result<Came, AllocError>
+pub(crate) fn trace_came(alloc: Global, entries: &[Entry]) -> Result<Came, AllocError>
     ensures { IfOk result (λ x. TraceCame entries.now x) }
 {
     match write_entries(alloc, entries) {
@@ -34,7 +34,7 @@ fn trace_came(alloc: Global, entries: &[Entry]) -> Result<Came, AllocError>
     }
 }
 
-fn text_came(alloc: Global, scenario: &Scenario) -> Result<Came, AllocError>
+pub(crate) fn text_came(alloc: Global, scenario: &Scenario) -> Result<Came, AllocError>
     ensures { IfOk result (λ x. TextCame scenario.now x) }
 {
     let text = disassemble(alloc, scenario)?;

@@ -1,16 +1,25 @@
-//! Whether cases of scenarios hold: what they state of the outputs and the states of devices, beside what the rows of
-//! the scenario say; and what came where they do not.
+//! Whether cases hold, and what came where they do not. A case of a scenario: what it states of the outputs and the
+//! states of devices, beside what the rows of the scenario say. A case of a file: what it states, beside what is found
+//! in the file, and in others that are made of it.
 #![tactic(auto)]
 
 mod answer_place;
+mod arrivals;
 mod below;
 mod came;
 mod digits;
 mod ends;
+mod entries;
 mod faults;
+mod file_judging;
+mod file_stating;
+mod finding;
 mod instead;
 mod items;
 mod judging;
+mod laws;
+mod looking;
+mod making;
 mod messages;
 mod named_item;
 mod outcomes;
@@ -18,6 +27,8 @@ mod outputs;
 mod questions;
 mod recorded;
 mod refusals;
+mod text_faults;
+mod trying;
 mod verdict;
 mod walk;
 
@@ -25,9 +36,13 @@ pub use answer_place::AnswerPlace;
 pub use below::first_wrong_end;
 pub use came::Came;
 pub use digits::matches;
+pub use entries::entries_in_words;
 pub use faults::fault_words;
+pub use file_judging::{judge, judge_file};
+pub use finding::Finding;
 pub use items::first_difference;
 pub use judging::judge_scenario;
+pub use laws::what_is_tried;
 pub use named_item::NamedItem;
 pub use outputs::{first_unstated, states_one};
 pub use questions::is_answered;

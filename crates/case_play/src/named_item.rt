@@ -1,5 +1,5 @@
 /// An item of a case that does not hold.
-#[derive(Clone, Copy, PartialEq, Eq)]
+#[derive(Clone, Copy)]
 pub struct NamedItem {
     /// Its place among the items, counted from 0.
     pub place: usize,

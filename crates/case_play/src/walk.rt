@@ -15,7 +15,6 @@ use scenario_image::Scenario;
 use std::alloc::{AllocError, Global};
 
 /// Where a case is in its scenario.
-#[derive(Drop)]
 pub(crate) struct Walk {
     /// How many devices have begun.
     pub(crate) begun: u16,
@@ -25,6 +24,18 @@ pub(crate) struct Walk {
     pub(crate) machine: Option<Device>,
     /// A copy of it, which takes the events that are no steps; none where there was no such event.
     pub(crate) copy: Option<Device>,
+}
+
+/// By hand, so that a caller's proof has one step where a walk is dropped, and no case for each device in it.
+impl Drop for Walk {
+    fn drop(self) {
+        let Walk {
+            begun: _,
+            steps: _,
+            machine: _machine,
+            copy: _copy,
+        } = self;
+    }
 }
 
 /// No output.

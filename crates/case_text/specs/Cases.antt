@@ -104,7 +104,7 @@ scenario_of title n xs = record {
 -- ---- all cases
 
 -- a case of its title, the title's line and the lines below it
-abbrev pub case_of : List ℕ → ℕ → List Numbered → Case
+unfoldable pub case_of : List ℕ → ℕ → List Numbered → Case
 case_of title n xs =
     if gives_file xs then of.File (file_of title n xs) else of.Scenario (scenario_of title n xs)
 

@@ -8,7 +8,7 @@ use crate::line::{FileLine, Line};
 use crate::trial::Made;
 
 /// What a case is as far as the lines above a line show it.
-#[derive(Clone, Copy, PartialEq, Eq)]
+#[derive(Clone, Copy)]
 pub enum CaseKind {
     /// No line with words stands below the title yet.
     Open,
@@ -21,7 +21,7 @@ pub enum CaseKind {
 }
 
 /// What `+ BYTES` adds to.
-#[derive(Clone, Copy, PartialEq, Eq)]
+#[derive(Clone, Copy)]
 pub enum Adding {
     /// Nothing: the line above gives and states no bytes.
     Nothing,
@@ -32,7 +32,7 @@ pub enum Adding {
 }
 
 /// What stands above a line, which decides how it is read.
-#[derive(Clone, Copy, PartialEq, Eq)]
+#[derive(Clone, Copy)]
 pub struct Above {
     /// What the case is.
     pub kind: CaseKind,

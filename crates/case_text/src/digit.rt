@@ -1,5 +1,5 @@
 /// A digit of bytes that a case states.
-#[derive(Clone, Copy, PartialEq, Eq)]
+#[derive(Clone, Copy)]
 pub enum Digit {
     /// `.`: any hex digit.
     Any,

@@ -1,6 +1,7 @@
-ghost use Rattle.std.specs.Prelude.{◌≡◌};
+ghost use Rattle.std.specs.Prelude.{◌≡◌, ◌++◌, OnOk};
 
 use crate::digit::Digit;
+use std::alloc::AllocError;
 use std::marker::Model;
 
 /// The digits of bytes, two a byte. Contracts see the list of them.
@@ -24,6 +25,13 @@ impl Digits {
         ensures { result ≡ items.items }
     {
         Digits { items }
+    }
+
+    /// Adds digits after the others.
+    pub(crate) fn put(&mut self, more: &[Digit]) -> Result<(), AllocError>
+        ensures { OnOk result (self.new ≡ self.old ++ more.now) }
+    {
+        self.items.extend_from_slice(more)
     }
 
     /// The digits.

@@ -3,7 +3,7 @@ use lwm2m_values::Text;
 use octets::Bytes;
 
 /// What a file is.
-#[derive(Clone, Copy, PartialEq, Eq)]
+#[derive(Clone, Copy)]
 pub enum FileKind {
     /// `image BYTES`: the image of a scenario.
     Image,

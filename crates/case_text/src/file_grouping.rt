@@ -50,7 +50,7 @@ fn all_trials(alloc: Global, first: usize, lines: Vec<Numbered>) -> Result<Trial
     let mut made = Made::Itself;
     let mut answers = Vec::new(alloc);
     for next in lines {
-        let Numbered { number, line: kind } = next;
+        let (number, kind) = next.parts();
         match kind {
             Line::File(FileLine::Answer { must_not, stated }) => answers.push(FileAnswer {
                 line: number,

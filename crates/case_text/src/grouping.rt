@@ -84,7 +84,7 @@ fn all_items(alloc: Global, title: usize, lines: Vec<Numbered>) -> Result<Items,
     let mut part = Part::Start;
     let mut answers = Vec::new(alloc);
     for next in lines {
-        let Numbered { number, line: kind } = next;
+        let (number, kind) = next.parts();
         match kind {
             Line::Answer { must_not, stated } => answers.push(Answer {
                 line: number,
@@ -133,6 +133,7 @@ fn scenario_of(alloc: Global, body: Body) -> Result<ScenarioCase, AllocError>
     })
 }
 
+#[tactic(auto, unfolding(crate::specs::Cases::case_of))]
 fn case_of(alloc: Global, body: Body) -> Result<Case, AllocError>
     ensures { IfOk result (λ c. c ≡ case_by body) }
 {
@@ -154,7 +155,7 @@ fn bodies_of(alloc: Global, lines: Vec<Numbered>) -> Result<Vec<Body>, AllocErro
         lines: Vec::new(alloc),
     };
     for next in lines {
-        let Numbered { number, line } = next;
+        let (number, line) = next.parts();
         match line {
             Line::Title(title) => {
                 bodies.push(current)?;

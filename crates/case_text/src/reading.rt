@@ -29,7 +29,7 @@ use crate::stated::Stated;
 use crate::stating::read_stated;
 use device_machine::Event;
 use lwm2m_values::Text;
-use scenario_mnemonics::encode;
+use scenario_mnemonics::{Mnemonic, encode};
 use scenario_statements::{Ack, Statement, ack_bytes, read_statement, recv_line, said_ack};
 use scenario_words::{Cause, is_name};
 use std::alloc::{AllocError, Global};
@@ -84,19 +84,24 @@ fn question_line_of(alloc: Global, line: &[u8]) -> Result<Line, Why>
     }
 }
 
+/// The event that a mnemonic's datagram is.
+fn request_event(alloc: Global, server: u16, mnemonic: &Mnemonic) -> Result<Event, Cause>
+    ensures { Gives (λ e. e) result (event_by (says.Request server mnemonic.now)) }
+{
+    if !mnemonic.fits() {
+        return Err(Cause::Range);
+    }
+    let bytes = encode(alloc, mnemonic)?;
+    Ok(Event::Recv { server, bytes })
+}
+
 /// The event that a statement is.
 fn event_by(alloc: Global, statement: Statement) -> Result<Event, Cause>
     ensures { Gives (λ e. e) result (event_by statement) }
 {
     match statement {
         Statement::Recv { server, bytes } => Ok(Event::Recv { server, bytes }),
-        Statement::Request { server, mnemonic } => {
-            if !mnemonic.fits() {
-                return Err(Cause::Range);
-            }
-            let bytes = encode(alloc, &mnemonic)?;
-            Ok(Event::Recv { server, bytes })
-        }
+        Statement::Request { server, mnemonic } => request_event(alloc, server, &mnemonic),
         Statement::Tick(seconds) => Ok(Event::Tick(seconds)),
         Statement::Put { path, value } => Ok(Event::Put { path, value }),
         Statement::Firmware(code) => Ok(Event::Firmware(code)),

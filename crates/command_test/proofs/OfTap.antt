@@ -3,7 +3,7 @@ use Rattle.std.proofs.Common.{◌≡◌, ℕ, List, [], ◌∷◌, ◌++◌, cod
 use Rattle.std.specs.List.{flat_map}
 use Rattle.std.specs.Str.Lines.{lines}
 use Rattle.device_machine.specs.declared.output.Output.{Output}
-use Rattle.case_files.specs.EntryWords.{output_words}
+use Rattle.case_play.specs.EntryWords.{output_words}
 use Rattle.case_play.specs.declared.came.Came.{Came}
 use Rattle.case_play.specs.declared.came.Came.TheVariants as came
 use Rattle.command_test.specs.Came.{answer_line, came_items, came_lines, came_words, output_lines}

@@ -4,7 +4,7 @@ use Rattle.std.proofs.Common.{subst, ◌∙◌}
 use Rattle.std.proofs.lemmas.List.{map-append, take_all, take_more}
 use Rattle.std.proofs.lemmas.List.Elements.{All-nil, All-push}
 use Rattle.std.proofs.lemmas.Option.{get_or_from_slice_get, slice_get_within}
-use Rattle.case_files.specs.Verdicts.{IsCaseVerdict}
+use Rattle.case_play.specs.Verdicts.{IsCaseVerdict}
 use Rattle.command_test.specs.Playing.{AreRight}
 use Rattle.command_test.specs.declared.judged.Judged.{Judged}
 use Rattle.command_test.specs.declared.test_case.TestCase.{TestCase}

@@ -13,7 +13,7 @@ use Rattle.scenario_words.specs.ValueWords.{spelled}
 use Rattle.scenario_words.specs.Words.{ended_line}
 use Rattle.scenario_words.specs.declared.cause.Cause.{Cause}
 use Rattle.message_words.specs.Text.{reading_text}
-use Rattle.case_files.specs.EntryWords.{output_words}
+use Rattle.case_play.specs.EntryWords.{output_words}
 use Rattle.case_play.specs.declared.came.Came.{Came}
 use Rattle.case_play.specs.declared.came.Came.TheVariants as came
 use Rattle.command_test.specs.Escaping.{in_quotes}

@@ -4,7 +4,7 @@ use Rattle.std.specs.Prelude.{nat_eq}
 use Rattle.std.specs.List.{starts_with}
 use Rattle.case_text.specs.Checks.{title_of_case}
 use Rattle.case_text.specs.declared.case.Case.{Case}
-use Rattle.case_files.specs.Verdicts.{IsCaseVerdict}
+use Rattle.case_play.specs.Verdicts.{IsCaseVerdict}
 use Rattle.command_test.specs.declared.case_file.CaseFile.{CaseFile}
 use Rattle.command_test.specs.declared.judged.Judged.{Judged}
 use Rattle.command_test.specs.declared.test_case.TestCase.{TestCase}

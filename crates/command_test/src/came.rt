@@ -13,7 +13,7 @@ use message_words::datagram_text;
 use std::alloc::{AllocError, Global};
 
 /// How the lines of answers are written.
-#[derive(Clone, Copy, PartialEq, Eq)]
+#[derive(Clone, Copy)]
 pub enum Form {
     /// `came ANSWER`, and below a datagram what it says.
     Lines,

@@ -9,7 +9,7 @@ use scenario_words::hex_word;
 use std::alloc::{AllocError, Global};
 
 /// Where a text stands, and so which of its characters are written otherwise.
-#[derive(Clone, Copy, PartialEq, Eq)]
+#[derive(Clone, Copy)]
 pub enum Escape {
     /// In the description of a test point of TAP.
     Title,

@@ -2,7 +2,7 @@
 ghost use Rattle.std.specs.Prelude.{◌≡◌, ◌++◌, ◌∷◌, [], codes, map, IfOk, OnOk};
 ghost use Rattle.std.specs.Str.Lines.{lines};
 ghost use Rattle.std.specs.String.{string_bytes};
-ghost use Rattle.case_files.specs.EntryWords.{output_words as entry_words};
+ghost use Rattle.case_play.specs.EntryWords.{output_words as entry_words};
 ghost use Rattle.command_test.specs.Came.{came_items, output_items, text_items};
 
 use crate::words::{came_words, output_words};

@@ -4,7 +4,7 @@ ghost use Rattle.command_test.specs.Playing.{AreRight};
 
 use crate::judged::Judged;
 use crate::test_case::TestCase;
-use case_files::judge;
+use case_play::judge;
 use std::alloc::{AllocError, Global};
 
 /// The verdict on each of the cases, in their order.

@@ -4,7 +4,7 @@ ghost use Rattle.std.specs.Fmt.{decimal};
 ghost use Rattle.std.specs.Option.{option_copied};
 ghost use Rattle.std.specs.String.{string_bytes};
 ghost use Rattle.scenario_words.specs.HexWord.{hex_word};
-ghost use Rattle.case_files.specs.EntryWords.{output_words};
+ghost use Rattle.case_play.specs.EntryWords.{output_words};
 ghost use Rattle.command_test.specs.Came.{came_words, counts_words, device_words, number_or_none, refusal_words};
 ghost use Rattle.command_test.specs.Came.{run_words, value_or_none};
 

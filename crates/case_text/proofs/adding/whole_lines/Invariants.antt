@@ -8,7 +8,7 @@ use Rattle.case_text.proofs.adding.whole_lines.Given as goal
 abbrev pub invariant-loop-next : goal.invariant-loop-next
 invariant-loop-next l =
     l.all.items
-    ++ (numbered_line l.last (whole l.line (l.more.items ++ more_at l.next-iterator.rest.items)
-    (l.digits.items ++ digits_at l.next-iterator.rest.items))
+    ++ (numbered_line l.last.number (whole l.last.line (more_at l.next-iterator.rest.items)
+    (digits_at l.next-iterator.rest.items))
     ∷ whole_lines l.next-iterator.rest.items)
     ≡ numbered_line 0 Remark ∷ whole_lines l.fn.lines.items

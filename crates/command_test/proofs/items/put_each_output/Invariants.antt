@@ -1,7 +1,7 @@
 -- What is added, and what is still to come.
 use Rattle.std.proofs.Common.{◌≡◌, ◌++◌, drop, map}
 use Rattle.std.specs.String.{string_bytes}
-use Rattle.case_files.specs.EntryWords.{output_words}
+use Rattle.case_play.specs.EntryWords.{output_words}
 use Rattle.command_test.proofs.items.put_each_output.Given as goal
 
 abbrev pub invariant-loop-output : goal.invariant-loop-output

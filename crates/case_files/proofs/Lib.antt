@@ -1,6 +1,0 @@
-pub mod Each
-pub mod Found
-pub mod Stated
-pub mod Tried
-pub mod Judged
-pub mod Changed

@@ -1,7 +1,0 @@
--- What is written, and what is still to come.
-use Rattle.std.proofs.Common.{◌≡◌, ◌++◌, drop}
-use Rattle.case_files.specs.Answers.{lines_below}
-use Rattle.case_files.proofs.stating.lines_below.Given as goal
-
-abbrev pub invariant-loop-answer : goal.invariant-loop-answer
-invariant-loop-answer l = l.lines.items ++ lines_below (drop l.answer-index l.below) ≡ lines_below l.below
