@@ -67,6 +67,7 @@ Writes no file.
 Example:
   lwbench play reader.txt
   0 worker 0 device 0 step 0 second 0: read 1 con 1 - /3/0/9 any
+      # 40010001B13301300139
       # CON 0.01 GET, message 1, /3/0/9
   => send 1 60450001C0FF313030
       # ACK 2.05 Content, message 1, text/plain \"100\"
@@ -115,7 +116,8 @@ Example:
 pub const SHOW: &str =
     "Reads IMAGE, and then TRACE. Prints the entries of the trace in their order: a line for each, with its
 number in the trace, its worker, its device, the number of its step in the device's row, the device's
-second before the step, and the step; and a line for each output. Below a datagram stands what it says:
+second before the step, and the step; and a line for each output. Below a datagram stands what it says, and
+first, below a mnemonic, its bytes:
   N worker W device D step K second S: STEP
   => send SERVER HEX
   => act NAME
@@ -130,6 +132,7 @@ Writes no file.
 Example:
   lwbench show reader.image reader.trace
   0 worker 1 device 0 step 0 second 0: read 1 con 1 - /3/0/9 any
+      # 40010001B13301300139
       # CON 0.01 GET, message 1, /3/0/9
   => send 1 60450001C0FF313030
       # ACK 2.05 Content, message 1, text/plain \"100\"";

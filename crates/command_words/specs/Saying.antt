@@ -5,7 +5,7 @@ use Rattle.std.specs.String.{string_bytes}
 use Rattle.hex.specs.Hex.{decode_of}
 use Rattle.coap_codec.specs.Reading.{reading_of}
 use Rattle.scenario_words.specs.Words.{ended_line}
-use Rattle.trace_text.specs.Datagrams.{arrival_text}
+use Rattle.trace_text.specs.Datagrams.{statement_text}
 use Rattle.trace_text.specs.Lines.{said_line}
 use Rattle.command_files.specs.Answers.{files_of}
 use Rattle.command_files.specs.declared.answer.Answer.{Answer}
@@ -14,9 +14,10 @@ use Rattle.command_files.specs.declared.fault.Fault.TheVariants as faults
 use Rattle.command_files.specs.declared.status.Status.TheVariants.{Done}
 use Rattle.scenario_statements.specs.Acks.{ack_line, acknowledged}
 
--- of an Empty ACK of this message ID `ack S MID` and what it says, of any other what `show` prints where it arrives
+-- of an Empty ACK of this message ID `ack S MID` and what it says, of any other its words and what it says, as `show`
+-- prints them where it arrives
 abbrev pub text_as : Option ℕ → ℕ → List ℕ → List ℕ
-text_as None server bytes = arrival_text server bytes
+text_as None server bytes = statement_text server bytes
 text_as (Some mid) server bytes = ended_line (ack_line server mid) ++ said_line bytes
 
 -- the lines of a datagram that comes from a server: the statement that denotes it, and what it says in words

@@ -7,14 +7,14 @@ use crate::acks::ack_text;
 use command_files::{Answer, Fault, Refusal, Status, Why, read_hex};
 use scenario_statements::acknowledged;
 use std::alloc::{AllocError, Global};
-use trace_text::arrival_text;
+use trace_text::statement_text;
 
 /// The lines of a datagram that comes from a server.
 pub(crate) fn said_text(alloc: Global, server: u16, bytes: &[u8]) -> Result<String, AllocError>
     ensures { IfOk result (λ t. string_bytes t ≡ said_text server bytes.now) }
 {
     match acknowledged(alloc, bytes)? {
-        None => arrival_text(alloc, server, bytes),
+        None => statement_text(alloc, server, bytes),
         Some(mid) => ack_text(alloc, server, mid, bytes),
     }
 }

@@ -1,3 +1,4 @@
 pub mod Seconds
 pub mod Shown
 pub mod Parts
+pub mod Bytes

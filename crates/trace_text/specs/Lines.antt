@@ -12,6 +12,8 @@ use Rattle.scenario_words.specs.Words.{ended_line}
 use Rattle.message_words.specs.Text.{reading_text}
 use Rattle.scenario_image.specs.declared.step.Step.{Step}
 use Rattle.scenario_image.specs.declared.step.Step.TheVariants.{Event, Post, Need}
+use Rattle.scenario_mnemonics.specs.declared.mnemonic.Mnemonic.{Mnemonic}
+use Rattle.scenario_mnemonics.specs.Denoting.{mnemonic_of}
 use Rattle.scenario_statements.specs.Spelling.{line_of}
 use Rattle.scenario_asm.specs.Canonical.{of_step}
 use Rattle.trace_file.specs.declared.entry.Entry.{Entry}
@@ -27,10 +29,24 @@ step_words (Some step) = line_of (of_step step)
 abbrev pub said_line : List ℕ → List ℕ
 said_line bytes = ended_line (codes "    # " ++ reading_text (reading_of bytes))
 
--- the line of what arrives in a step: of a datagram alone
+-- the bytes of a datagram in hex, in a line of its own, which begins as a comment does
+abbrev pub bytes_line : List ℕ → List ℕ
+bytes_line bytes = ended_line (codes "    # " ++ hex_word bytes)
+
+-- this line of a datagram that is written as a mnemonic; none of one by `recv`, which has them in its words
+abbrev pub bytes_lines : Option Mnemonic → List ℕ → List ℕ
+bytes_lines None bytes = []
+bytes_lines (Some mnemonic) bytes = bytes_line bytes
+
+-- the lines below the words of a datagram that comes from a server: its bytes, where these do not have them, and what
+-- it says
+abbrev pub received_lines : List ℕ → List ℕ
+received_lines bytes = bytes_lines (mnemonic_of bytes) bytes ++ said_line bytes
+
+-- the lines of what arrives in a step: of a datagram alone
 abbrev pub arrival_lines : Option Step → List ℕ
 arrival_lines None = []
-arrival_lines (Some (Event (Recv server bytes))) = said_line bytes
+arrival_lines (Some (Event (Recv server bytes))) = received_lines bytes
 arrival_lines (Some (Event (Put path value))) = []
 arrival_lines (Some (Event (Firmware code))) = []
 arrival_lines (Some (Event (Tick seconds))) = []

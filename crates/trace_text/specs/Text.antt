@@ -1,5 +1,5 @@
 -- A trace as text.
-use Rattle.std.specs.Prelude.{ℕ, ◌+◌, List, [], ◌∷◌, ◌++◌}
+use Rattle.std.specs.Prelude.{◌≡◌, ℕ, ◌+◌, List, [], ◌∷◌, ◌++◌}
 use Rattle.scenario_image.specs.Scenario.{Scenario}
 use Rattle.trace_file.specs.declared.entry.Entry.{Entry}
 use Rattle.fleet_core.specs.Run.{step_at}
@@ -20,3 +20,7 @@ entries_text s number (e ∷ es) = entry_text s number e ++ entries_text s (numb
 -- all entries of a trace
 abbrev pub trace_text : Scenario → List Entry → List ℕ
 trace_text s es = entries_text s 0 es
+
+-- a text has this part
+abbrev pub HasPart : List ℕ → List ℕ → Type 0
+HasPart text part = (before : List ℕ) × (after : List ℕ) × (text ≡ before ++ (part ++ after))

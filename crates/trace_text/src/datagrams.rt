@@ -2,15 +2,27 @@
 
 ghost use Rattle.std.specs.Prelude.{◌≡◌, IfOk};
 ghost use Rattle.std.specs.String.{string_bytes};
-ghost use Rattle.trace_text.specs.Datagrams.{arrival_text, sent_text};
+ghost use Rattle.trace_text.specs.Datagrams.{arrival_text, sent_text, statement_text};
 
 use crate::lines::{put_said, put_sent};
-use crate::steps::datagram_words;
+use crate::steps::{datagram_words, received_text};
 use std::alloc::{AllocError, Global};
 
-/// The lines of a datagram that comes from a server: its words in a scenario's text, and what it says.
+/// The lines of a datagram that comes from a server: its words in a scenario's text, its bytes, if these are a
+/// mnemonic, and what it says.
 pub fn arrival_text(alloc: Global, server: u16, bytes: &[u8]) -> Result<String, AllocError>
     ensures { IfOk result (λ t. string_bytes t ≡ arrival_text server bytes.now) }
+{
+    let text = received_text(alloc, server, bytes)?;
+    let mut out = text.words;
+    out.push('\n')?;
+    out.push_str(text.below.as_str())?;
+    Ok(out)
+}
+
+/// The lines of a datagram whose bytes its reader has: its words in a scenario's text, and what it says.
+pub fn statement_text(alloc: Global, server: u16, bytes: &[u8]) -> Result<String, AllocError>
+    ensures { IfOk result (λ t. string_bytes t ≡ statement_text server bytes.now) }
 {
     let mut out = datagram_words(alloc, server, bytes)?;
     out.push('\n')?;

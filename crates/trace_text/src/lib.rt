@@ -12,7 +12,9 @@ mod steps;
 mod transcript;
 
 pub use clocks::Clocks;
-pub use datagrams::{arrival_text, sent_text};
-pub use laws::{all_are_selected, parts_join, runs_have_steps, seconds_are_shown};
+pub use datagrams::{arrival_text, sent_text, statement_text};
+pub use laws::{
+    all_are_selected, arrivals_have_bytes, parts_join, runs_have_steps, seconds_are_shown,
+};
 pub use selection::{Selection, SelectionFault};
 pub use transcript::{Transcript, selected_text, trace_text};

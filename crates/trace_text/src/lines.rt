@@ -3,12 +3,12 @@
 ghost use Rattle.std.specs.Prelude.{◌≡◌, ◌++◌, IfOk, OnOk};
 ghost use Rattle.std.specs.Option.{option_copied};
 ghost use Rattle.std.specs.String.{string_bytes};
-ghost use Rattle.trace_text.specs.Lines.{all_output_lines, arrival_lines, entry_line, output_lines};
+ghost use Rattle.trace_text.specs.Lines.{all_output_lines, bytes_line, bytes_lines, entry_line, output_lines};
 ghost use Rattle.trace_text.specs.Lines.{said_line, sent_line};
 
-use device_machine::{Event, Output, act_name};
+use device_machine::{Output, act_name};
 use message_words::datagram_text;
-use scenario_image::Step;
+use scenario_mnemonics::Mnemonic;
 use scenario_words::hex_word;
 use std::alloc::{AllocError, Global};
 use trace_file::Entry;
@@ -41,22 +41,29 @@ pub(crate) fn put_said(alloc: Global, out: &mut String, bytes: &[u8]) -> Result<
     out.push('\n')
 }
 
-/// Writes what the datagram says that arrives in a step, if one does.
-pub(crate) fn put_arrival(
+/// Writes the bytes of a datagram, in a line of its own.
+fn put_bytes(alloc: Global, out: &mut String, bytes: &[u8]) -> Result<(), AllocError>
+    ensures { OnOk result (string_bytes out.new ≡ string_bytes out.old ++ bytes_line bytes.now) }
+{
+    let hex = hex_word(alloc, bytes)?;
+    out.push_str("    # ")?;
+    out.push_str(hex.as_str())?;
+    out.push('\n')
+}
+
+/// Writes the bytes of a datagram that is written as a mnemonic.
+pub(crate) fn put_hidden(
     alloc: Global,
     out: &mut String,
-    step: Option<&Step>,
+    mnemonic: Option<&Mnemonic>,
+    bytes: &[u8],
 ) -> Result<(), AllocError>
-    ensures { OnOk result (string_bytes out.new ≡ string_bytes out.old ++ arrival_lines (option_copied step.entry)) }
+    ensures { OnOk result (string_bytes out.new
+        ≡ string_bytes out.old ++ bytes_lines (option_copied mnemonic.entry) bytes.now) }
 {
-    match step {
-        Some(Step::Event(Event::Recv { bytes, .. })) => put_said(alloc, out, bytes.as_slice()),
-        Some(
-            Step::Event(Event::Put { .. } | Event::Firmware(_) | Event::Tick(_))
-            | Step::Post(_)
-            | Step::Need(_, _),
-        )
-        | None => Ok(()),
+    match mnemonic {
+        Some(_) => put_bytes(alloc, out, bytes),
+        None => Ok(()),
     }
 }
 

@@ -6,9 +6,9 @@ ghost use Rattle.trace_text.specs.Selection.{IsSelectable, IsSelectionFault, sel
 ghost use Rattle.trace_text.specs.Text.{entry_text, trace_text};
 
 use crate::clocks::Clocks;
-use crate::lines::{entry_line, put_arrival, put_outputs};
+use crate::lines::{entry_line, put_outputs};
 use crate::selection::{Selection, SelectionFault};
-use crate::steps::step_words;
+use crate::steps::step_text;
 use fleet_core::step_of;
 use scenario_image::Scenario;
 use std::alloc::{AllocError, Global};
@@ -53,16 +53,17 @@ impl<'a> Transcript<'a> {
     /// The text of an entry, of this number in its trace: a line with the numbers of entry, worker, device and step,
     /// the second of the device before the step, and the step in the words of scenario text, and a line for each
     /// output. After a datagram, one that arrives and one that is sent, comes what it says, in a line that begins with
-    /// four spaces and `#`. Entries may be asked for in any order.
+    /// four spaces and `#`; before that, in such a line, the bytes of one that arrives and is written as a mnemonic.
+    /// Entries may be asked for in any order.
     pub fn entry_text(&mut self, number: usize, entry: &Entry) -> Result<String, AllocError>
         ensures text { IfOk result (λ t. string_bytes t ≡ entry_text self.old number entry.now) }
         ensures same { self.new ≡ self.old }
     {
         let second = self.clocks.second_at(entry.device, entry.step as usize);
         let step = step_of(self.scenario, entry.device, entry.step);
-        let words = step_words(self.alloc, step)?;
-        let mut out = entry_line(self.alloc, number, entry, second, words.as_str())?;
-        put_arrival(self.alloc, &mut out, step)?;
+        let text = step_text(self.alloc, step)?;
+        let mut out = entry_line(self.alloc, number, entry, second, text.words.as_str())?;
+        out.push_str(text.below.as_str())?;
         put_outputs(self.alloc, &mut out, entry.outputs.as_slice())?;
         Ok(out)
     }
