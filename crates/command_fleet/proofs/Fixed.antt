@@ -1,6 +1,8 @@
 -- Servers of words, one after another.
-use Rattle.std.proofs.Common.{ℕ, ◌≡◌, ◌+◌, ◌≤◌, ◌<◌, ◌==◌, ◌||◌, ◌⊎◌, inl, inr, Bor, Bool, true, false, List, [], ◌∷◌, ◌++◌}
-use Rattle.std.proofs.Common.{Option, None, Some, length, take, drop, slice_get, zero, suc, arith, get_or, map, refl, sym}
+use Rattle.std.proofs.Common.{ℕ, ◌≡◌, ◌+◌, ◌≤◌, ◌<◌, ◌==◌, ◌||◌, ◌⊎◌, inl, inr, Bor, Bool, true, false, List, [], ◌∷◌}
+use Rattle.std.proofs.Common.{◌++◌}
+use Rattle.std.proofs.Common.{Option, None, Some, length, take, drop, slice_get, zero, suc, arith, get_or, map, refl}
+use Rattle.std.proofs.Common.{sym}
 use Rattle.std.proofs.Common.{ap, subst, ◌∙◌, IfNone}
 use Rattle.std.proofs.lemmas.List.Folds.{list_any-append}
 use Rattle.std.proofs.lemmas.List.{drop_more, map-append, take-append-drop, take_all, take_more}
@@ -98,7 +100,8 @@ none_more f xs k x at none fails =
 
 -- a device that has the account, or not
 pub found_at : (s : Scenario) (account k n : ℕ) (r : Bool) → k < n → n ≡ length s.rows
-    → ((row : Row) → slice_get s.rows k ≡ Some row → r ≡ row_has s account row) → r ≡ true → true ≡ has_account s account
+    → ((row : Row) → slice_get s.rows k ≡ Some row → r ≡ row_has s account row) → r ≡ true
+    → true ≡ has_account s account
 found_at s account k n r below count is holds =
     let row = item_at s.rows k (omega (arith, below, count)) in
     sym (any_found (row_has s account) s.rows k row.0 row.1 (sym (is row.0 row.1) ∙ holds))

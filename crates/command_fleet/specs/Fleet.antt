@@ -1,6 +1,7 @@
--- What `fleet FILE PORT ..` comes to: devices of a scenario are served for a session, then its line is printed, and then
--- their steps are saved as a scenario.
-use Rattle.std.specs.Prelude.{⊤, ℕ, ◌≡◌, ◌⊎◌, ◌≤◌, ◌==◌, ◌&&◌, Bool, false, not, List, [], ◌∷◌, ◌++◌, length, map, Option}
+-- What `fleet FILE PORT ..` comes to: devices of a scenario are served for a session, then its line is printed, and
+-- then their steps are saved as a scenario.
+use Rattle.std.specs.Prelude.{⊤, ℕ, ◌≡◌, ◌⊎◌, ◌≤◌, ◌==◌, ◌&&◌, Bool, false, not, List, [], ◌∷◌, ◌++◌, length, map}
+use Rattle.std.specs.Prelude.{Option}
 use Rattle.std.specs.Prelude.{None, Some, codes, option_map, if◌then◌else◌}
 use Rattle.std.specs.Fmt.{decimal}
 use Rattle.std.specs.Io.KnownBytes.{Appends}

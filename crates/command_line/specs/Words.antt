@@ -60,11 +60,6 @@ abbrev pub number_from : Word → ℕ → ℕ → Word → Rule
 number_from name least most default =
     record (number name most default) { parser = Some (parsers.Signed (pos least) (pos most)) }
 
--- `--NAME N`, a number from `least` to `most`
-abbrev pub optional_number_from : Word → ℕ → ℕ → Rule
-optional_number_from name least most =
-    record (optional_number name most) { parser = Some (parsers.Signed (pos least) (pos most)) }
-
 -- `--NAME TEXT`; where it is not given, `default`
 abbrev pub text_or : Word → Word → Rule
 text_or name default = record (text_option name) { defaults = default ∷ [] }
@@ -110,12 +105,12 @@ commands =
     ∷ command (codes "live") (needed (codes "IMAGE") ∷ needed_number (codes "DEVICE") 0 65535
     ∷ needed_number (codes "PORT") 0 65535 ∷ needed_number (codes "TURNS") 1 100000 ∷ text_option (codes "save")
     ∷ flag (codes "show") ∷ [])
-    -- `fleet FILE PORT [--seconds N] [--copies N] [--devices A-B] [--bind ADDRESS] [--server S=ADDRESS[:PORT]] ..
-    -- [--save FILE] [--json] [--strict]`
+    -- `fleet FILE PORT [--seconds N] [--devices A-B] [--bind ADDRESS] [--server S=ADDRESS[:PORT]] .. [--save FILE]
+    -- [--strict]`
     ∷ command (codes "fleet") (needed (codes "FILE") ∷ needed_number (codes "PORT") 1 65535
-    ∷ number_from (codes "seconds") 1 4294967295 (codes "86400") ∷ optional_number_from (codes "copies") 1 16384
-    ∷ text_option (codes "devices") ∷ text_or (codes "bind") (codes "127.0.0.1") ∷ text_options (codes "server")
-    ∷ text_option (codes "save") ∷ flag (codes "json") ∷ flag (codes "strict") ∷ [])
+    ∷ number_from (codes "seconds") 1 4294967295 (codes "86400") ∷ text_option (codes "devices")
+    ∷ text_or (codes "bind") (codes "127.0.0.1") ∷ text_options (codes "server") ∷ text_option (codes "save")
+    ∷ flag (codes "strict") ∷ [])
     -- `test FILE .. [--only WORDS] [--list] [--tap] [--json] [--junit FILE]`
     ∷ command (codes "test") (several (codes "FILE") ∷ text_option (codes "only") ∷ flag (codes "list")
     ∷ flag (codes "tap") ∷ flag (codes "json") ∷ text_option (codes "junit") ∷ []) ∷ []
@@ -237,12 +232,11 @@ AsksForFleet found fleet =
     (found.0 ≡ codes "fleet") × IsText found (codes "FILE") fleet.file.now
     × IsNumber 16 (one_of (codes "PORT") found.1) fleet.port
     × IsNumber 32 (one_of (codes "seconds") found.1) fleet.seconds
-    × IsOptionalNumber 16 (one_of (codes "copies") found.1) fleet.copies
     × (first_of (codes "devices") found.1 ≡ option_map (λ w. w.now) fleet.devices)
     × IsText found (codes "bind") fleet.bind.now
     × (unwrap_or (all_of (codes "server") found.1) [] ≡ map (λ w. w.now) fleet.servers.items)
     × (first_of (codes "save") found.1 ≡ option_map (λ p. p.now) fleet.save)
-    × (is_set (codes "json") found.1 ≡ fleet.json) × (is_set (codes "strict") found.1 ≡ fleet.strict)
+    × (is_set (codes "strict") found.1 ≡ fleet.strict)
 
 -- a subcommand with its values asks what the log says that standard input has: HEX is `-`
 abbrev pub AsksForLog : Word × List Row → ℕ → Type 0

@@ -2,11 +2,10 @@
 ghost use Rattle.std.specs.Prelude.{◌≡◌, codes, false, IfOk};
 ghost use Rattle.clap.specs.Words.{app_of, rule_of};
 ghost use Rattle.command_line.specs.Words.{needed_number, text_options};
-ghost use Rattle.command_line.specs.Inside.{bind, copies, fleet_app, seconds, with_devices, with_ends, with_places};
-ghost use Rattle.command_line.specs.Inside.{with_service};
+ghost use Rattle.command_line.specs.Inside.{bind, fleet_app, seconds, with_ends, with_places, with_service};
 
 use crate::help;
-use crate::subcommands::{described, flag, json, needed, text_option};
+use crate::subcommands::{described, flag, needed, text_option};
 use clap::{Arg, ArgAction, Command, value_parser};
 use std::alloc::{AllocError, Global};
 
@@ -18,7 +17,7 @@ pub(crate) fn fleet_command<'a>(alloc: Global) -> Result<Command<'a>, AllocError
     with_ends(alloc, with_places(alloc, service)?)
 }
 
-/// Adds the words for what is left of the devices, what is printed of them, and the status.
+/// Adds the words for what is left of the devices, and for the status.
 fn with_ends<'a>(alloc: Global, command: Command<'a>) -> Result<Command<'a>, AllocError>
     ensures { IfOk result (λ c. app_of c ≡ with_ends (app_of command.entry)) }
 {
@@ -26,7 +25,7 @@ fn with_ends<'a>(alloc: Global, command: Command<'a>) -> Result<Command<'a>, All
     let strict = flag(alloc, "strict").help(
         "Ends with status 3 where a datagram was dropped or lost",
     );
-    command.arg(save)?.arg(json(alloc))?.arg(strict)
+    command.arg(save)?.arg(strict)
 }
 
 /// Adds the words for the devices of a scenario, the first of their ports, and how long they go on.
@@ -39,20 +38,12 @@ fn with_service<'a>(alloc: Global, command: Command<'a>) -> Result<Command<'a>, 
         .arg(seconds(alloc))
 }
 
-/// Adds the words for which devices there are.
-fn with_devices<'a>(alloc: Global, command: Command<'a>) -> Result<Command<'a>, AllocError>
-    ensures { IfOk result (λ c. app_of c ≡ with_devices (app_of command.entry)) }
-{
-    command.arg(copies(alloc))?.arg(text_option(alloc, "devices", "A-B").help(
-        "Only the devices from A to B",
-    ))
-}
-
 /// Adds the words for which devices there are, and for where their ports and servers are.
 fn with_places<'a>(alloc: Global, command: Command<'a>) -> Result<Command<'a>, AllocError>
     ensures { IfOk result (λ c. app_of c ≡ with_places (app_of command.entry)) }
 {
-    with_devices(alloc, command)?
+    command
+        .arg(text_option(alloc, "devices", "A-B").help("Only the devices from A to B"))?
         .arg(bind(alloc))?
         .arg(servers(alloc))
 }
@@ -97,15 +88,4 @@ fn servers<'a>(alloc: Global) -> Arg<'a>
     text_option(alloc, "server", "S=ADDRESS[:PORT]")
         .action(ArgAction::Append)
         .help("The address of server S for all devices; may be given more than once")
-}
-
-fn copies<'a>(alloc: Global) -> Arg<'a>
-    ensures rule { rule_of result ≡ copies }
-    ensures local { result.global ≡ false }
-{
-    Arg::new(alloc, "copies")
-        .long("copies")
-        .value_name("N")
-        .value_parser(value_parser!(u16).range(1..=16_384))
-        .help("The rows over and over, until there are N devices, 1 to 16384")
 }

@@ -17,10 +17,7 @@ pub struct AskedFleet<'a> {
     pub port: u16,
     /// For how many seconds they go on.
     pub seconds: u32,
-    /// How many devices there are, whose rows are those of the scenario over and over; where it is not given, each row
-    /// has one.
-    pub copies: Option<u16>,
-    /// Which of the devices are put on ports, as `A-B`; where it is not given, all are.
+    /// Which rows have a device, as `A-B`; where it is not given, all have.
     pub devices: Option<&'a str>,
     /// The IP address of the ports.
     pub bind: &'a str,
@@ -28,8 +25,6 @@ pub struct AskedFleet<'a> {
     pub servers: Vec<&'a str>,
     /// Where the image of what happened goes, if anywhere.
     pub save: Option<&'a str>,
-    /// Whether what happens is printed as objects in JSON.
-    pub json: bool,
     /// Whether the status tells that a datagram was dropped or lost.
     pub strict: bool,
 }
@@ -59,12 +54,10 @@ fn fleet_with<'a>(found: &ArgMatches<'a>, servers: Vec<&'a str>) -> Option<Asked
         file: value_of(found, "FILE")?,
         port: small_number(found, "PORT")?,
         seconds: number(found, "seconds")?,
-        copies: small_number(found, "copies"),
         devices: value_of(found, "devices"),
         bind: value_of(found, "bind")?,
         servers,
         save: value_of(found, "save"),
-        json: flag(found, "json"),
         strict: flag(found, "strict"),
     })
 }

@@ -175,17 +175,14 @@ Example:
 pub const FLEET: &str =
     "Reads FILE: what begins with LWSC is a scenario's image, any other file its text. Starts the devices of it,
 without the steps of their rows, and lets each answer the datagrams that arrive at a UDP port of its own:
-device d at PORT + d of the address of `--bind`. With `--copies` the rows come over and over, until there
-are N devices; with `--devices` only devices A to B are there, device A at PORT. With `--server` the server
-S of all devices is at that address, at any port of it or at this one; an IPv6 address with a port is in
-brackets. Once all ports are there, prints on standard error
+device d at PORT + d of the address of `--bind`, or, with `--devices`, only devices A to B, device A at
+PORT. With `--server` the server S of all devices is at that address, at any port of it or at this one; an
+IPv6 address with a port is in brackets. Once all ports are there, prints on standard error
   lwbench: ready N at ADDRESS:PORT
 After so many seconds as `--seconds` says, a day if it is not given, it ends. Writes the image of what
 happened to the FILE of `--save`, which is replaced where it exists, and no file without it: the steps of
 each device, at most 4096. At the end prints
   done seconds S devices N received N sent N dropped N lost N
-With `--json` prints objects in JSON in place of this line, each in a line of its own: one when the ports are
-there, one each second, and one at the end.
 A datagram is dropped that comes from no account of its device, or is longer than 1500 bytes; one is lost
 that the system did not take. With `--strict` the status is 3 where one was dropped or lost.
 

@@ -126,7 +126,7 @@ fn with_trace_forms<'a>(alloc: Global, command: Command<'a>) -> Result<Command<'
 }
 
 /// `--json`.
-pub(crate) fn json<'a>(alloc: Global) -> Arg<'a>
+fn json<'a>(alloc: Global) -> Arg<'a>
     ensures rule { rule_of result ≡ flag (codes "json") }
     ensures local { result.global ≡ false }
 {
