@@ -1,13 +1,14 @@
 -- Devices on UDP: what their session came to, put together from its parts.
-use Rattle.std.proofs.Common.{ℕ, ◌≡◌, ◌⊎◌, ◌≤◌, arith, Bool, List, [], ◌∷◌, length, Option, None, Some, inl, inr, refl, sym, subst}
+use Rattle.std.proofs.Common.{ℕ, Bor, ◌≡◌, ◌⊎◌, ◌≤◌, arith, List, [], ◌∷◌, length, map, Option, None, inl, inr, refl, sym, subst}
 use Rattle.std.proofs.Common.{IfErr, IfOk, Result, Ok, Err, option_map, false}
 use Rattle.std.specs.Io.KnownBytes.{Appends}
 use Rattle.std.specs.declared.net.socket_addr.SocketAddr.{SocketAddr}
-use Rattle.command_line.specs.declared.words.AskedFleet.{AskedFleet}
+use Rattle.command_line.specs.declared.fleet_words.AskedFleet.{AskedFleet}
 use Rattle.scenario_image.specs.declared.fault.ScenarioFault.{ScenarioFault}
 use Rattle.scenario_image.specs.declared.fault.ScenarioFault.TheVariants as session
 use Rattle.scenario_image.specs.Image.{IsImageIn}
 use Rattle.scenario_image.specs.Scenario.{Scenario}
+use Rattle.fleet_link.specs.declared.directory.FixedServer.{FixedServer}
 use Rattle.fleet_link.specs.declared.slot.Slot.{Slot}
 use Rattle.fleet_link.specs.Saved.{IsSaved}
 use Rattle.fleet_link.specs.Serving.{AreAt, IsFleet}
@@ -25,6 +26,7 @@ use Rattle.command_files.specs.declared.status.Status.{Status}
 use Rattle.command_sources.specs.Sources.{IsNoScenario, IsScenarioOf}
 use Rattle.command_fleet.specs.declared.devices.Devices.{Devices}
 use Rattle.command_fleet.specs.Devices.{AreChosen, part_of}
+use Rattle.command_fleet.specs.Servers.{AreServers, IsServersFault}
 use Rattle.command_fleet.specs.Fleet.{AreMissing, AreReady, IsConcluded, IsFleetDone, IsFleetFault, IsPlace, IsSavedAt}
 use Rattle.command_fleet.specs.Fleet.{IsEndless, IsSaveFault, IsSavedIf, IsServed, IsUnconcluded, IsUnfit, IsUnsaved, IsUnstarted}
 use Rattle.command_fleet.specs.Fleet.{Session, line_of, ready_line, status_of}
@@ -139,20 +141,40 @@ pub place_refused : (files : FilesKnown) (streams : StreamFaults) (before after 
 place_refused files streams before after asked s devices fault found chosen why silent untold =
     ports_refused files streams before after asked s devices fault found chosen (inr why) silent untold
 
+pub servers_refused : (files : FilesKnown) (streams : StreamFaults) (before after : Streams) (asked : AskedFleet)
+    (s : Scenario) (devices : Devices) (words : List (List ℕ)) (about : Option (List ℕ)) (fault : Fault)
+    → IsHeld files.holds asked.file.now (λ bytes. IsScenarioOf bytes s)
+    → AreChosen s (option_map (λ w. w.now) asked.devices) devices → IsServersFault s words about fault
+    → after.output ≡ before.output → after.errors ≡ before.errors
+    → IsFleetFault files streams before after asked fault
+servers_refused files streams before after asked s devices words about fault found chosen why silent untold =
+    ports_refused files streams before after asked s devices fault found chosen (of why) silent untold
+  where
+    of : IsServersFault s words about fault → (fault ≡ faults.Memory) ⊎ (fault ≡ faults.Bind)
+    of (inl memory) = inl memory
+    of (inr wrong) = inr wrong.0
+
 -- ---- the session
 
+-- the servers of the words that were handed over
+pub fixed_as : (s : Scenario) (given words : List (Bor (List ℕ))) (servers : List FixedServer) → given ≡ words
+    → AreServers s (map (λ w. w.now) given) servers → AreServers s (map (λ w. w.now) words) servers
+fixed_as s given words servers same are = subst (λ ws. AreServers s (map (λ w. w.now) ws) servers) same are
+
 pub ready_untold : (files : FilesKnown) (faults : StreamFaults) (before after : Streams) (asked : AskedFleet)
-    (s part : Scenario) (devices : Devices) (place : SocketAddr) (count : ℕ) (fault : Fault)
-    → IsHeld files.holds asked.file.now (λ bytes. IsScenarioOf bytes s)
-    → AreChosen s (option_map (λ w. w.now) asked.devices) devices → part ≡ part_of s devices
+    (s part : Scenario) (devices : Devices) (servers : List FixedServer) (place : SocketAddr) (count : ℕ)
+    (fault : Fault) → IsHeld files.holds asked.file.now (λ bytes. IsScenarioOf bytes s)
+    → AreChosen s (option_map (λ w. w.now) asked.devices) devices
+    → AreServers s (map (λ w. w.now) asked.servers.items) servers → part ≡ part_of s devices
     → IsPlace asked.bind.now asked.port place → count ≡ length part.rows
     → IsWritingFault (faults.errors_refuse (ready_line count place)) fault → after.output ≡ before.output
     → IsFleetFault files faults before after asked fault
-ready_untold files faults before after asked s part devices place count fault found chosen is there same why silent =
+ready_untold files faults before after asked s part devices servers place count fault found chosen fixed is there same
+    why silent =
     inr (inl (record {
       scenario = s;
       devices = devices;
-      asked_for = record { found = found; chosen = chosen };
+      asked_for = record { found = found; chosen = chosen; servers = servers; fixed = fixed };
       place = place;
       place_is = there;
       why = subst (λ p. IsWritingFault (faults.errors_refuse (ready_line (length p.rows) place)) fault) is
@@ -161,15 +183,16 @@ ready_untold files faults before after asked s part devices place count fault fo
     }))
 
 pub ready : (files : FilesKnown) (before after : Option (List ℕ)) (asked : AskedFleet) (s part : Scenario)
-    (devices : Devices) (place : SocketAddr) (count : ℕ)
+    (devices : Devices) (servers : List FixedServer) (place : SocketAddr) (count : ℕ)
     → IsHeld files.holds asked.file.now (λ bytes. IsScenarioOf bytes s)
-    → AreChosen s (option_map (λ w. w.now) asked.devices) devices → part ≡ part_of s devices
+    → AreChosen s (option_map (λ w. w.now) asked.devices) devices
+    → AreServers s (map (λ w. w.now) asked.servers.items) servers → part ≡ part_of s devices
     → IsPlace asked.bind.now asked.port place → count ≡ length part.rows
     → Appends before after (ready_line count place) → AreReady files before after asked part
-ready files before after asked s part devices place count found chosen is there same told = record {
+ready files before after asked s part devices servers place count found chosen fixed is there same told = record {
   scenario = s;
   devices = devices;
-  asked_for = record { found = found; chosen = chosen };
+  asked_for = record { found = found; chosen = chosen; servers = servers; fixed = fixed };
   part_is = is;
   place = place;
   place_is = there;

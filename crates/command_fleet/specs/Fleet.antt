@@ -1,17 +1,18 @@
--- What `fleet FILE PORT [--seconds N] [--devices A-B] [--bind ADDRESS] [--save FILE] [--strict]` comes to: devices of a
--- scenario are served for a session, then its line is printed, and then their steps are saved as a scenario.
-use Rattle.std.specs.Prelude.{⊤, ℕ, ◌≡◌, ◌⊎◌, ◌≤◌, ◌==◌, ◌&&◌, Bool, false, not, List, [], ◌∷◌, ◌++◌, length, Option}
+-- What `fleet FILE PORT ..` comes to: devices of a scenario are served for a session, then its line is printed, and
+-- then their steps are saved as a scenario.
+use Rattle.std.specs.Prelude.{⊤, ℕ, ◌≡◌, ◌⊎◌, ◌≤◌, ◌==◌, ◌&&◌, Bool, false, not, List, [], ◌∷◌, ◌++◌, length, map}
+use Rattle.std.specs.Prelude.{Option}
 use Rattle.std.specs.Prelude.{None, Some, codes, option_map, if◌then◌else◌}
 use Rattle.std.specs.Fmt.{decimal}
 use Rattle.std.specs.Io.KnownBytes.{Appends}
 use Rattle.std.specs.Net.Grammar.{IsIpText}
 use Rattle.std.specs.Net.Socket.{IsPlainSocket, socket_ip}
 use Rattle.std.specs.Net.Text.{socket_text}
-use Rattle.std.specs.declared.net.ip_addr.IpAddr.{IpAddr}
 use Rattle.std.specs.declared.net.socket_addr.SocketAddr.{SocketAddr}
-use Rattle.command_line.specs.declared.words.AskedFleet.{AskedFleet}
+use Rattle.command_line.specs.declared.fleet_words.AskedFleet.{AskedFleet}
 use Rattle.scenario_image.specs.Image.{IsImageIn}
 use Rattle.scenario_image.specs.Scenario.{Scenario}
+use Rattle.fleet_link.specs.declared.directory.FixedServer.{FixedServer}
 use Rattle.fleet_link.specs.declared.slot.Slot.{Slot}
 use Rattle.fleet_link.specs.declared.udp.Counts.{Counts}
 use Rattle.fleet_link.specs.Saved.{IsSaved}
@@ -30,6 +31,7 @@ use Rattle.command_files.specs.declared.status.Status.TheVariants as ends
 use Rattle.command_sources.specs.Sources.{IsNoScenario, IsScenarioOf}
 use Rattle.command_fleet.specs.declared.devices.Devices.{Devices}
 use Rattle.command_fleet.specs.Devices.{AreChosen, part_of}
+use Rattle.command_fleet.specs.Servers.{AreServers}
 
 -- ---- the session
 
@@ -61,10 +63,12 @@ pub record IsPlace (word : List ℕ) (port : ℕ) (place : SocketAddr) : Type 0 
   pub address : IsIpText word (socket_ip place)
   pub port_is : IsPlainSocket place port
 
--- the file is a scenario, of which these devices are asked for
+-- the file is a scenario, of which these devices are asked for, and these servers are fixed
 pub record AreAskedFor (files : FilesKnown) (asked : AskedFleet) (s : Scenario) (devices : Devices) : Type 0 where
   pub found : IsHeld files.holds asked.file.now (λ bytes. IsScenarioOf bytes s)
   pub chosen : AreChosen s (option_map (λ w. w.now) asked.devices) devices
+  pub servers : List FixedServer
+  pub fixed : AreServers s (map (λ w. w.now) asked.servers.items) servers
 
 -- a scenario has no such devices
 abbrev pub AreMissing : AskedFleet → Scenario → Type 0
@@ -167,8 +171,8 @@ pub record IsFleetDone (files : FilesKnown) (before after : World) (asked : Aske
   pub served : IsServed part asked.seconds session
   pub concluded : IsConcluded before after asked part session status
 
--- the scenario has no such devices; or it has, and the address is none or their ports could not be had; or no memory
--- was left
+-- the scenario has no such devices; or it has, and the address is none, a server is wrong or their ports could not be
+-- had; or no memory was left
 abbrev pub IsUnstarted : AskedFleet → Scenario → Fault → Type 0
 IsUnstarted asked s faults.Memory = ⊤
 IsUnstarted asked s faults.NoDevice = AreMissing asked s
@@ -182,7 +186,8 @@ pub record IsOverSource (files : FilesKnown) (asked : AskedFleet) (over : Scenar
   pub found : IsHeld files.holds asked.file.now (λ bytes. IsScenarioOf bytes scenario)
   pub so : over scenario
 
--- there was no session: the file is to blame, or the devices, the address or the ports; and nothing was printed
+-- there was no session: the file is to blame, or the devices, the address, the servers or the ports; and nothing was
+-- printed
 pub record IsNoSession (files : FilesKnown) (before after : Streams) (asked : AskedFleet) (fault : Fault) : Type 0 where
   pub why :
       (IsReadingFault (files.fails asked.file.now) fault

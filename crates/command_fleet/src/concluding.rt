@@ -65,7 +65,7 @@ fn status_of(strict: bool, counts: Counts) -> Status
 /// Prints the line of a session, and then saves the devices' steps, if there is a path.
 pub fn conclude_session<'a, F: Files, O: Output>(
     alloc: Global,
-    asked: AskedFleet<'a>,
+    asked: &AskedFleet<'a>,
     part: &Scenario,
     fleet: Fleet,
     counts: Counts,
@@ -81,7 +81,7 @@ pub fn conclude_session<'a, F: Files, O: Output>(
           made = F.made files.new;
           streams = record { input = None; output = O.taken output.new; errors = None };
         })
-        asked.entry part.now
+        asked.now part.now
         (record { slots = fleet.slots.items; second = fleet.second; counts = counts })) }
     ensures kept { OnErr result (F.made files.new ≡ F.made files.old) }
     ensures refused { IfErr result (λ r. IsUnconcluded
@@ -89,7 +89,7 @@ pub fn conclude_session<'a, F: Files, O: Output>(
         (record { input_fails = ⊥; output_refuses = O.refuses; errors_refuse = λ _. ⊥ })
         (record { input = None; output = O.taken output.old; errors = None })
         (record { input = None; output = O.taken output.new; errors = None })
-        asked.entry (record { slots = fleet.slots.items; second = fleet.second; counts = counts }) r.fault) }
+        asked.now (record { slots = fleet.slots.items; second = fleet.second; counts = counts }) r.fault) }
 {
     print_session(alloc, &fleet, counts, output)?;
     save_steps(alloc, asked.save, part, fleet, files)?;

@@ -16,7 +16,7 @@ pub struct Devices {
     pub last: u16,
 }
 
-fn number_of(text: &str) -> Option<u16>
+pub(crate) fn number_of(text: &str) -> Option<u16>
     ensures { IsOptionalNumber 16 (Some text.now) result }
 {
     text.parse::<u16>().ok()

@@ -4,6 +4,7 @@
 mod concluding;
 mod devices;
 mod places;
+mod servers;
 mod serving;
 mod session;
 

@@ -6,7 +6,7 @@ ghost use Rattle.command_files.specs.Fault.{IsWritingFault};
 ghost use Rattle.command_fleet.specs.Fleet.{IsPlace, ready_line};
 
 use command_files::{Fault, Output, Refusal, Why, unwritten};
-use fleet_link::{BindFault, UdpPorts};
+use fleet_link::{BindFault, FixedServer, UdpPorts};
 use scenario_image::Scenario;
 use std::alloc::{AllocError, Global};
 use std::net::{IpAddr, Net, SocketAddr};
@@ -26,16 +26,17 @@ pub(crate) fn place_of<'a>(word: &'a str, port: u16) -> Result<SocketAddr, Refus
     }
 }
 
-/// A socket for each device of a scenario: the first at this place, and each next one at the next port.
+/// A socket for each device of a scenario: the first at this place, and each next one at the next port. These servers
+/// are fixed.
 pub(crate) fn ports_at<'a, R: Net>(
     rt: &R,
     alloc: Global,
     scenario: &Scenario,
     place: SocketAddr,
+    servers: Vec<FixedServer>,
 ) -> Result<UdpPorts, Refusal<'a>>
     ensures refused { IfErr result (λ r. (r.fault ≡ Fault.Memory) ⊎ (r.fault ≡ Fault.Bind)) }
 {
-    let servers = Vec::new(alloc);
     match UdpPorts::bind(rt, alloc, scenario, place.ip(), place.port(), servers) {
         Ok(ports) => Ok(ports),
         Err(fault) => Err(refusal_of(alloc, scenario.rows(), fault)),

@@ -1,10 +1,11 @@
-//! `fleet FILE PORT [--seconds N] [--devices A-B] [--bind ADDRESS] [--save FILE] [--strict]`: devices on UDP.
+//! `fleet FILE PORT ..`: devices on UDP.
 ghost use Rattle.std.specs.Prelude.{◌≡◌, None, IfErr, OnErr, IfOk};
 ghost use Rattle.command_fleet.specs.Fleet.{IsFleetDone, IsFleetFault};
 
 use crate::concluding::conclude_session;
 use crate::devices::{chosen_devices, part_of};
 use crate::places::{place_of, ports_at, tell_ready};
+use crate::servers::servers_of;
 use crate::serving::serve_part;
 use command_files::files::Files;
 use command_files::{Fault, Output, Refusal, Status, Why};
@@ -20,7 +21,7 @@ use std::rt::Clock;
 /// exactly the line of the session is printed; then, if there is a path, the image, in version 2, of the scenario whose
 /// rows have the devices' steps is made there. The status tells of datagrams that were dropped or lost, if that is
 /// asked for. Of the input nothing is said: it has none.
-#[tactic(auto, using(crate::proofs::Sessions::source_refused, crate::proofs::Sessions::devices_missing, crate::proofs::Sessions::part_refused, crate::proofs::Sessions::place_refused, crate::proofs::Sessions::ports_refused))]
+#[tactic(auto, using(crate::proofs::Sessions::source_refused, crate::proofs::Sessions::devices_missing, crate::proofs::Sessions::part_refused, crate::proofs::Sessions::place_refused, crate::proofs::Sessions::servers_refused, crate::proofs::Sessions::ports_refused))]
 pub fn fleet<'a, R: Net + Clock, F: Files, O: Output, E: Output>(
     rt: &R,
     alloc: Global,
@@ -58,7 +59,8 @@ pub fn fleet<'a, R: Net + Clock, F: Files, O: Output, E: Output>(
     };
     let part = part_of(alloc, &scenario, devices)?;
     let place = place_of(asked.bind, asked.port)?;
-    let mut ports = ports_at(rt, alloc, &part, place)?;
+    let servers = servers_of(alloc, &scenario, asked.servers.as_slice())?;
+    let mut ports = ports_at(rt, alloc, &part, place, servers)?;
     tell_ready(alloc, part.rows(), place, errors)?;
     let mut clock = MachineClock::new(rt);
     let fleet = serve_part(
@@ -69,5 +71,5 @@ pub fn fleet<'a, R: Net + Clock, F: Files, O: Output, E: Output>(
         asked.seconds,
         asked.save.is_some(),
     )?;
-    conclude_session(alloc, asked, &part, fleet, ports.counts(), files, output)
+    conclude_session(alloc, &asked, &part, fleet, ports.counts(), files, output)
 }

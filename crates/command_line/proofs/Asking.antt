@@ -9,7 +9,7 @@ use Rattle.clap.specs.declared.error.kind.ErrorKind.TheVariants as kind
 use Rattle.command_line.specs.declared.words.Job.{Job}
 use Rattle.command_line.specs.declared.words.Job.TheVariants as jobs
 use Rattle.command_line.specs.declared.words.Live.{Live}
-use Rattle.command_line.specs.declared.words.AskedFleet.{AskedFleet}
+use Rattle.command_line.specs.declared.fleet_words.AskedFleet.{AskedFleet}
 use Rattle.command_line.specs.declared.words.Asked.{Asked}
 use Rattle.command_line.specs.declared.words.Asked.TheVariants as asked
 use Rattle.command_line.specs.declared.words.TraceForm.{TraceForm}

@@ -6,7 +6,7 @@ use Rattle.command_line.specs.declared.words.Asked.{Asked}
 use Rattle.command_line.specs.declared.words.Asked.TheVariants as asked
 use Rattle.command_line.specs.Words.{AsksFor, AsksForFleet, AsksForLog, AsksToLive, IsNoNumber, MayAskFor, flag, is_set}
 use Rattle.command_line.specs.Words.{needed, needed_number, number, number_from, optional_number, several, text_option}
-use Rattle.command_line.specs.Words.{text_or, with_settings}
+use Rattle.command_line.specs.Words.{text_options, text_or, with_settings}
 
 -- `[--json] [--why]`
 abbrev pub with_trace_forms : App → App
@@ -112,15 +112,19 @@ abbrev pub with_service : App → App
 with_service a =
     with_rule (with_rule (with_rule a (needed (codes "FILE"))) (needed_number (codes "PORT") 1 65535)) seconds
 
--- `[--devices A-B] [--bind ADDRESS]`
+-- `[--devices A-B] [--bind ADDRESS] [--server S=ADDRESS[:PORT]] ..`
 abbrev pub with_places : App → App
-with_places a = with_rule (with_rule a (text_option (codes "devices"))) bind
+with_places a =
+    with_rule (with_rule (with_rule a (text_option (codes "devices"))) bind) (text_options (codes "server"))
 
--- `fleet FILE PORT [--seconds N] [--devices A-B] [--bind ADDRESS] [--save FILE] [--strict]`
+-- `[--save FILE] [--strict]`
+abbrev pub with_ends : App → App
+with_ends a = with_rule (with_rule a (text_option (codes "save"))) (flag (codes "strict"))
+
+-- `fleet FILE PORT [--seconds N] [--devices A-B] [--bind ADDRESS] [--server S=ADDRESS[:PORT]] .. [--save FILE]
+-- [--strict]`
 abbrev pub fleet_app : App
-fleet_app =
-    with_rule (with_rule (with_places (with_service (new_app (codes "fleet")))) (text_option (codes "save")))
-    (flag (codes "strict"))
+fleet_app = with_ends (with_places (with_service (new_app (codes "fleet"))))
 
 -- `FILE .. [--only WORDS]`
 abbrev pub with_cases : App → App

@@ -1,6 +1,6 @@
 -- The words of the command line: which `clap` takes, and what they then ask for.
 use Rattle.std.specs.Prelude.{◌≡◌, ◌≢◌, ◌↔◌, ◌⊎◌, ◌<◌, ◌^◌, ℕ, pos, Bool, true, false, IsTrue, List, [], ◌∷◌, Option}
-use Rattle.std.specs.Prelude.{None, Some, fold, map, option_map, codes}
+use Rattle.std.specs.Prelude.{None, Some, fold, map, option_map, unwrap_or, codes}
 use Rattle.std.specs.Str.{bytes_eq}
 use Rattle.std.specs.Str.Parse.{IsNumeral, digits_value, without_leading_plus}
 use Rattle.clap.specs.Words.{App, IsAmong, Row, Rule, Text as Word, all_of, fault_of, first_of, new_app, new_rule}
@@ -12,7 +12,7 @@ use Rattle.clap.specs.declared.error.kind.ErrorKind.TheVariants.{DisplayHelp, Di
 use Rattle.command_line.specs.declared.words.Job.{Job}
 use Rattle.command_line.specs.declared.words.Job.TheVariants as jobs
 use Rattle.command_line.specs.declared.words.Live.{Live}
-use Rattle.command_line.specs.declared.words.AskedFleet.{AskedFleet}
+use Rattle.command_line.specs.declared.fleet_words.AskedFleet.{AskedFleet}
 use Rattle.command_line.specs.declared.words.Asked.{Asked}
 use Rattle.command_line.specs.declared.words.Asked.TheVariants as asked
 use Rattle.command_line.specs.declared.words.TraceForm.{TraceForm}
@@ -33,6 +33,10 @@ several name = record (needed name) { action = Some Append }
 -- `--NAME TEXT`
 abbrev pub text_option : Word → Rule
 text_option name = record (new_rule name) { long = Some name; value_names = 1 }
+
+-- `--NAME TEXT`, as often as one likes
+abbrev pub text_options : Word → Rule
+text_options name = record (text_option name) { action = Some Append }
 
 -- a number from `least` to `most` that has to be there
 abbrev pub needed_number : Word → ℕ → ℕ → Rule
@@ -101,10 +105,12 @@ commands =
     ∷ command (codes "live") (needed (codes "IMAGE") ∷ needed_number (codes "DEVICE") 0 65535
     ∷ needed_number (codes "PORT") 0 65535 ∷ needed_number (codes "TURNS") 1 100000 ∷ text_option (codes "save")
     ∷ flag (codes "show") ∷ [])
-    -- `fleet FILE PORT [--seconds N] [--devices A-B] [--bind ADDRESS] [--save FILE] [--strict]`
+    -- `fleet FILE PORT [--seconds N] [--devices A-B] [--bind ADDRESS] [--server S=ADDRESS[:PORT]] .. [--save FILE]
+    -- [--strict]`
     ∷ command (codes "fleet") (needed (codes "FILE") ∷ needed_number (codes "PORT") 1 65535
     ∷ number_from (codes "seconds") 1 4294967295 (codes "86400") ∷ text_option (codes "devices")
-    ∷ text_or (codes "bind") (codes "127.0.0.1") ∷ text_option (codes "save") ∷ flag (codes "strict") ∷ [])
+    ∷ text_or (codes "bind") (codes "127.0.0.1") ∷ text_options (codes "server") ∷ text_option (codes "save")
+    ∷ flag (codes "strict") ∷ [])
     -- `test FILE .. [--only WORDS] [--list] [--tap] [--json] [--junit FILE]`
     ∷ command (codes "test") (several (codes "FILE") ∷ text_option (codes "only") ∷ flag (codes "list")
     ∷ flag (codes "tap") ∷ flag (codes "json") ∷ text_option (codes "junit") ∷ []) ∷ []
@@ -228,6 +234,7 @@ AsksForFleet found fleet =
     × IsNumber 32 (one_of (codes "seconds") found.1) fleet.seconds
     × (first_of (codes "devices") found.1 ≡ option_map (λ w. w.now) fleet.devices)
     × IsText found (codes "bind") fleet.bind.now
+    × (unwrap_or (all_of (codes "server") found.1) [] ≡ map (λ w. w.now) fleet.servers.items)
     × (first_of (codes "save") found.1 ≡ option_map (λ p. p.now) fleet.save)
     × (is_set (codes "strict") found.1 ≡ fleet.strict)
 

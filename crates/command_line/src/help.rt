@@ -179,7 +179,8 @@ pub const FLEET: &str =
     "Reads FILE: what begins with LWSC is a scenario's image, any other file its text. Starts the devices of it,
 without the steps of their rows, and lets each answer the datagrams that arrive at a UDP port of its own:
 device d at PORT + d of the address of `--bind`, or, with `--devices`, only devices A to B, device A at
-PORT. Once all ports are there, prints on standard error
+PORT. With `--server` the server S of all devices is at that address, at any port of it or at this one; an
+IPv6 address with a port is in brackets. Once all ports are there, prints on standard error
   lwbench: ready N at ADDRESS:PORT
 After so many seconds as `--seconds` says, a day if it is not given, it ends. Writes the image of what
 happened to the FILE of `--save`, which is replaced where it exists, and no file without it: the steps of

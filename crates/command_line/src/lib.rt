@@ -1,8 +1,11 @@
 //! The words of the command line, and what they ask the program to do. Nothing else of the project names `clap`.
 #![tactic(auto)]
 
+mod fleet_arguments;
+mod fleet_words;
 mod help;
 mod subcommands;
 mod words;
 
-pub use words::{Asked, AskedFleet, CaseForm, Job, Live, NO_TEXT, TraceForm, read};
+pub use fleet_words::AskedFleet;
+pub use words::{Asked, CaseForm, Job, Live, NO_TEXT, TraceForm, read};

@@ -3,12 +3,13 @@ ghost use Rattle.std.specs.Prelude.{◌≡◌, codes, false, true, IfOk};
 ghost use Rattle.clap.specs.Words.{App, app_of, new_app, rule_of, with_rule, with_subcommand};
 ghost use Rattle.command_line.specs.Words.{flag, needed, needed_number, optional_number, several, text_option};
 ghost use Rattle.command_line.specs.Words.{with_settings};
-ghost use Rattle.command_line.specs.Inside.{asm_app, batch, bind, check_app, debug_app, dis_app, fleet_app, live_app};
-ghost use Rattle.command_line.specs.Inside.{one_app, pcap_app, play_app, run_app, say_app, seconds, server, show_app};
-ghost use Rattle.command_line.specs.Inside.{spell_app, test_app, whole_app, with_cases, with_forms, with_places};
-ghost use Rattle.command_line.specs.Inside.{with_port, with_range, with_selection, with_service, with_trace};
-ghost use Rattle.command_line.specs.Inside.{with_trace_forms, with_turns, workers};
+ghost use Rattle.command_line.specs.Inside.{asm_app, batch, check_app, debug_app, dis_app, fleet_app, live_app};
+ghost use Rattle.command_line.specs.Inside.{one_app, pcap_app, play_app, run_app, say_app, server, show_app};
+ghost use Rattle.command_line.specs.Inside.{spell_app, test_app, whole_app, with_cases, with_forms, with_port};
+ghost use Rattle.command_line.specs.Inside.{with_range, with_selection, with_trace, with_trace_forms, with_turns};
+ghost use Rattle.command_line.specs.Inside.{workers};
 
+use crate::fleet_arguments::fleet_command;
 use crate::help;
 use clap::{Arg, ArgAction, Command, value_parser};
 use std::alloc::{AllocError, Global};
@@ -98,7 +99,12 @@ fn top<'a>(alloc: Global) -> Command<'a>
 }
 
 /// A command with no argument yet, and what its help says above and below them.
-fn described<'a>(alloc: Global, name: &'a str, about: &'a str, below: &'a str) -> Command<'a>
+pub(crate) fn described<'a>(
+    alloc: Global,
+    name: &'a str,
+    about: &'a str,
+    below: &'a str,
+) -> Command<'a>
     ensures { app_of result ≡ new_app name.entry.now }
 {
     Command::new(alloc, name).about(about).after_help(below)
@@ -319,70 +325,6 @@ fn with_port<'a>(alloc: Global, command: Command<'a>) -> Result<Command<'a>, All
         .arg(needed_small(alloc, "PORT").help("Its UDP port (0: any free port)"))
 }
 
-fn fleet_command<'a>(alloc: Global) -> Result<Command<'a>, AllocError>
-    ensures { IfOk result (λ c. app_of c ≡ fleet_app) }
-{
-    let about = "Lets all devices of a scenario answer, each at a UDP port of its own";
-    let service = with_service(alloc, described(alloc, "fleet", about, help::FLEET))?;
-    let save = text_option(alloc, "save", "FILE").help("Where the image of what happened goes");
-    let strict = flag(alloc, "strict").help(
-        "Ends with status 3 where a datagram was dropped or lost",
-    );
-    with_places(alloc, service)?.arg(save)?.arg(strict)
-}
-
-/// Adds the words for the devices of a scenario, the first of their ports, and how long they go on.
-fn with_service<'a>(alloc: Global, command: Command<'a>) -> Result<Command<'a>, AllocError>
-    ensures { IfOk result (λ c. app_of c ≡ with_service (app_of command.entry)) }
-{
-    command
-        .arg(needed(alloc, "FILE").help("The scenario, as text or as an image"))?
-        .arg(port(alloc))?
-        .arg(seconds(alloc))
-}
-
-/// Adds the words for a part of the devices, and for where their ports are.
-fn with_places<'a>(alloc: Global, command: Command<'a>) -> Result<Command<'a>, AllocError>
-    ensures { IfOk result (λ c. app_of c ≡ with_places (app_of command.entry)) }
-{
-    command
-        .arg(text_option(alloc, "devices", "A-B").help("Only the devices from A to B"))?
-        .arg(bind(alloc))
-}
-
-fn port<'a>(alloc: Global) -> Arg<'a>
-    ensures rule { rule_of result ≡ needed_number (codes "PORT") 1 65535 }
-    ensures local { result.global ≡ false }
-{
-    Arg::new(alloc, "PORT")
-        .required(true)
-        .value_parser(value_parser!(u16).range(1..=65_535))
-        .help("The UDP port of the first device, 1 to 65535")
-}
-
-fn seconds<'a>(alloc: Global) -> Arg<'a>
-    ensures rule { rule_of result ≡ seconds }
-    ensures local { result.global ≡ false }
-{
-    Arg::new(alloc, "seconds")
-        .long("seconds")
-        .value_name("N")
-        .value_parser(value_parser!(u32).range(1..=4_294_967_295))
-        .default_value("86400")
-        .help("For how many seconds they go on, 1 to 4294967295")
-}
-
-fn bind<'a>(alloc: Global) -> Arg<'a>
-    ensures rule { rule_of result ≡ bind }
-    ensures local { result.global ≡ false }
-{
-    Arg::new(alloc, "bind")
-        .long("bind")
-        .value_name("ADDRESS")
-        .default_value("127.0.0.1")
-        .help("The IP address of the ports")
-}
-
 fn test_command<'a>(alloc: Global) -> Result<Command<'a>, AllocError>
     ensures { IfOk result (λ c. app_of c ≡ test_app) }
 {
@@ -450,21 +392,21 @@ fn optional_number<'a>(alloc: Global, name: &'a str) -> Arg<'a>
         .value_parser(value_parser!(u32))
 }
 
-fn flag<'a>(alloc: Global, name: &'a str) -> Arg<'a>
+pub(crate) fn flag<'a>(alloc: Global, name: &'a str) -> Arg<'a>
     ensures rule { rule_of result ≡ flag name.entry.now }
     ensures local { result.global ≡ false }
 {
     Arg::new(alloc, name).long(name).action(ArgAction::SetTrue)
 }
 
-fn text_option<'a>(alloc: Global, name: &'a str, value: &'a str) -> Arg<'a>
+pub(crate) fn text_option<'a>(alloc: Global, name: &'a str, value: &'a str) -> Arg<'a>
     ensures rule { rule_of result ≡ text_option name.entry.now }
     ensures local { result.global ≡ false }
 {
     Arg::new(alloc, name).long(name).value_name(value)
 }
 
-fn needed<'a>(alloc: Global, name: &'a str) -> Arg<'a>
+pub(crate) fn needed<'a>(alloc: Global, name: &'a str) -> Arg<'a>
     ensures rule { rule_of result ≡ needed name.entry.now }
     ensures local { result.global ≡ false }
 {

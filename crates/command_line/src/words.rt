@@ -4,12 +4,13 @@ ghost use Rattle.clap.specs.Words.{Row, Text as Word, all_of, first_of, found_of
 ghost use Rattle.clap.specs.Words.{subcommand_rows_of};
 ghost use Rattle.command_line.specs.declared.words.Asked.{Asked as AskedData};
 ghost use Rattle.command_line.specs.declared.words.Job.{Job as JobData};
-ghost use Rattle.command_line.specs.Words.{AsksFor, AsksForCaseForm, AsksForFleet, AsksForForm, AsksToLive};
+ghost use Rattle.command_line.specs.Words.{AsksFor, AsksForCaseForm, AsksForForm, AsksToLive};
 ghost use Rattle.command_line.specs.Words.{IsOptionalNumber, IsReadAs, MayAskFor, is_set};
 ghost use Rattle.command_line.specs.Inside.{ExcludesInTest, IsTakenAs, LacksFleet, LacksLive, LacksOne, LacksPlay};
 ghost use Rattle.command_line.specs.Inside.{LacksRun, LacksSay, LacksShow, LacksTest, WantsTwoCaseForms};
 ghost use Rattle.command_line.specs.Inside.{WantsTwoForms};
 
+use crate::fleet_words::{AskedFleet, fleet_of};
 use crate::subcommands::bench;
 use clap::error::ErrorKind;
 use clap::{ArgMatches, Error};
@@ -198,25 +199,6 @@ pub struct Live<'a> {
     pub show: bool,
 }
 
-/// The devices of a scenario, which receive the datagrams of the network, each at a port of its own, and answer them.
-#[derive(Clone, Copy)]
-pub struct AskedFleet<'a> {
-    /// The path of the scenario's text or image.
-    pub file: &'a str,
-    /// The UDP port of the first device; each device has the next one.
-    pub port: u16,
-    /// For how many seconds they go on.
-    pub seconds: u32,
-    /// Which rows have a device, as `A-B`; where it is not given, all have.
-    pub devices: Option<&'a str>,
-    /// The IP address of the ports.
-    pub bind: &'a str,
-    /// Where the image of what happened goes, if anywhere.
-    pub save: Option<&'a str>,
-    /// Whether the status tells that a datagram was dropped or lost.
-    pub strict: bool,
-}
-
 /// What the words ask for.
 #[derive(Drop)]
 pub enum Asked<'a> {
@@ -293,7 +275,7 @@ fn asked_in<'a>(
 {
     match name {
         "live" => Ok(live_asked(found)),
-        "fleet" => Ok(fleet_asked(found)),
+        "fleet" => fleet_asked(alloc, found),
         "say" => Ok(say_asked(found)),
         _ => match job_in(alloc, name, found)? {
             Some(job) => Ok(Some(Asked::Job(job))),
@@ -536,30 +518,18 @@ fn live_of<'a>(found: &ArgMatches<'a>) -> Option<Live<'a>>
     })
 }
 
-fn fleet_asked<'a>(found: &ArgMatches<'a>) -> Option<Asked<'a>>
-    ensures some { IfSome result (MayAskFor (codes "fleet", rows_of (found_of found.now))) }
-    ensures none { IfNone result (LacksFleet (rows_of (found_of found.now))) }
+fn fleet_asked<'a>(alloc: Global, found: &ArgMatches<'a>) -> Result<Option<Asked<'a>>, AllocError>
+    ensures some { IfOk result (λ o. IfSome o (MayAskFor (codes "fleet", rows_of (found_of found.now)))) }
+    ensures none { IfOk result (λ o. IfNone o (LacksFleet (rows_of (found_of found.now)))) }
 {
-    Some(Asked::Fleet(fleet_of(found)?))
-}
-
-fn fleet_of<'a>(found: &ArgMatches<'a>) -> Option<AskedFleet<'a>>
-    ensures some { IfSome result (AsksForFleet (codes "fleet", rows_of (found_of found.now))) }
-    ensures none { IfNone result (LacksFleet (rows_of (found_of found.now))) }
-{
-    Some(AskedFleet {
-        file: value_of(found, "FILE")?,
-        port: small_number(found, "PORT")?,
-        seconds: number(found, "seconds")?,
-        devices: value_of(found, "devices"),
-        bind: value_of(found, "bind")?,
-        save: value_of(found, "save"),
-        strict: flag(found, "strict"),
-    })
+    match fleet_of(alloc, found)? {
+        Some(fleet) => Ok(Some(Asked::Fleet(fleet))),
+        None => Ok(None),
+    }
 }
 
 /// The value of an argument.
-fn value_of<'a>(found: &ArgMatches<'a>, id: &str) -> Option<&'a str>
+pub(crate) fn value_of<'a>(found: &ArgMatches<'a>, id: &str) -> Option<&'a str>
     ensures { option_map (λ s. s.now) result ≡ first_of id.now (rows_of (found_of found.now)) }
 {
     found.get_str(id)
@@ -573,7 +543,7 @@ fn values_in<'b, 'a>(found: &'b ArgMatches<'a>, id: &str) -> Option<&'b [&'a str
 }
 
 /// A copy of these values.
-fn values_of<'a>(
+pub(crate) fn values_of<'a>(
     alloc: Global,
     found: &ArgMatches<'a>,
     id: &str,
@@ -592,21 +562,21 @@ fn values_of<'a>(
 }
 
 /// The value of an argument as a number of 16 bits, if there is one.
-fn small_number(found: &ArgMatches, id: &str) -> Option<u16>
+pub(crate) fn small_number(found: &ArgMatches, id: &str) -> Option<u16>
     ensures { IsOptionalNumber 16 (one_of id.now (rows_of (found_of found.now))) result }
 {
     found.get_one::<u16>(id)
 }
 
 /// The value of an argument as a number of 32 bits, if there is one.
-fn number(found: &ArgMatches, id: &str) -> Option<u32>
+pub(crate) fn number(found: &ArgMatches, id: &str) -> Option<u32>
     ensures { IsOptionalNumber 32 (one_of id.now (rows_of (found_of found.now))) result }
 {
     found.get_one::<u32>(id)
 }
 
 /// Whether a flag is given.
-fn flag(found: &ArgMatches, id: &str) -> bool
+pub(crate) fn flag(found: &ArgMatches, id: &str) -> bool
     ensures { is_set id.now (rows_of (found_of found.now)) ≡ result }
 {
     match value_of(found, id) {

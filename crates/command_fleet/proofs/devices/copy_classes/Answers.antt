@@ -1,4 +1,4 @@
-use Rattle.std.proofs.Common.{◌≡◌, ◌∷◌, [], ◌++◌, take, sym, ap, ◌∙◌}
+use Rattle.std.proofs.Common.{◌∷◌, [], ◌++◌, take, sym, ap, ◌∙◌}
 use Rattle.lemmas.proofs.Lists.{take_one_more}
 use Rattle.scenario_image.specs.Scenario.{Scenario}
 use Rattle.command_fleet.proofs.devices.copy_classes.Goals as goal

@@ -1,4 +1,4 @@
-use Rattle.std.proofs.Common.{◌≡◌, ap, ◌∙◌}
+use Rattle.std.proofs.Common.{ap, ◌∙◌}
 use Rattle.scenario_image.specs.Scenario.{Scenario}
 use Rattle.command_fleet.proofs.Parts.{rows_more}
 use Rattle.command_fleet.proofs.devices.part_of.Goals as goal

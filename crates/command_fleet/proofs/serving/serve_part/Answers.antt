@@ -1,4 +1,3 @@
-use Rattle.std.proofs.Common.{refl, rules}
 use Rattle.command_fleet.proofs.Parts.{ended_at}
 use Rattle.command_fleet.proofs.Sessions.{none_asked}
 use Rattle.command_fleet.proofs.serving.serve_part.Goals as goal

@@ -1,8 +1,8 @@
 use Rattle.std.proofs.Common.{None, refl, rules}
 use Rattle.std.proofs.lemmas.Result.{err_from_is_err_and}
-use Rattle.command_files.specs.World.{FilesKnown, StreamFaults, Streams, World}
+use Rattle.command_files.specs.World.{FilesKnown, StreamFaults, Streams}
 use Rattle.command_fleet.specs.Fleet.{Session}
-use Rattle.command_fleet.proofs.Sessions.{done_if, ready, ready_untold, served, session_cut, session_lost_if}
+use Rattle.command_fleet.proofs.Sessions.{done_if, fixed_as, ready, ready_untold, served, session_cut, session_lost_if}
 use Rattle.command_fleet.proofs.session.fleet.Goals as goal
 
 pub returns-clause-done : goal.returns-clause-done
@@ -23,8 +23,11 @@ returns-clause-done g c =
       errors = g.E.Output.taken c.tell_ready.new.errors;
     } in
     let were_ready = ready files before.errors (g.E.Output.taken c.tell_ready.new.errors) c.args.asked
-    c.in_ok-scenario.scenario c.in_ok-part.part c.in-Some.devices c.in_ok-place.place c.rows.result
-    c.in_ok-scenario.ensures.found c.in-Some.ensures.chosen c.in_ok-part.ensures.part c.in_ok-place.ensures.place
+    c.in_ok-scenario.scenario c.in_ok-part.part c.in-Some.devices c.in_ok-servers.servers.items c.in_ok-place.place
+    c.rows.result
+    c.in_ok-scenario.ensures.found c.in-Some.ensures.chosen
+    (fixed_as _ _ _ _ c.as_slice.ensures.value c.in_ok-servers.ensures.servers) c.in_ok-part.ensures.part
+    c.in_ok-place.ensures.place
     c.rows.ensures.count c.in_ok-tell_ready.ensures.told in
     let session : Session = record {
       slots = c.in_ok-fleet.fleet.slots.items;
@@ -60,8 +63,11 @@ returns-in_err-tell_ready-clause-refused g c =
       errors = g.E.Output.taken c.tell_ready.new.errors;
     } in
     let h = ready_untold files faults before after c.args.asked c.in_ok-scenario.scenario c.in_ok-part.part
-    c.in-Some.devices c.in_ok-place.place c.rows.result c.in_err-tell_ready.field-0.0.fault
-    c.in_ok-scenario.ensures.found c.in-Some.ensures.chosen c.in_ok-part.ensures.part c.in_ok-place.ensures.place
+    c.in-Some.devices c.in_ok-servers.servers.items c.in_ok-place.place c.rows.result
+    c.in_err-tell_ready.field-0.0.fault
+    c.in_ok-scenario.ensures.found c.in-Some.ensures.chosen
+    (fixed_as _ _ _ _ c.as_slice.ensures.value c.in_ok-servers.ensures.servers) c.in_ok-part.ensures.part
+    c.in_ok-place.ensures.place
     c.rows.ensures.count c.in_err-tell_ready.ensures.refused refl in
     let r = c.from_residual-in_err-tell_ready in
     let p = err_from_is_err_and r.result r.ensures.1 in
@@ -90,8 +96,11 @@ returns-in_err-fleet-clause-refused g c =
       errors = g.E.Output.taken c.tell_ready.new.errors;
     } in
     let were_ready = ready files before.errors (g.E.Output.taken c.tell_ready.new.errors) c.args.asked
-    c.in_ok-scenario.scenario c.in_ok-part.part c.in-Some.devices c.in_ok-place.place c.rows.result
-    c.in_ok-scenario.ensures.found c.in-Some.ensures.chosen c.in_ok-part.ensures.part c.in_ok-place.ensures.place
+    c.in_ok-scenario.scenario c.in_ok-part.part c.in-Some.devices c.in_ok-servers.servers.items c.in_ok-place.place
+    c.rows.result
+    c.in_ok-scenario.ensures.found c.in-Some.ensures.chosen
+    (fixed_as _ _ _ _ c.as_slice.ensures.value c.in_ok-servers.ensures.servers) c.in_ok-part.ensures.part
+    c.in_ok-place.ensures.place
     c.rows.ensures.count c.in_ok-tell_ready.ensures.told in
     let h = session_cut files faults before after c.args.asked c.in_ok-part.part c.in_err-fleet.field-0.0 were_ready
     c.in_err-fleet.ensures.refused refl in
@@ -120,8 +129,11 @@ returns-clause-refused g c =
       errors = g.E.Output.taken c.tell_ready.new.errors;
     } in
     let were_ready = ready files before.errors (g.E.Output.taken c.tell_ready.new.errors) c.args.asked
-    c.in_ok-scenario.scenario c.in_ok-part.part c.in-Some.devices c.in_ok-place.place c.rows.result
-    c.in_ok-scenario.ensures.found c.in-Some.ensures.chosen c.in_ok-part.ensures.part c.in_ok-place.ensures.place
+    c.in_ok-scenario.scenario c.in_ok-part.part c.in-Some.devices c.in_ok-servers.servers.items c.in_ok-place.place
+    c.rows.result
+    c.in_ok-scenario.ensures.found c.in-Some.ensures.chosen
+    (fixed_as _ _ _ _ c.as_slice.ensures.value c.in_ok-servers.ensures.servers) c.in_ok-part.ensures.part
+    c.in_ok-place.ensures.place
     c.rows.ensures.count c.in_ok-tell_ready.ensures.told in
     let session : Session = record {
       slots = c.in_ok-fleet.fleet.slots.items;

@@ -1,0 +1,14 @@
+use Rattle.std.proofs.Common.{arith}
+use Rattle.command_fleet.proofs.Fixed.{if_none, no_account, nowhere}
+use Rattle.command_fleet.proofs.servers.server_of.Goals as goal
+
+pub returns-in_err-number_of-clause-none : goal.returns-in_err-number_of-clause-none
+returns-in_err-number_of-clause-none c =
+    let parts = c.in_ok-account.ensures.byte (omega arith) (λ w o h. h) in
+    if_none c.from_residual-in_err-number_of.result _
+    (no_account c.args.word.now c.in_ok-account.account.now parts.0 c.in_err-number_of.ensures)
+
+pub returns-clause-none : goal.returns-clause-none
+returns-clause-none c =
+    let parts = c.in_ok-account.ensures.byte (omega arith) (λ w o h. h) in
+    nowhere c.args.word.now c.in_ok-account.place.now c.server_at.result parts.1 c.server_at.ensures.none

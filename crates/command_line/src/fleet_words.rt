@@ -1,0 +1,75 @@
+//! What the words of `fleet` ask for.
+ghost use Rattle.std.specs.Prelude.{◌≡◌, [], codes, map, unwrap_or, IfNone, IfOk, IfSome};
+ghost use Rattle.clap.specs.Words.{all_of, found_of, rows_of};
+ghost use Rattle.command_line.specs.Words.{AsksForFleet};
+ghost use Rattle.command_line.specs.Inside.{LacksFleet};
+
+use crate::words::{flag, number, small_number, value_of, values_of};
+use clap::ArgMatches;
+use std::alloc::{AllocError, Global};
+
+/// The devices of a scenario, which receive the datagrams of the network, each at a port of its own, and answer them.
+#[derive(Drop)]
+pub struct AskedFleet<'a> {
+    /// The path of the scenario's text or image.
+    pub file: &'a str,
+    /// The UDP port of the first device; each device has the next one.
+    pub port: u16,
+    /// For how many seconds they go on.
+    pub seconds: u32,
+    /// Which rows have a device, as `A-B`; where it is not given, all have.
+    pub devices: Option<&'a str>,
+    /// The IP address of the ports.
+    pub bind: &'a str,
+    /// Where servers are, each as `S=ADDRESS` or `S=ADDRESS:PORT`.
+    pub servers: Vec<&'a str>,
+    /// Where the image of what happened goes, if anywhere.
+    pub save: Option<&'a str>,
+    /// Whether the status tells that a datagram was dropped or lost.
+    pub strict: bool,
+}
+
+/// The values of an argument that may stand several times, and need not stand at all.
+fn values_if<'a>(
+    alloc: Global,
+    found: &ArgMatches<'a>,
+    id: &str,
+) -> Result<Vec<&'a str>, AllocError>
+    ensures { IfOk result (λ v. unwrap_or (all_of id.now (rows_of (found_of found.now))) []
+        ≡ map (λ w. w.now) v.items) }
+{
+    match values_of(alloc, found, id)? {
+        Some(values) => Ok(values),
+        None => Ok(Vec::new(alloc)),
+    }
+}
+
+/// The devices that the words of `fleet` ask for, where their servers are these.
+fn fleet_with<'a>(found: &ArgMatches<'a>, servers: Vec<&'a str>) -> Option<AskedFleet<'a>>
+    requires { unwrap_or (all_of (codes "server") (rows_of (found_of found.now))) [] ≡ map (λ w. w.now) servers.items }
+    ensures some { IfSome result (AsksForFleet (codes "fleet", rows_of (found_of found.now))) }
+    ensures none { IfNone result (LacksFleet (rows_of (found_of found.now))) }
+{
+    Some(AskedFleet {
+        file: value_of(found, "FILE")?,
+        port: small_number(found, "PORT")?,
+        seconds: number(found, "seconds")?,
+        devices: value_of(found, "devices"),
+        bind: value_of(found, "bind")?,
+        servers,
+        save: value_of(found, "save"),
+        strict: flag(found, "strict"),
+    })
+}
+
+/// The devices that the words of `fleet` ask for.
+pub(crate) fn fleet_of<'a>(
+    alloc: Global,
+    found: &ArgMatches<'a>,
+) -> Result<Option<AskedFleet<'a>>, AllocError>
+    ensures some { IfOk result (λ o. IfSome o (AsksForFleet (codes "fleet", rows_of (found_of found.now)))) }
+    ensures none { IfOk result (λ o. IfNone o (LacksFleet (rows_of (found_of found.now)))) }
+{
+    let servers = values_if(alloc, found, "server")?;
+    Ok(fleet_with(found, servers))
+}
