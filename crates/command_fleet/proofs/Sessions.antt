@@ -222,7 +222,7 @@ endless rb ra ab aa first now h = record {
 }
 
 pub served : (s : Scenario) (seconds : ℕ) (session : Session) (before after : ℕ → Option Traffic)
-    (rb ra ab aa : Option (List ℕ)) (first : Option ℕ) → IsFleet s before session.slots session.second false after
+    (rb ra ab aa : Option (List ℕ)) (first : Option ℕ) → IsFleet s false before session.slots session.second false after
     → AreAt session.slots (length session.slots) session.second
     → (seconds ≤ session.second) ⊎ AreAsked rb ra ab aa first session.second 18446744073709551615
     → IsServed s seconds session

@@ -52,7 +52,7 @@ pub record IsEndless (second : ℕ) : Type 0 where
 pub record IsServed (s : Scenario) (seconds : ℕ) (session : Session) : Type 0 where
   pub before : ℕ → Option Traffic
   pub after : ℕ → Option Traffic
-  pub fleet : IsFleet s before session.slots session.second false after
+  pub fleet : IsFleet s false before session.slots session.second false after
   pub finished : AreAt session.slots (length session.slots) session.second
   pub ended : (seconds ≤ session.second) ⊎ IsEndless session.second
 

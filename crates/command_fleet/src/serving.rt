@@ -29,7 +29,7 @@ pub fn serve_part<P: Ports, C: Seconds>(
     seconds: u32,
     saved: bool,
 ) -> Result<Fleet, Fault>
-    ensures fleet { IfOk result (λ fleet. IsFleet part.now (P.told ports.old) fleet.slots.items fleet.second false
+    ensures fleet { IfOk result (λ fleet. IsFleet part.now false (P.told ports.old) fleet.slots.items fleet.second false
         (P.told ports.new)) }
     ensures finished { IfOk result (λ fleet. AreAt fleet.slots.items (length fleet.slots.items) fleet.second) }
     ensures ended { IfOk result (λ fleet. (seconds ≤ fleet.second) ⊎ AreAsked (C.read clock.old) (C.read clock.new)

@@ -5,16 +5,17 @@ use Rattle.std.proofs.Math.ListN.{length-set}
 use Rattle.std.proofs.lemmas.Bool.{cases_eq}
 use Rattle.std.proofs.lemmas.Option.{slice_get_read, slice_get_within}
 use Rattle.std.specs.List.{slice_set}
-use Rattle.std.specs.Option.{IfSome}
 use Rattle.std.specs.Result.{is_err, IsErr}
 use Rattle.device_template.specs.Template.{Template}
+use Rattle.scenario_image.specs.declared.step.Step.{Step}
 use Rattle.scenario_image.specs.Scenario.{Scenario}
 use Rattle.fleet_link.specs.declared.fleet.Fleet.{Fleet}
 use Rattle.fleet_link.specs.declared.ports.Receipt.{Receipt}
 use Rattle.fleet_link.specs.declared.slot.Slot.{Slot}
-use Rattle.fleet_link.specs.Serving.{AreAt, AreSwept, IsFleet, IsRowServed, IsServed}
+use Rattle.fleet_link.specs.Playing.{played_steps, row_state, IsLaterThan}
+use Rattle.fleet_link.specs.Serving.{AreAt, AreSwept, IsFleet, IsRowServed, IsServed, IsSweptAt}
 use Rattle.fleet_link.specs.Traffic.{Carries, Traffic, at_port, failed_once, no_traffic, traffic_of_receipt}
-use Rattle.fleet_link.proofs.Served.{due_after, served_on}
+use Rattle.fleet_link.proofs.Served.{served_on, swept_after}
 use Rattle.fleet_link.proofs.Told.{at_port_other, at_port_same, carries_none, carries_on, carries_same}
 
 -- ---- lists
@@ -54,41 +55,46 @@ each_set P xs more place new is here others e x got = at (cases_eq place e)
 
 -- ---- a fleet
 
-served_row : (s : Scenario) (e : ℕ) (before between after : Option Traffic) (slot new : Slot) (broken : Bool)
-    → IsRowServed s e before slot false between
-    → ((class : Template) → IsServed class before slot false between → IsServed class before new broken after)
-    → IsRowServed s e before new broken after
-served_row s e before between after slot new broken h f =
-    record { class = h.class; steps = h.steps; row = h.row; served = f h.class h.served }
+served_row : (s : Scenario) (played : Bool) (e : ℕ) (before between after : Option Traffic) (slot new : Slot)
+    (broken : Bool)
+    → IsRowServed s played e before slot false between
+    → ((class : Template) (own : List Step) → IsServed class own before slot false between
+    → IsServed class own before new broken after)
+    → IsRowServed s played e before new broken after
+served_row s played e before between after slot new broken h f =
+    record { class = h.class; steps = h.steps; row = h.row; served = f h.class (played_steps played h.steps) h.served }
 
 -- one device went on, nothing went through the ports of the others
-pub one_served : (s : Scenario) (before between after : ℕ → Option Traffic) (slots more : List Slot) (now : ℕ)
-    (broken : Bool) (place : ℕ) (slot new : Slot) → IsFleet s before slots now false between
+pub one_served : (s : Scenario) (played : Bool) (before between after : ℕ → Option Traffic) (slots more : List Slot)
+    (now : ℕ)
+    (broken : Bool) (place : ℕ) (slot new : Slot) → IsFleet s played before slots now false between
     → slice_get slots place ≡ Some slot → more ≡ slice_set slots place new
-    → ((class : Template) → IsServed class (before place) slot false (between place)
-    → IsServed class (before place) new broken (after place))
+    → ((class : Template) (own : List Step) → IsServed class own (before place) slot false (between place)
+    → IsServed class own (before place) new broken (after place))
     → ((e : ℕ) → (e ≡ place → ⊥) → Carries (between e) (after e) no_traffic) → new.second ≤ now
-    → IsFleet s before more now broken after
-one_served s before between after slots more now broken place slot new h at is here others early =
+    → IsFleet s played before more now broken after
+one_served s played before between after slots more now broken place slot new h at is here others early =
     record {
       count = ap length is ∙ length-set slots place new ∙ h.count;
-      each = each_set (λ e x. IsRowServed s e (before e) x broken (after e)) slots more place new is
-          (served_row s place (before place) (between place) (after place) slot new broken (h.each place slot at) here)
-          (λ e x o got. served_row s e (before e) (between e) (after e) x x broken (h.each e x got)
-          (λ class k. served_on class (before e) x broken (between e) (after e) k (others e o)));
+      each = each_set (λ e x. IsRowServed s played e (before e) x broken (after e)) slots more place new is
+          (served_row s played place (before place) (between place) (after place) slot new broken
+          (h.each place slot at) here)
+          (λ e x o got. served_row s played e (before e) (between e) (after e) x x broken (h.each e x got)
+          (λ class own k. served_on class own (before e) x broken (between e) (after e) k (others e o)));
       early = each_set (λ e x. x.second ≤ now) slots more place new is early (λ e x o got. h.early e x got);
     }
 
 -- nothing went through the port of any device
-pub none_served : (s : Scenario) (before between after : ℕ → Option Traffic) (slots : List Slot) (now later : ℕ)
-    (broken : Bool) → IsFleet s before slots now false between
+pub none_served : (s : Scenario) (played : Bool) (before between after : ℕ → Option Traffic) (slots : List Slot)
+    (now later : ℕ)
+    (broken : Bool) → IsFleet s played before slots now false between
     → ((e : ℕ) → e < length slots → Carries (between e) (after e) no_traffic) → now ≤ later
-    → IsFleet s before slots later broken after
-none_served s before between after slots now later broken h none le =
+    → IsFleet s played before slots later broken after
+none_served s played before between after slots now later broken h none le =
     record {
       count = h.count;
-      each = λ e x got. served_row s e (before e) (between e) (after e) x x broken (h.each e x got)
-          (λ class k. served_on class (before e) x broken (between e) (after e) k
+      each = λ e x got. served_row s played e (before e) (between e) (after e) x x broken (h.each e x got)
+          (λ class own k. served_on class own (before e) x broken (between e) (after e) k
           (none e (slice_get_within slots e x got)));
       early = λ e x got. let k : x.second ≤ now = h.early e x got in omega arith;
     }
@@ -96,16 +102,16 @@ none_served s before between after slots now later broken h none le =
 -- ---- which are due
 
 pub swept_set : (slots more : List Slot) (n second place : ℕ) (new : Slot) → more ≡ slice_set slots place new
-    → AreSwept slots n second → (new.end ≡ None → IfSome new.due (λ d. second < d)) → AreSwept more n second
+    → AreSwept slots n second → (new.end ≡ None → IsSweptAt new second) → AreSwept more n second
 swept_set slots more n second place new is h here =
-    λ e x l got. each_set (λ i y. i < n → y.end ≡ None → IfSome y.due (λ d. second < d)) slots more place new is
+    λ e x l got. each_set (λ i y. i < n → y.end ≡ None → IsSweptAt y second) slots more place new is
     (λ _. here) (λ i y o at k. h i y k at) e x got l
 
 pub swept_next : (slots more : List Slot) (second place : ℕ) (new : Slot) → more ≡ slice_set slots place new
-    → AreSwept slots place second → (new.end ≡ None → IfSome new.due (λ d. second < d))
+    → AreSwept slots place second → (new.end ≡ None → IsSweptAt new second)
     → AreSwept more (place + 1) second
 swept_next slots more second place new is h here =
-    λ e x l got. each_set (λ i y. i < place + 1 → y.end ≡ None → IfSome y.due (λ d. second < d)) slots more place new is
+    λ e x l got. each_set (λ i y. i < place + 1 → y.end ≡ None → IsSweptAt y second) slots more place new is
     (λ _. here) (λ i y o at k. h i y (below i o k) at) e x got l
   where
     below : (i : ℕ) → (i ≡ place → ⊥) → i < place + 1 → i < place
@@ -122,27 +128,29 @@ at_next slots more second place new is h here =
 
 -- ---- ports that fail
 
-pub failed_at : (s : Scenario) (before between after : ℕ → Option Traffic) (slots : List Slot) (now : ℕ)
-    (device : ℕ) (slot new : Slot) → IsFleet s before slots now false between
+pub failed_at : (s : Scenario) (played : Bool) (before between after : ℕ → Option Traffic) (slots : List Slot) (now : ℕ)
+    (device : ℕ) (slot new : Slot) → IsFleet s played before slots now false between
     → ((e : ℕ) → Carries (between e) (after e) (at_port device e failed_once))
     → slice_get slots device ≡ Some slot
-    → ((class : Template) (b x y : Option Traffic) → IsServed class b slot false x → Carries x y failed_once
-    → IsServed class b new false y) → new.second ≡ slot.second
-    → IsFleet s before (slice_set slots device new) now false after
-failed_at s before between after slots now device slot new h went at served second =
+    → ((class : Template) (own : List Step) (b x y : Option Traffic) → IsServed class own b slot false x
+    → Carries x y failed_once
+    → IsServed class own b new false y) → new.second ≡ slot.second
+    → IsFleet s played before (slice_set slots device new) now false after
+failed_at s played before between after slots now device slot new h went at served second =
     let le : slot.second ≤ now = h.early device slot at in
-    one_served s before between after slots (slice_set slots device new) now false device slot new h at refl
-    (λ class k. served class (before device) (between device) (after device) k
+    one_served s played before between after slots (slice_set slots device new) now false device slot new h at refl
+    (λ class own k. served class own (before device) (between device) (after device) k
     (carries_same (between device) (after device) _ _ (went device) (at_port_same device failed_once)))
     (λ e o. carries_same (between e) (after e) _ _ (went e) (at_port_other device e failed_once o)) (omega arith)
 
 -- what went through a port past those of the devices has no part in it
-pub beyond : (s : Scenario) (before between after : ℕ → Option Traffic) (slots : List Slot) (now device : ℕ)
-    (broken : Bool) (more : Traffic) → IsFleet s before slots now false between
+pub beyond : (s : Scenario) (played : Bool) (before between after : ℕ → Option Traffic) (slots : List Slot)
+    (now device : ℕ)
+    (broken : Bool) (more : Traffic) → IsFleet s played before slots now false between
     → ((e : ℕ) → Carries (between e) (after e) (at_port device e more)) → length slots ≤ device
-    → IsFleet s before slots now broken after
-beyond s before between after slots now device broken more h went past =
-    none_served s before between after slots now now broken h
+    → IsFleet s played before slots now broken after
+beyond s played before between after slots now device broken more h went past =
+    none_served s played before between after slots now now broken h
     (λ e l. carries_same (between e) (after e) _ _ (went e) (at_port_other device e more (below e l))) (omega arith)
   where
     below : (e : ℕ) → e < length slots → e ≡ device → ⊥
@@ -151,38 +159,46 @@ beyond s before between after slots now device broken more h went past =
 -- ---- a device that goes on
 
 -- something went through its port, and then it went on
-pub gone_on : (s : Scenario) (before between mid after : ℕ → Option Traffic) (slots : List Slot) (now place : ℕ)
-    (broken : Bool) (more : Traffic) (slot new : Slot) → IsFleet s before slots now false between
+pub gone_on : (s : Scenario) (played : Bool) (before between mid after : ℕ → Option Traffic) (slots : List Slot)
+    (now place : ℕ)
+    (broken : Bool) (more : Traffic) (slot new : Slot) → IsFleet s played before slots now false between
     → ((e : ℕ) → Carries (between e) (mid e) (at_port place e more)) → slice_get slots place ≡ Some slot
-    → ((class : Template) (b x : Option Traffic) → IsServed class b slot false x → Carries x (mid place) more
-    → slot.second ≤ now → IsServed class b new broken (after place))
+    → ((class : Template) (own : List Step) (b x : Option Traffic) → IsServed class own b slot false x
+    → Carries x (mid place) more
+    → slot.second ≤ now → IsServed class own b new broken (after place))
     → ((e : ℕ) → (e ≡ place → ⊥) → Carries (mid e) (after e) no_traffic)
     → ((most : ℕ) → slot.second ≤ most → now ≤ most → new.second ≤ most)
-    → IsFleet s before (slice_set slots place new) now broken after
-gone_on s before between mid after slots now place broken more slot new h went at served others most =
+    → IsFleet s played before (slice_set slots place new) now broken after
+gone_on s played before between mid after slots now place broken more slot new h went at served others most =
     let early : slot.second ≤ now = h.early place slot at in
-    one_served s before between after slots (slice_set slots place new) now broken place slot new h at refl
-    (λ class k. served class (before place) (between place) k
+    one_served s played before between after slots (slice_set slots place new) now broken place slot new h at refl
+    (λ class own k. served class own (before place) (between place) k
     (carries_same (between place) (mid place) _ _ (went place) (at_port_same place more)) early)
     (λ e o. carries_on (between e) (mid e) (after e) no_traffic
     (carries_same (between e) (mid e) _ _ (went e) (at_port_other place e more o)) (others e o))
     (most now early (omega arith))
 
 -- when it is due then
-pub gone_due : (s : Scenario) (before between mid after : ℕ → Option Traffic) (slots : List Slot) (now place : ℕ)
-    (broken : Bool) (more : Traffic) (slot new : Slot) → IsFleet s before slots now false between
+pub gone_due : (s : Scenario) (played : Bool) (before between mid after : ℕ → Option Traffic) (slots : List Slot)
+    (now place : ℕ)
+    (broken : Bool) (more : Traffic) (slot new : Slot) → IsFleet s played before slots now false between
     → ((e : ℕ) → Carries (between e) (mid e) (at_port place e more)) → slice_get slots place ≡ Some slot
-    → ((class : Template) (b x : Option Traffic) → IsServed class b slot false x → Carries x (mid place) more
-    → slot.second ≤ now → IsServed class b new broken (after place))
-    → (slot.second ≤ now → new.end ≡ None → new.second ≡ now) → (n second : ℕ) → second ≤ now → AreSwept slots n second
+    → ((class : Template) (own : List Step) (b x : Option Traffic) → IsServed class own b slot false x
+    → Carries x (mid place) more
+    → slot.second ≤ now → IsServed class own b new broken (after place))
+    → (slot.second ≤ now → new.end ≡ None → new.second ≡ now)
+    → (new.end ≡ None → IsLaterThan now (row_state new.row)) → (n second : ℕ) → second ≤ now → AreSwept slots n second
     → AreSwept (slice_set slots place new) n second
-gone_due s before between mid after slots now place broken more slot new h went at served reached n second le swept =
+gone_due s played before between mid after slots now place broken more slot new h went at served reached later n
+    second le swept =
     let early : slot.second ≤ now = h.early place slot at in
     let row = h.each place slot at in
-    let k = served row.class (before place) (between place) row.served
+    let own = played_steps played row.steps in
+    let k = served row.class own (before place) (between place) row.served
     (carries_same (between place) (mid place) _ _ (went place) (at_port_same place more)) early in
     swept_set slots (slice_set slots place new) n second place new refl swept
-    (λ e. due_after row.class (before place) new broken (after place) now second k e (reached early e) le)
+    (λ e. swept_after row.class own (before place) new broken (after place) now second k e (reached early e) (later e)
+    le)
 
 -- ---- a reading of the clock
 
@@ -190,12 +206,14 @@ pub errs : {T E : Type 0} (r : Result T E) → IsErr r → true ≡ is_err r
 errs r h = sym h
 
 -- the second of the session is set on
-pub passed : (s : Scenario) (before after : ℕ → Option Traffic) (old new : Fleet) (n : ℕ)
-    → IsFleet s before old.slots.items old.second false after → new.second ≡ max old.second n → new.slots ≡ old.slots
-    → IsFleet s before new.slots.items new.second false after
-passed s before after old new n h second slots =
-    subst (λ x. IsFleet s before x.items new.second false after) (sym slots)
-    (none_served s before after after old.slots.items old.second new.second false h (λ e l. carries_none (after e))
+pub passed : (s : Scenario) (played : Bool) (before after : ℕ → Option Traffic) (old new : Fleet) (n : ℕ)
+    → IsFleet s played before old.slots.items old.second false after → new.second ≡ max old.second n
+    → new.slots ≡ old.slots
+    → IsFleet s played before new.slots.items new.second false after
+passed s played before after old new n h second slots =
+    subst (λ x. IsFleet s played before x.items new.second false after) (sym slots)
+    (none_served s played before after after old.slots.items old.second new.second false h
+    (λ e l. carries_none (after e))
     (omega (arith, second)))
 
 pub swept_same : (old new : Fleet) (n second : ℕ) → new.slots ≡ old.slots → AreSwept old.slots.items n second
@@ -203,16 +221,18 @@ pub swept_same : (old new : Fleet) (n second : ℕ) → new.slots ≡ old.slots 
 swept_same old new n second slots h = subst (λ x. AreSwept x.items n second) (sym slots) h
 
 -- the ports did nothing for any device
-pub still_served : (s : Scenario) (before between after : ℕ → Option Traffic) (slots : List Slot) (now : ℕ)
-    (broken : Bool) → IsFleet s before slots now false between
-    → ((e : ℕ) → Carries (between e) (after e) no_traffic) → IsFleet s before slots now broken after
-still_served s before between after slots now broken h none =
-    none_served s before between after slots now now broken h (λ e l. none e) (omega arith)
+pub still_served : (s : Scenario) (played : Bool) (before between after : ℕ → Option Traffic) (slots : List Slot)
+    (now : ℕ)
+    (broken : Bool) → IsFleet s played before slots now false between
+    → ((e : ℕ) → Carries (between e) (after e) no_traffic) → IsFleet s played before slots now broken after
+still_served s played before between after slots now broken h none =
+    none_served s played before between after slots now now broken h (λ e l. none e) (omega arith)
 
 -- a session that is broken off may have been whole
-pub breaks : (s : Scenario) (before after : ℕ → Option Traffic) (slots : List Slot) (now : ℕ) (broken other : Bool)
-    → broken ≡ other → IsFleet s before slots now broken after → IsFleet s before slots now other after
-breaks s before after slots now broken other e h = subst (λ b. IsFleet s before slots now b after) e h
+pub breaks : (s : Scenario) (played : Bool) (before after : ℕ → Option Traffic) (slots : List Slot) (now : ℕ)
+    (broken other : Bool)
+    → broken ≡ other → IsFleet s played before slots now broken after → IsFleet s played before slots now other after
+breaks s played before after slots now broken other e h = subst (λ b. IsFleet s played before slots now b after) e h
 
 -- ---- receipts
 
@@ -229,30 +249,35 @@ pub stand_at : (slots : List Slot) (n m second : ℕ) → n ≡ m → AreAt slot
 stand_at slots n m second e h = subst (λ k. AreAt slots k second) e h
 
 -- the device at this place was brought to a second, or was not due
-pub next_served : (s : Scenario) (before between after : ℕ → Option Traffic) (slots : List Slot) (now place to : ℕ)
-    (broken : Bool) (slot new : Slot) → IsFleet s before slots now false between → slice_get slots place ≡ Some slot
-    → ((class : Template) (b : Option Traffic) → IsServed class b slot false (between place)
-    → IsServed class b new broken (after place))
+pub next_served : (s : Scenario) (played : Bool) (before between after : ℕ → Option Traffic) (slots : List Slot)
+    (now place to : ℕ)
+    (broken : Bool) (slot new : Slot) → IsFleet s played before slots now false between → slice_get slots place ≡ Some
+    slot
+    → ((class : Template) (own : List Step) (b : Option Traffic) → IsServed class own b slot false (between place)
+    → IsServed class own b new broken (after place))
     → ((e : ℕ) → (e ≡ place → ⊥) → Carries (between e) (after e) no_traffic)
     → ((most : ℕ) → slot.second ≤ most → to ≤ most → new.second ≤ most) → to ≤ now
-    → IsFleet s before (slice_set slots place new) now broken after
-next_served s before between after slots now place to broken slot new h at served others most le =
-    one_served s before between after slots (slice_set slots place new) now broken place slot new h at refl
-    (λ class k. served class (before place) k) others (most now (h.early place slot at) le)
+    → IsFleet s played before (slice_set slots place new) now broken after
+next_served s played before between after slots now place to broken slot new h at served others most le =
+    one_served s played before between after slots (slice_set slots place new) now broken place slot new h at refl
+    (λ class own k. served class own (before place) k) others (most now (h.early place slot at) le)
 
-pub next_swept : (s : Scenario) (before between : ℕ → Option Traffic) (slots : List Slot) (now place to : ℕ)
-    (slot new : Slot) → IsFleet s before slots now false between → slice_get slots place ≡ Some slot
-    → ((class : Template) (b : Option Traffic) → IsServed class b slot false (between place) → new.end ≡ None
-    → IfSome new.due (λ d. to < d)) → AreSwept slots place to → AreSwept (slice_set slots place new) (place + 1) to
-next_swept s before between slots now place to slot new h at due swept =
+pub next_swept : (s : Scenario) (played : Bool) (before between : ℕ → Option Traffic) (slots : List Slot)
+    (now place to : ℕ)
+    (slot new : Slot) → IsFleet s played before slots now false between → slice_get slots place ≡ Some slot
+    → ((class : Template) (own : List Step) (b : Option Traffic) → IsServed class own b slot false (between place)
+    → new.end ≡ None
+    → IsSweptAt new to) → AreSwept slots place to → AreSwept (slice_set slots place new) (place + 1) to
+next_swept s played before between slots now place to slot new h at due swept =
     let row = h.each place slot at in
-    swept_next slots (slice_set slots place new) to place new refl swept (due row.class (before place) row.served)
+    swept_next slots (slice_set slots place new) to place new refl swept (due row.class
+    (played_steps played row.steps) (before place) row.served)
 
-pub next_at : (s : Scenario) (before between : ℕ → Option Traffic) (slots : List Slot) (now place : ℕ)
-    (slot new : Slot) → IsFleet s before slots now false between → slice_get slots place ≡ Some slot
+pub next_at : (s : Scenario) (played : Bool) (before between : ℕ → Option Traffic) (slots : List Slot) (now place : ℕ)
+    (slot new : Slot) → IsFleet s played before slots now false between → slice_get slots place ≡ Some slot
     → (slot.second ≤ now → new.end ≡ None → new.second ≡ now) → AreAt slots place now
     → AreAt (slice_set slots place new) (place + 1) now
-next_at s before between slots now place slot new h at reached stand =
+next_at s played before between slots now place slot new h at reached stand =
     at_next slots (slice_set slots place new) now place new refl stand (reached (h.early place slot at))
 
 pub always : {T E P : Type 0} (r : Result T E) → P → OnOk r P

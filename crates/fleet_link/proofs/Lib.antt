@@ -1,5 +1,6 @@
 pub mod Told
 pub mod Served
+pub mod Stepped
 pub mod Fleets
 pub mod Seconds
 pub mod Started

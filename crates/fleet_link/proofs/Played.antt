@@ -8,6 +8,7 @@ use Rattle.std.proofs.lemmas.Grind.{flat_map-append}
 use Rattle.std.proofs.lemmas.List.{map-append, take_all}
 use Rattle.std.proofs.lemmas.List.Elements.{filter-append}
 use Rattle.lemmas.proofs.Lists.{each_at, item_at, take_none, take_one_more}
+use Rattle.device_machine.specs.declared.event.Event.TheVariants.{Recv, Put, Firmware, Tick}
 use Rattle.device_machine.specs.declared.output.Output.{Output}
 use Rattle.device_machine.specs.State.{Machine}
 use Rattle.device_template.specs.Template.{Template}
@@ -26,6 +27,7 @@ use Rattle.scenario_image.specs.Scenario.{Scenario}
 use Rattle.trace_file.specs.declared.entry.Entry.{Entry}
 use Rattle.fleet_link.specs.declared.slot.Slot.{Slot}
 use Rattle.fleet_link.specs.Saved.{IsPlayedBack, IsSaved}
+use Rattle.fleet_link.specs.Playing.{changes_by, is_own, IsFleetStep}
 use Rattle.fleet_link.specs.Serving.{IsFleet}
 use Rattle.fleet_link.specs.Traffic.{Carries, Heard, Traffic}
 
@@ -92,15 +94,15 @@ outs_sent s d class steps row (suc k) le =
     outputs_at f None = []
     outputs_at f (Some step) = step_outputs f step
 
--- ---- a row of datagrams and seconds comes to its end
+-- ---- a row of events comes to its end
 
-free : (posts : ℕ → ℕ) (step : Step) → IsLiveStep step → may_pass posts (next_of (Some step)) ≡ true
+free : (posts : ℕ → ℕ) (step : Step) → IsFleetStep step → may_pass posts (next_of (Some step)) ≡ true
 free posts (Event event) live = refl
 free posts (Post group) live = absurd live
 free posts (Need group count) live = absurd live
 
 ends : (s : Scenario) (d : ℕ) (class : Template) (steps : List Step) (es : List Entry) → IsRowOf s d class steps
-    → AllByRecursion IsLiveStep steps → IsComplete s es → made_by d es ≡ length steps
+    → AllByRecursion IsFleetStep steps → IsComplete s es → made_by d es ≡ length steps
 ends s d class steps es row live complete = by_order (cases_lt (made_by d es) (length steps))
   where
     most : made_by d es ≤ length steps
@@ -113,7 +115,7 @@ ends s d class steps es row live complete = by_order (cases_lt (made_by d es) (l
         ap (λ o. slice_get (steps_in o) (made_by d es)) row.row ∙ found.1 in
         let goes : is_enabled s es d ≡ true =
         ap (λ o. may_pass (λ g. posts_of s g es) (next_of o)) at
-        ∙ free (λ g. posts_of s g es) found.0 (each_at IsLiveStep steps (made_by d es) found.0 live found.1) in
+        ∙ free (λ g. posts_of s g es) found.0 (each_at IsFleetStep steps (made_by d es) found.0 live found.1) in
         let stays : is_enabled s es d ≡ false = ended_blocked s es complete d in
         let e : true ≡ false = sym goes ∙ stays in
         cc
@@ -123,7 +125,7 @@ ends s d class steps es row live complete = by_order (cases_lt (made_by d es) (l
     by_order (inr l) = omega (arith, l, most)
 
 row_sends : (s : Scenario) (d : ℕ) (class : Template) (steps : List Step) (es : List Entry) → IsRowOf s d class steps
-    → AllByRecursion IsLiveStep steps → IsComplete s es
+    → AllByRecursion IsFleetStep steps → IsComplete s es
     → flat_map packets_in (outputs_by d es) ≡ sent_by (start class) steps
 row_sends s d class steps es row live complete =
     let made = ends s d class steps es row live complete in
@@ -141,11 +143,12 @@ sent_then None (Some after) handed sent all failures es e h same = absurd h
 sent_then (Some before) (Some after) handed sent all failures es e h same =
     ap (λ (t : Traffic). t.sent) h ∙ ap (λ ps. before.sent ++ ps) (sym same)
 
-pub plays_back : (s : Scenario) (before after : ℕ → Option Traffic) (slots : List Slot) (now : ℕ) (broken : Bool)
-    (saved : Scenario) → IsFleet s before slots now broken after → IsSaved s slots saved → (es : List Entry)
+pub plays_back : (s : Scenario) (played : Bool) (before after : ℕ → Option Traffic) (slots : List Slot) (now : ℕ)
+    (broken : Bool)
+    (saved : Scenario) → IsFleet s played before slots now broken after → IsSaved s slots saved → (es : List Entry)
     → IsComplete saved es → (e : ℕ) (slot : Slot) → slice_get slots e ≡ Some slot → slot.recording.complete ≡ true
     → IsPlayedBack es e (before e) (after e)
-plays_back s before after slots now broken saved h is es complete e slot got whole =
+plays_back s played before after slots now broken saved h is es complete e slot got whole =
     let r = h.each e slot got in
     let serving = r.served.serving in
     let items : serving.steps ≡ slot.recording.steps.items =
@@ -156,8 +159,32 @@ plays_back s before after slots now broken saved h is es complete e slot got who
       row = is.each e (record { class = r.row.place; steps = r.steps }) slot r.row.row got;
       stated = ap (λ c. slice_get c r.row.place) is.classes ∙ r.row.stated;
     } in
-    let live : AllByRecursion IsLiveStep slot.recording.steps.items =
-    subst (AllByRecursion IsLiveStep) items serving.live in
+    let live : AllByRecursion IsFleetStep slot.recording.steps.items =
+    subst (AllByRecursion IsFleetStep) items serving.each in
     sent_then (before e) (after e) _ (sent_by (start r.class) serving.steps) [] serving.failures es e serving.told
     (row_sends saved e r.class slot.recording.steps.items es row live complete
     ∙ ap (sent_by (start r.class)) (sym items))
+
+-- ---- steps without a change
+
+pub live_steps : (second : ℕ) (steps : List Step) → AllByRecursion IsFleetStep steps → changes_by second steps ≡ []
+    → AllByRecursion IsLiveStep steps
+live_steps second [] each none = tt
+live_steps second (Event (Recv server bytes) ∷ steps) each none = (tt, live_steps second steps each.1 none)
+live_steps second (Event (Put path value) ∷ steps) each none = absurd cc
+live_steps second (Event (Firmware code) ∷ steps) each none = absurd cc
+live_steps second (Event (Tick seconds) ∷ steps) each none =
+    (each.0, live_steps (second + seconds) steps each.1 none)
+live_steps second (Post group ∷ steps) each none = absurd each.0
+live_steps second (Need group count ∷ steps) each none = absurd each.0
+
+pub own_changes : (second : ℕ) (steps : List Step) → changes_by second (filter is_own steps) ≡ changes_by second steps
+own_changes second [] = refl
+own_changes second (Event (Recv server bytes) ∷ steps) = own_changes second steps
+own_changes second (Event (Put path value) ∷ steps) =
+    ap (λ cs. record { second = second; event = Put path value } ∷ cs) (own_changes second steps)
+own_changes second (Event (Firmware code) ∷ steps) =
+    ap (λ cs. record { second = second; event = Firmware code } ∷ cs) (own_changes second steps)
+own_changes second (Event (Tick seconds) ∷ steps) = own_changes (second + seconds) steps
+own_changes second (Post group ∷ steps) = own_changes second steps
+own_changes second (Need group count ∷ steps) = own_changes second steps

@@ -18,13 +18,17 @@ use Rattle.scenario_image.specs.declared.step.Step.TheVariants.{Event, Post, Nee
 use Rattle.scenario_image.specs.Play.{start, state_after, step_after}
 use Rattle.live_link.proofs.Served.{sent_push}
 use Rattle.live_link.specs.declared.packet.Packet.{Packet}
-use Rattle.live_link.specs.Live.{packets_in, sent_by, IsLiveStep}
+use Rattle.live_link.specs.Live.{packets_in, sent_by}
+use Rattle.fleet_link.specs.declared.row.RowState.{RowState}
+use Rattle.fleet_link.specs.declared.row.RowState.TheVariants.{Due, Ended, Stopped}
 use Rattle.fleet_link.specs.declared.recording.Recording.{Recording}
 use Rattle.fleet_link.specs.declared.slot.DeviceEnd.{DeviceEnd}
 use Rattle.fleet_link.specs.declared.slot.DeviceEnd.TheVariants.{Memory, Port, Spent}
 use Rattle.fleet_link.specs.declared.slot.Slot.{Slot}
-use Rattle.fleet_link.specs.Serving.{heard_at, heard_by, second_after, second_by, IsDue, IsEndOf, IsNearEnd}
-use Rattle.fleet_link.specs.Serving.{IsRecorded, IsServed, IsServing}
+use Rattle.fleet_link.specs.Playing.{change_at, change_in, changes_by, changes_of, row_state, second_after, second_by}
+use Rattle.fleet_link.specs.Playing.{Change, IsFleetStep, IsLaterThan, IsOnTime, IsTimely}
+use Rattle.fleet_link.specs.Serving.{heard_at, heard_by, IsDue, IsEndOf, IsNearEnd, IsRecorded, IsServed, IsServing}
+use Rattle.fleet_link.specs.Serving.{IsSweptAt}
 use Rattle.fleet_link.specs.Traffic.{Carries, Heard, Traffic, failed_once, handed_at, no_traffic, sent_all, traffic_and}
 use Rattle.fleet_link.proofs.Told.{carries_both, carries_on, traffic_of}
 
@@ -35,10 +39,18 @@ state_push : (f : Machine) (steps : List Step) (step : Step)
 state_push f [] step = refl
 state_push f (s ∷ steps) step = state_push (step_after f s) steps step
 
-second_push : (n : ℕ) (steps : List Step) (step : Step)
+pub second_push : (n : ℕ) (steps : List Step) (step : Step)
     → second_by n (steps ++ step ∷ []) ≡ second_after (second_by n steps) step
 second_push n [] step = refl
 second_push n (s ∷ steps) step = second_push (second_after n s) steps step
+
+pub changes_push : (n : ℕ) (steps : List Step) (step : Step)
+    → changes_by n (steps ++ step ∷ []) ≡ changes_by n steps ++ change_at (second_by n steps) (change_in step)
+changes_push n [] step = append-nil (change_at n (change_in step))
+changes_push n (s ∷ steps) step =
+    ap (λ cs. change_at n (change_in s) ++ cs) (changes_push (second_after n s) steps step)
+    ∙ sym (append_assoc (change_at n (change_in s)) (changes_by (second_after n s) steps)
+    (change_at (second_by (second_after n s) steps) (change_in step)))
 
 heard_push : (n : ℕ) (steps : List Step) (step : Step)
     → heard_by n (steps ++ step ∷ []) ≡ heard_by n steps ++ heard_at (second_by n steps) step
@@ -80,15 +92,17 @@ accepted o true h = let e : Ok o ≡ Err faults.Spent = h.1 refl in absurd cc
 -- the step was taken, and all that it output was sent
 pub step_served : (f : Machine) (before : Option Traffic) (rest : List Heard) (device newer : Device) (second : ℕ)
     (recording longer : Recording) (between after : Option Traffic) (event : Happening) (gone : List Packet)
-    → IsServing f before (heard_at second (Event event) ++ rest) None device second recording between
-    → IsLiveStep (Event event)
+    (changes : List Change)
+    → IsServing f before (heard_at second (Event event) ++ rest) changes None device second recording between
+    → IsFleetStep (Event event)
     → ((g : Machine) → Shows device g → Shows newer (flat_after g event))
     → ((g : Machine) → Shows device g → gone ≡ packets_in (outputs_of g event))
     → Carries between after (sent_all gone)
     → ((steps : List Step) → IsRecorded recording steps → IsRecorded longer (steps ++ Event event ∷ []))
-    → IsServing f before rest None newer (second_after second (Event event)) longer after
-step_served f before rest device newer second recording longer between after event gone h live shows put_out went
-    noted =
+    → IsServing f before rest (changes ++ change_at second (change_in (Event event))) None newer
+    (second_after second (Event event)) longer after
+step_served f before rest device newer second recording longer between after event gone changes h live shows put_out
+    went noted =
     let showed : Shows device (state_after f h.steps) = h.shows refl in
     let heard : heard_by 0 h.steps ++ (heard_at second (Event event) ++ rest)
     ≡ heard_by 0 (h.steps ++ Event event ∷ []) ++ rest =
@@ -103,7 +117,10 @@ step_served f before rest device newer second recording longer between after eve
       told = carries_both before between after _ (sent_all gone) _ h.told went
           (same_traffic _ _ _ _ _ _ (append-nil _ ∙ heard) sent (add-zero h.failures));
       clock = ap (λ n. second_after n (Event event)) h.clock ∙ sym (second_push 0 h.steps (Event event));
-      live = each_pushed IsLiveStep h.steps (Event event) h.live live;
+      each = each_pushed IsFleetStep h.steps (Event event) h.each live;
+      changed = changes_push 0 h.steps (Event event)
+          ∙ ap (λ n. changes_by 0 h.steps ++ change_at n (change_in (Event event))) (sym h.clock)
+          ∙ ap (λ cs. cs ++ change_at second (change_in (Event event))) h.changed;
       shows = λ e. subst (Shows newer) (sym (state_push f h.steps (Event event)))
           (shows (state_after f h.steps) showed);
       ended = h.ended;
@@ -121,15 +138,15 @@ refused_late device f event h refused =
     ap (λ (g : Machine). passes_end g.kept.clock event) (sym h.holds)
     ∙ ap (λ b. b || passes_end device.flat.kept.clock event) (sym h.ready) ∙ refused
 
-near_end : (f : Machine) (steps : List Step) (event : Happening) → IsLiveStep (Event event)
+near_end : (f : Machine) (steps : List Step) (event : Happening) → IsFleetStep (Event event)
     → passes_end (state_after f steps).kept.clock event ≡ true → IsNearEnd f steps
 near_end f steps (Recv server bytes) live h = let e : false ≡ true = h in absurd cc
-near_end f steps (Put path value) live h = absurd live
-near_end f steps (Firmware code) live h = absurd live
+near_end f steps (Put path value) live h = let e : false ≡ true = h in absurd cc
+near_end f steps (Firmware code) live h = let e : false ≡ true = h in absurd cc
 near_end f steps (Tick seconds) live h = record { seconds = seconds; few = live.1; passes = h }
 
 end_refused : (end : DeviceEnd) (f : Machine) (steps : List Step) (device : Device) (event : Happening)
-    → Shows device (state_after f steps) → IsLiveStep (Event event)
+    → Shows device (state_after f steps) → IsFleetStep (Event event)
     → (end ≡ Memory) ⊎ ((end ≡ Spent) × IsTrue (is_refused device event)) → (failures : ℕ)
     → IsEndOf (Some end) f steps failures
 end_refused end f steps device event shows live (inl m) failures =
@@ -150,17 +167,19 @@ recorded_on recording other steps same full h =
 -- the step was refused, or no memory was left for it: nothing was sent
 pub step_refused : (end : DeviceEnd) (f : Machine) (before : Option Traffic) (pending : List Heard)
     (device newer : Device) (second : ℕ) (recording other : Recording) (after : Option Traffic) (event : Happening)
-    → IsServing f before pending None device second recording after → IsLiveStep (Event event)
+    (changes : List Change)
+    → IsServing f before pending changes None device second recording after → IsFleetStep (Event event)
     → (end ≡ Memory) ⊎ ((end ≡ Spent) × IsTrue (is_refused device event))
     → other.steps.items ≡ recording.steps.items → (other.complete ≡ true → recording.complete ≡ true)
-    → IsServing f before pending (Some end) newer second other after
-step_refused end f before pending device newer second recording other after event h live kind same full =
+    → IsServing f before pending changes (Some end) newer second other after
+step_refused end f before pending device newer second recording other after event changes h live kind same full =
     record {
       steps = h.steps;
       failures = h.failures;
       told = h.told;
       clock = h.clock;
-      live = h.live;
+      each = h.each;
+      changed = h.changed;
       shows = λ e. absurd cc;
       ended = end_refused end f h.steps device event (h.shows refl) live kind h.failures;
       recorded = recorded_on recording other h.steps same full h.recorded;
@@ -195,43 +214,50 @@ recorded_less old step steps closed h =
 -- ---- a device at rest
 
 -- its clock shows its second
-shown_clock : (class : Template) (before : Option Traffic) (pending : List Heard) (device : Device) (second : ℕ)
-    (recording : Recording) (after : Option Traffic)
-    (h : IsServing (start class) before pending None device second recording after)
+shown_clock : (class : Template) (before : Option Traffic) (pending : List Heard) (changes : List Change)
+    (device : Device) (second : ℕ) (recording : Recording) (after : Option Traffic)
+    (h : IsServing (start class) before pending changes None device second recording after)
     → (state_after (start class) h.steps).kept.clock ≡ second
-shown_clock class before pending device second recording after h = clock_by (start class) h.steps ∙ sym h.clock
+shown_clock class before pending changes device second recording after h =
+    clock_by (start class) h.steps ∙ sym h.clock
 
 later_than : (f : Machine) (due : Option ℕ) (second : ℕ) → f.kept.clock ≡ second
     → MatchOption due (IsSilent f) (IsNextSending f) → IfSome due (λ d. second < d)
 later_than f None second e h = tt
 later_than f (Some d) second e h = subst (λ n. n < d) e h.later
 
-pub rests : (class : Template) (before : Option Traffic) (slot : Slot) (broken : Bool) (after : Option Traffic)
-    → IsServing (start class) before [] None slot.device slot.second slot.recording after → slot.end ≡ None
-    → IsDue slot.device slot.due → IsServed class before slot broken after
-rests class before slot broken after h e due =
+pub rests : (class : Template) (own : List Step) (before : Option Traffic) (slot : Slot) (broken : Bool)
+    (after : Option Traffic)
+    → IsServing (start class) before [] (changes_of slot.row) None slot.device slot.second slot.recording after
+    → slot.end ≡ None → IsDue slot.device slot.due → slot.row.steps.items ≡ own → IsOnTime slot.row slot.second
+    → IsServed class own before slot broken after
+rests class own before slot broken after h e due row time =
     record {
       unheard = [];
-      serving = subst (λ x. IsServing (start class) before [] x slot.device slot.second slot.recording after) (sym e)
-          h;
+      serving = subst (λ x. IsServing (start class) before [] (changes_of slot.row) x slot.device slot.second
+          slot.recording after) (sym e) h;
+      row_is = row;
+      on_time = λ _. time;
       heard = λ _. refl;
       due = λ _. due;
       later = λ _. later_than (state_after (start class) h.steps) slot.due slot.second
-          (shown_clock class before [] slot.device slot.second slot.recording after h)
+          (shown_clock class before [] (changes_of slot.row) slot.device slot.second slot.recording after h)
           (due (state_after (start class) h.steps) (h.shows refl));
       memory = λ m. let k : None ≡ Some Memory = sym e ∙ m in absurd cc;
     }
 
-pub is_over : (class : Template) (before : Option Traffic) (pending : List Heard) (end : DeviceEnd) (slot : Slot)
-    (broken : Bool) (after : Option Traffic)
-    → IsServing (start class) before pending (Some end) slot.device slot.second slot.recording after
-    → slot.end ≡ Some end
-    → (slot.end ≡ Some Memory → broken ≡ true) → IsServed class before slot broken after
-is_over class before pending end slot broken after h e memory =
+pub is_over : (class : Template) (own : List Step) (before : Option Traffic) (pending : List Heard) (end : DeviceEnd)
+    (slot : Slot) (broken : Bool) (after : Option Traffic)
+    → IsServing (start class) before pending (changes_of slot.row) (Some end) slot.device slot.second slot.recording
+    after → slot.end ≡ Some end → slot.row.steps.items ≡ own
+    → (slot.end ≡ Some Memory → broken ≡ true) → IsServed class own before slot broken after
+is_over class own before pending end slot broken after h e row memory =
     record {
       unheard = pending;
-      serving = subst (λ x. IsServing (start class) before pending x slot.device slot.second slot.recording after)
-          (sym e) h;
+      serving = subst (λ x. IsServing (start class) before pending (changes_of slot.row) x slot.device slot.second
+          slot.recording after) (sym e) h;
+      row_is = row;
+      on_time = λ k. let m : Some end ≡ None = sym e ∙ k in absurd cc;
       heard = λ k. let m : Some end ≡ None = sym e ∙ k in absurd cc;
       due = λ k. let m : Some end ≡ None = sym e ∙ k in absurd cc;
       later = λ k. let m : Some end ≡ None = sym e ∙ k in absurd cc;
@@ -239,90 +265,137 @@ is_over class before pending end slot broken after h e memory =
     }
 
 serving_as : (f : Machine) (before : Option Traffic) (pending : List Heard) (end : Option DeviceEnd) (old new : Slot)
-    (after : Option Traffic) → new.device ≡ old.device → new.second ≡ old.second → new.recording ≡ old.recording
-    → IsServing f before pending end old.device old.second old.recording after
-    → IsServing f before pending end new.device new.second new.recording after
-serving_as f before pending end old new after d s r h =
-    subst (λ x. IsServing f before pending end x new.second new.recording after) (sym d)
-    (subst (λ x. IsServing f before pending end old.device x new.recording after) (sym s)
-    (subst (λ x. IsServing f before pending end old.device old.second x after) (sym r) h))
+    (after : Option Traffic) → new.device ≡ old.device → new.second ≡ old.second → new.row ≡ old.row
+    → new.recording ≡ old.recording
+    → IsServing f before pending (changes_of old.row) end old.device old.second old.recording after
+    → IsServing f before pending (changes_of new.row) end new.device new.second new.recording after
+serving_as f before pending end old new after d s w r h =
+    subst (λ x. IsServing f before pending (changes_of new.row) end x new.second new.recording after) (sym d)
+    (subst (λ x. IsServing f before pending (changes_of new.row) end old.device x new.recording after) (sym s)
+    (subst (λ x. IsServing f before pending (changes_of x) end old.device old.second new.recording after) (sym w)
+    (subst (λ x. IsServing f before pending (changes_of old.row) end old.device old.second x after) (sym r) h)))
+
+time_as : (old new : Slot) → new.second ≡ old.second → new.row ≡ old.row → IsOnTime old.row old.second
+    → IsOnTime new.row new.second
+time_as old new s w h =
+    subst (λ x. IsOnTime x new.second) (sym w) (subst (λ x. IsOnTime old.row x) (sym s) h)
 
 -- what a step came to, and how the device is then
-pub settled : {T : Type 0} (class : Template) (before : Option Traffic) (pending : List Heard)
+pub settled : {T : Type 0} (class : Template) (own : List Step) (before : Option Traffic) (pending : List Heard)
     (taken : Result T DeviceEnd) (broken : Bool) (stepped slot : Slot) (after : Option Traffic)
-    → OnOk taken (IsServing (start class) before [] None stepped.device stepped.second stepped.recording after)
-    → IfErr taken (λ end. IsServing (start class) before pending (Some end) stepped.device stepped.second
-    stepped.recording after)
-    → slot.device ≡ stepped.device → slot.second ≡ stepped.second → slot.recording ≡ stepped.recording
+    → OnOk taken (IsServing (start class) before [] (changes_of stepped.row) None stepped.device stepped.second
+    stepped.recording after) → OnOk taken (IsOnTime stepped.row stepped.second)
+    → IfErr taken (λ end. IsServing (start class) before pending (changes_of stepped.row) (Some end) stepped.device
+    stepped.second stepped.recording after) → stepped.row.steps.items ≡ own
+    → slot.device ≡ stepped.device → slot.second ≡ stepped.second → slot.row ≡ stepped.row
+    → slot.recording ≡ stepped.recording
     → OnOk taken ((slot.end ≡ None) × IsDue slot.device slot.due) → IfErr taken (λ end. slot.end ≡ Some end)
-    → (slot.end ≡ Some Memory → broken ≡ true) → IsServed class before slot broken after
-settled class before pending (Ok x) broken stepped slot after served refused d s r ok ended memory =
-    rests class before slot broken after (serving_as (start class) before [] None stepped slot after d s r served) ok.0
-    ok.1
-settled class before pending (Err end) broken stepped slot after served refused d s r ok ended memory =
-    is_over class before pending end slot broken after
-    (serving_as (start class) before pending (Some end) stepped slot after d s r refused) ended memory
+    → (slot.end ≡ Some Memory → broken ≡ true) → IsServed class own before slot broken after
+settled class own before pending (Ok x) broken stepped slot after served time refused row d s w r ok ended memory =
+    rests class own before slot broken after
+    (serving_as (start class) before [] None stepped slot after d s w r served) ok.0 ok.1
+    (ap (λ y. y.steps.items) w ∙ row) (time_as stepped slot s w time)
+settled class own before pending (Err end) broken stepped slot after served time refused row d s w r ok ended memory =
+    is_over class own before pending end slot broken after
+    (serving_as (start class) before pending (Some end) stepped slot after d s w r refused) ended
+    (ap (λ y. y.steps.items) w ∙ row) memory
 
 pub some_over : {X : Type 0} (o : Option X) (x : X) → o ≡ Some x → o ≡ None → ⊥
 some_over o x is none = let e : Some x ≡ None = sym is ∙ none in cc
 
 -- ---- when a device is due
 
-pub due_after : (class : Template) (before : Option Traffic) (slot : Slot) (broken : Bool) (after : Option Traffic)
-    (now second : ℕ) → IsServed class before slot broken after → slot.end ≡ None → slot.second ≡ now → second ≤ now
-    → IfSome slot.due (λ d. second < d)
-due_after class before slot broken after now second h e at le = later slot.due (h.later e)
+due_after : (class : Template) (own : List Step) (before : Option Traffic) (slot : Slot) (broken : Bool)
+    (after : Option Traffic) (now second : ℕ) → IsServed class own before slot broken after → slot.end ≡ None
+    → slot.second ≡ now → second ≤ now → IfSome slot.due (λ d. second < d)
+due_after class own before slot broken after now second h e at le = later slot.due (h.later e)
   where
     later : (o : Option ℕ) → IfSome o (λ d. slot.second < d) → IfSome o (λ d. second < d)
     later None k = tt
     later (Some d) k = omega (arith, k, at, le)
 
+later_still : (state : RowState) (now second : ℕ) → second ≤ now → IsLaterThan now state → IsLaterThan second state
+later_still (Due d) now second le h = omega (arith, le, h)
+later_still Stopped now second le h = tt
+later_still Ended now second le h = tt
+
+-- one that was brought to a second has nothing to do then
+pub swept_after : (class : Template) (own : List Step) (before : Option Traffic) (slot : Slot) (broken : Bool)
+    (after : Option Traffic) (now second : ℕ) → IsServed class own before slot broken after → slot.end ≡ None
+    → slot.second ≡ now → IsLaterThan now (row_state slot.row) → second ≤ now → IsSweptAt slot second
+swept_after class own before slot broken after now second h e at row le =
+    record {
+      due = due_after class own before slot broken after now second h e at le;
+      row = later_still (row_state slot.row) now second le row;
+    }
+
 some_due : (o : Option ℕ) (d second : ℕ) → o ≡ Some d → IfSome o (λ x. second < x) → second < d
 some_due None d second e h = let k : None ≡ Some d = e in absurd cc
 some_due (Some x) d second e h = let k : x ≡ d = cc in subst (λ y. second < y) k h
 
--- one that was due, and was brought to this second
-pub swept_by : (class : Template) (before : Option Traffic) (old new : Slot) (broken : Bool) (x y : Option Traffic)
-    (d now : ℕ) → IsServed class before old false x → IsServed class before new broken y → old.due ≡ Some d → d ≤ now
-    → (old.second ≤ now → new.end ≡ None → new.second ≡ now) → ((old.end ≡ None → ⊥) → new ≡ old)
-    → new.end ≡ None → IfSome new.due (λ n. now < n)
-swept_by class before old new broken x y d now h k due le reached over e = by_end old.end refl
+-- one that is due, or whose row is, is not past that second
+pub due_reached : (class : Template) (own : List Step) (before : Option Traffic) (slot : Slot) (after : Option Traffic)
+    (d now : ℕ) → IsServed class own before slot false after → slot.end ≡ None → slot.due ≡ Some d → d ≤ now
+    → slot.second ≤ now
+due_reached class own before slot after d now h e due le =
+    let early : slot.second < d = some_due slot.due d slot.second due (h.later e) in omega (arith, early, le)
+
+pub row_reached : (class : Template) (own : List Step) (before : Option Traffic) (slot : Slot) (after : Option Traffic)
+    (d now : ℕ) → IsServed class own before slot false after → slot.end ≡ None → row_state slot.row ≡ Due d → d ≤ now
+    → slot.second ≤ now
+row_reached class own before slot after d now h e due le =
+    let early : slot.second ≤ d = timely_at (row_state slot.row) due (h.on_time e).timely in omega (arith, early, le)
   where
-    by_end : (o : Option DeviceEnd) → old.end ≡ o → IfSome new.due (λ n. now < n)
+    timely_at : (state : RowState) → state ≡ Due d → IsTimely slot.second state → slot.second ≤ d
+    timely_at (Due x) is k = let q : x ≡ d = cc in subst (λ y. slot.second ≤ y) q k
+    timely_at Stopped is k = let q : Stopped ≡ Due d = is in absurd cc
+    timely_at Ended is k = let q : Ended ≡ Due d = is in absurd cc
+
+-- one that was due, and was brought to this second
+pub swept_by : (class : Template) (own : List Step) (before : Option Traffic) (old new : Slot) (broken : Bool)
+    (x y : Option Traffic) (now : ℕ) → IsServed class own before old false x → IsServed class own before new broken y
+    → (old.end ≡ None → old.second ≤ now) → (old.second ≤ now → new.end ≡ None → new.second ≡ now)
+    → (new.end ≡ None → IsLaterThan now (row_state new.row)) → ((old.end ≡ None → ⊥) → new ≡ old)
+    → new.end ≡ None → IsSweptAt new now
+swept_by class own before old new broken x y now h k due reached row over e = by_end old.end refl
+  where
+    by_end : (o : Option DeviceEnd) → old.end ≡ o → IsSweptAt new now
     by_end None is =
-        let early : old.second < d = some_due old.due d old.second due (h.later is) in
-        due_after class before new broken y now now k e (reached (omega (arith, early, le)) e) (omega arith)
+        swept_after class own before new broken y now now k e (reached (due is) e) (row e) (omega arith)
     by_end (Some end) is =
         let same : new ≡ old = over (some_over old.end end is) in
         absurd (some_over old.end end is (ap (λ (s : Slot). s.end) (sym same) ∙ e))
 
 -- ---- what goes on elsewhere
 
-serving_on : (f : Machine) (before : Option Traffic) (pending : List Heard) (end : Option DeviceEnd)
-    (device : Device) (second : ℕ) (recording : Recording) (between after : Option Traffic)
-    → IsServing f before pending end device second recording between → Carries between after no_traffic
-    → IsServing f before pending end device second recording after
-serving_on f before pending end device second recording between after h k =
+serving_on : (f : Machine) (before : Option Traffic) (pending : List Heard) (changes : List Change)
+    (end : Option DeviceEnd) (device : Device) (second : ℕ) (recording : Recording) (between after : Option Traffic)
+    → IsServing f before pending changes end device second recording between → Carries between after no_traffic
+    → IsServing f before pending changes end device second recording after
+serving_on f before pending changes end device second recording between after h k =
     record {
       steps = h.steps;
       failures = h.failures;
       told = carries_on before between after _ h.told k;
       clock = h.clock;
-      live = h.live;
+      each = h.each;
+      changed = h.changed;
       shows = h.shows;
       ended = h.ended;
       recorded = h.recorded;
     }
 
 -- nothing went through the port of this device; the session may be broken off
-pub served_on : (class : Template) (before : Option Traffic) (slot : Slot) (broken : Bool)
-    (between after : Option Traffic) → IsServed class before slot false between → Carries between after no_traffic
-    → IsServed class before slot broken after
-served_on class before slot broken between after h k =
+pub served_on : (class : Template) (own : List Step) (before : Option Traffic) (slot : Slot) (broken : Bool)
+    (between after : Option Traffic) → IsServed class own before slot false between → Carries between after no_traffic
+    → IsServed class own before slot broken after
+served_on class own before slot broken between after h k =
     record {
       unheard = h.unheard;
-      serving = serving_on (start class) before h.unheard slot.end slot.device slot.second slot.recording between after
-          h.serving k;
+      serving = serving_on (start class) before h.unheard (changes_of slot.row) slot.end slot.device slot.second
+          slot.recording between after h.serving k;
+      row_is = h.row_is;
+      on_time = h.on_time;
       heard = h.heard;
       due = h.due;
       later = h.later;
@@ -330,12 +403,13 @@ served_on class before slot broken between after h k =
     }
 
 -- the port has handed out one more
-pub handed_more : (f : Machine) (before : Option Traffic) (pending : List Heard) (end : Option DeviceEnd)
-    (device : Device) (second : ℕ) (recording : Recording) (between after : Option Traffic) (now : ℕ)
-    (packet : Packet) → IsServing f before pending end device second recording between
+pub handed_more : (f : Machine) (before : Option Traffic) (pending : List Heard) (changes : List Change)
+    (end : Option DeviceEnd) (device : Device) (second : ℕ) (recording : Recording) (between after : Option Traffic)
+    (now : ℕ) (packet : Packet) → IsServing f before pending changes end device second recording between
     → Carries between after (handed_at now packet)
-    → IsServing f before (pending ++ record { second = now; packet = packet } ∷ []) end device second recording after
-handed_more f before pending end device second recording between after now packet h k =
+    → IsServing f before (pending ++ record { second = now; packet = packet } ∷ []) changes end device second recording
+    after
+handed_more f before pending changes end device second recording between after now packet h k =
     record {
       steps = h.steps;
       failures = h.failures;
@@ -343,7 +417,8 @@ handed_more f before pending end device second recording between after now packe
           (same_traffic _ _ _ _ _ _ (append_assoc (heard_by 0 h.steps) pending _) (append-nil _)
           (add-zero h.failures));
       clock = h.clock;
-      live = h.live;
+      each = h.each;
+      changed = h.changed;
       shows = h.shows;
       ended = h.ended;
       recorded = h.recorded;
@@ -354,14 +429,17 @@ handed_more f before pending end device second recording between after now packe
     same_traffic a b p q m n x y z = cc
 
 -- a device that has ended does not hear it
-pub over_hears : (class : Template) (before : Option Traffic) (slot : Slot) (between after : Option Traffic) (now : ℕ)
-    (packet : Packet) → IsServed class before slot false between → Carries between after (handed_at now packet)
-    → (slot.end ≡ None → ⊥) → IsServed class before slot false after
-over_hears class before slot between after now packet h k over =
+pub over_hears : (class : Template) (own : List Step) (before : Option Traffic) (slot : Slot)
+    (between after : Option Traffic) (now : ℕ) (packet : Packet) → IsServed class own before slot false between
+    → Carries between after (handed_at now packet)
+    → (slot.end ≡ None → ⊥) → IsServed class own before slot false after
+over_hears class own before slot between after now packet h k over =
     record {
       unheard = h.unheard ++ record { second = now; packet = packet } ∷ [];
-      serving = handed_more (start class) before h.unheard slot.end slot.device slot.second slot.recording between
-          after now packet h.serving k;
+      serving = handed_more (start class) before h.unheard (changes_of slot.row) slot.end slot.device slot.second
+          slot.recording between after now packet h.serving k;
+      row_is = h.row_is;
+      on_time = h.on_time;
       heard = λ e. absurd (over e);
       due = h.due;
       later = h.later;
@@ -369,22 +447,23 @@ over_hears class before slot between after now packet h k over =
     }
 
 -- one that goes on has it pending
-pub goes_on : (class : Template) (before : Option Traffic) (slot : Slot) (between : Option Traffic)
-    → IsServed class before slot false between → slot.end ≡ None
-    → IsServing (start class) before [] None slot.device slot.second slot.recording between
-goes_on class before slot between h e =
-    subst (λ x. IsServing (start class) before [] x slot.device slot.second slot.recording between) e
-    (subst (λ u. IsServing (start class) before u slot.end slot.device slot.second slot.recording between) (h.heard e)
-    h.serving)
+pub goes_on : (class : Template) (own : List Step) (before : Option Traffic) (slot : Slot) (between : Option Traffic)
+    → IsServed class own before slot false between → slot.end ≡ None
+    → IsServing (start class) before [] (changes_of slot.row) None slot.device slot.second slot.recording between
+goes_on class own before slot between h e =
+    subst (λ x. IsServing (start class) before [] (changes_of slot.row) x slot.device slot.second slot.recording
+    between) e
+    (subst (λ u. IsServing (start class) before u (changes_of slot.row) slot.end slot.device slot.second slot.recording
+    between) (h.heard e) h.serving)
 
-pub pends : (class : Template) (before : Option Traffic) (slot : Slot) (between after : Option Traffic) (now : ℕ)
-    (packet : Packet) → IsServed class before slot false between → Carries between after (handed_at now packet)
-    → slot.end ≡ None
-    → IsServing (start class) before (record { second = now; packet = packet } ∷ []) None slot.device slot.second
-    slot.recording after
-pends class before slot between after now packet h k e =
-    handed_more (start class) before [] None slot.device slot.second slot.recording between after now packet
-    (goes_on class before slot between h e) k
+pub pends : (class : Template) (own : List Step) (before : Option Traffic) (slot : Slot)
+    (between after : Option Traffic) (now : ℕ) (packet : Packet) → IsServed class own before slot false between
+    → Carries between after (handed_at now packet) → slot.end ≡ None
+    → IsServing (start class) before (record { second = now; packet = packet } ∷ []) (changes_of slot.row) None
+    slot.device slot.second slot.recording after
+pends class own before slot between after now packet h k e =
+    handed_more (start class) before [] (changes_of slot.row) None slot.device slot.second slot.recording between after
+    now packet (goes_on class own before slot between h e) k
 
 -- ---- its port failed
 
@@ -403,10 +482,11 @@ failed_traffic a p n =
     cc
 
 -- one that had ended before
-pub over_fails : (class : Template) (before : Option Traffic) (slot : Slot) (between after : Option Traffic)
-    → IsServed class before slot false between → Carries between after failed_once → (slot.end ≡ None → ⊥)
-    → IsServed class before slot false after
-over_fails class before slot between after h k over =
+pub over_fails : (class : Template) (own : List Step) (before : Option Traffic) (slot : Slot)
+    (between after : Option Traffic)
+    → IsServed class own before slot false between → Carries between after failed_once → (slot.end ≡ None → ⊥)
+    → IsServed class own before slot false after
+over_fails class own before slot between after h k over =
     let s = h.serving in
     record {
       unheard = h.unheard;
@@ -416,11 +496,14 @@ over_fails class before slot between after h k over =
         told = carries_both before between after _ failed_once _ s.told k
             (failed_traffic (heard_by 0 s.steps ++ h.unheard) (sent_by (start class) s.steps) s.failures);
         clock = s.clock;
-        live = s.live;
+        each = s.each;
+        changed = s.changed;
         shows = s.shows;
         ended = failures_more slot.end (start class) s.steps s.failures over s.ended;
         recorded = s.recorded;
       };
+      row_is = h.row_is;
+      on_time = h.on_time;
       heard = h.heard;
       due = h.due;
       later = h.later;
@@ -428,12 +511,13 @@ over_fails class before slot between after h k over =
     }
 
 -- one that went on ends
-pub now_fails : (class : Template) (before : Option Traffic) (slot other : Slot) (between after : Option Traffic)
-    → IsServed class before slot false between → Carries between after failed_once → slot.end ≡ None
-    → other ≡ record slot { end = Some Port } → IsServed class before other false after
-now_fails class before slot other between after h k e is =
+pub now_fails : (class : Template) (own : List Step) (before : Option Traffic) (slot other : Slot)
+    (between after : Option Traffic)
+    → IsServed class own before slot false between → Carries between after failed_once → slot.end ≡ None
+    → other ≡ record slot { end = Some Port } → IsServed class own before other false after
+now_fails class own before slot other between after h k e is =
     let s = h.serving in
-    let served : IsServed class before (record slot { end = Some Port }) false after = record {
+    let served : IsServed class own before (record slot { end = Some Port }) false after = record {
       unheard = h.unheard;
       serving = record {
         steps = s.steps;
@@ -441,14 +525,17 @@ now_fails class before slot other between after h k e is =
         told = carries_both before between after _ failed_once _ s.told k
             (failed_traffic (heard_by 0 s.steps ++ h.unheard) (sent_by (start class) s.steps) s.failures);
         clock = s.clock;
-        live = s.live;
+        each = s.each;
+        changed = s.changed;
         shows = λ k. absurd cc;
         ended = omega arith;
         recorded = s.recorded;
       };
+      row_is = h.row_is;
+      on_time = λ k. absurd cc;
       heard = λ k. absurd cc;
       due = λ k. absurd cc;
       later = λ k. absurd cc;
       memory = λ k. absurd cc;
     } in
-    subst (λ x. IsServed class before x false after) (sym is) served
+    subst (λ x. IsServed class own before x false after) (sym is) served

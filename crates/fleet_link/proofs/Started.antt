@@ -1,7 +1,8 @@
 -- Devices at second 0.
-use Rattle.std.proofs.Common.{◌≡◌, true, ℕ, ◌+◌, ◌<◌, ◌≤◌, ◌⊎◌, inl, inr, List, [], ◌∷◌, ◌++◌, length, None, Some, slice_get, false}
+use Rattle.std.proofs.Common.{◌≡◌, Bool, true, ℕ, ◌+◌, ◌^◌, ◌<◌, ◌≤◌, ◌⊎◌, inl, inr, take, List, [], ◌∷◌, ◌++◌, length, None, Some, slice_get, false}
 use Rattle.std.proofs.Common.{Option, refl, sym, ap, subst, ◌∙◌, arith, length-append}
-use Rattle.lemmas.proofs.Lists.{pushed_cases}
+use Rattle.std.specs.Option.{MatchOption}
+use Rattle.lemmas.proofs.Lists.{pushed_cases, take_none}
 use Rattle.device_machine.specs.State.{Device, Shows}
 use Rattle.device_template.specs.Template.{Template}
 use Rattle.scenario_image.specs.declared.step.Step.{Step}
@@ -9,8 +10,12 @@ use Rattle.scenario_image.specs.Play.{start, IsRowOf}
 use Rattle.scenario_image.specs.Scenario.{Row, Scenario, IsGoodRow, IsValid}
 use Rattle.fleet_core.proofs.Valid.{all_at}
 use Rattle.lemmas.proofs.Lists.{item_at}
+use Rattle.fleet_link.specs.declared.row.PlayedRow.{PlayedRow}
+use Rattle.fleet_link.specs.declared.row.RowState.{RowState}
+use Rattle.fleet_link.specs.declared.row.RowState.TheVariants.{Due, Ended, Stopped}
 use Rattle.fleet_link.specs.declared.recording.Recording.{Recording}
 use Rattle.fleet_link.specs.declared.slot.Slot.{Slot}
+use Rattle.fleet_link.specs.Playing.{changes_by, played_steps, row_state, second_by, second_of_row, IsTimely}
 use Rattle.fleet_link.specs.Serving.{AreRecorded, IsDue, IsFleet, IsRowServed, IsServed}
 use Rattle.fleet_link.specs.Traffic.{Traffic}
 use Rattle.fleet_link.proofs.Served.{rests}
@@ -23,53 +28,74 @@ row_of s d valid row at =
     (good.class, record { place = row.class; row = at; stated = good.stated })
 
 -- a device of a class at its start, with nothing recorded
-pub slot_starts : (class : Template) (slot : Slot) (told : Option Traffic) → Shows slot.device (start class)
+pub slot_starts : (class : Template) (own : List Step) (slot : Slot) (told : Option Traffic)
+    → Shows slot.device (start class)
     → slot.second ≡ 0 → slot.end ≡ None → IsDue slot.device slot.due → slot.recording.steps.items ≡ []
-    → IsServed class told slot false told
-slot_starts class slot told shows second end due none =
-    rests class told slot false told (record {
+    → slot.row.steps.items ≡ own → slot.row.place ≡ 0 → slot.row.second ≡ Some 0
+    → IsServed class own told slot false told
+slot_starts class own slot told shows second end due none row place first =
+    rests class own told slot false told (record {
       steps = [];
       failures = 0;
       told = carries_none told;
       clock = second;
-      live = tt;
+      each = tt;
+      changed = sym (ap (changes_by 0) before);
       shows = λ e. shows;
       ended = refl;
       recorded = record { rest = []; begins = sym none ∙ nothing slot.recording.steps.items; whole = λ e. refl };
-    }) end due
+    }) end due row (record {
+      next = subst (λ o. MatchOption o (2 ^ 64 ≤ second_of_row slot.row) (λ d. d ≡ second_of_row slot.row)) (sym first)
+          (sym (ap (second_by 0) before));
+      timely = subst (λ n. IsTimely n (row_state slot.row)) (sym second) (from_start (row_state slot.row));
+    })
   where
+    before : take slot.row.place slot.row.steps.items ≡ []
+    before = ap (λ n. take n slot.row.steps.items) place ∙ take_none slot.row.steps.items
+
+    from_start : (state : RowState) → IsTimely 0 state
+    from_start (Due d) = omega arith
+    from_start Stopped = tt
+    from_start Ended = tt
+
     nothing : {X : Type 0} (xs : List X) → xs ≡ xs ++ []
     nothing [] = refl
     nothing (x ∷ xs) = ap (λ l. x ∷ l) (nothing xs)
 
-pub slot_served : (s : Scenario) (d : ℕ) (device : Device) (slot : Slot) (recording : Recording) → IsValid s
+pub slot_served : (s : Scenario) (played : Bool) (d : ℕ) (device : Device) (slot : Slot) (own : PlayedRow)
+    (recording : Recording) → IsValid s
     → d < length s.rows
     → ((class : Template) (steps : List Step) → IsRowOf s d class steps → Shows device (start class))
     → slot.device ≡ device → slot.second ≡ 0 → slot.end ≡ None → IsDue device slot.due
+    → slot.row ≡ own → ((class : Template) (steps : List Step) → IsRowOf s d class steps
+    → own.steps.items ≡ played_steps played steps) → own.place ≡ 0 → own.second ≡ Some 0
     → slot.recording ≡ recording → recording.steps.items ≡ [] → (told : Option Traffic)
-    → IsRowServed s d told slot false told
-slot_served s d device slot recording valid within shows is second end due kept none told =
+    → IsRowServed s played d told slot false told
+slot_served s played d device slot own recording valid within shows is second end due kept_row steps place first kept
+    none told =
     let found = item_at s.rows d within in
     let row = row_of s d valid found.0 found.1 in
     record {
       class = row.0;
       steps = found.0.steps;
       row = row.1;
-      served = slot_starts row.0 slot told
+      served = slot_starts row.0 (played_steps played found.0.steps) slot told
           (subst (λ x. Shows x (start row.0)) (sym is) (shows row.0 found.0.steps row.1))
-          second end (subst (λ x. IsDue x slot.due) (sym is) due) (ap (λ r. r.steps.items) kept ∙ none);
+          second end (subst (λ x. IsDue x slot.due) (sym is) due) (ap (λ r. r.steps.items) kept ∙ none)
+          (ap (λ r. r.steps.items) kept_row ∙ steps row.0 found.0.steps row.1)
+          (ap (λ r. r.place) kept_row ∙ place) (ap (λ r. r.second) kept_row ∙ first);
     }
 
 -- the devices of the first rows
-pub record AreFirst (s : Scenario) (n : ℕ) (slots : List Slot) : Type 0 where
+pub record AreFirst (s : Scenario) (played : Bool) (n : ℕ) (slots : List Slot) : Type 0 where
   pub count : length slots ≡ n
   pub each : (told : Option Traffic) (e : ℕ) (slot : Slot) → slice_get slots e ≡ Some slot
-      → IsRowServed s e told slot false told
+      → IsRowServed s played e told slot false told
   pub early : (e : ℕ) (slot : Slot) → slice_get slots e ≡ Some slot → slot.second ≤ 0
 
-pub none_first : (s : Scenario) (slots : List Slot) → slots ≡ [] → AreFirst s 0 slots
-none_first s slots none =
-    subst (AreFirst s 0) (sym none) (record {
+pub none_first : (s : Scenario) (played : Bool) (slots : List Slot) → slots ≡ [] → AreFirst s played 0 slots
+none_first s played slots none =
+    subst (AreFirst s played 0) (sym none) (record {
       count = refl;
       each = λ told e slot h. absurd (never e slot h);
       early = λ e slot h. absurd (never e slot h);
@@ -84,22 +110,22 @@ by_place P n e slots x y count here before (inl h) = before h
 by_place P n e slots x y count here before (inr h) =
     subst (λ k. P k x) (sym (h.0 ∙ count)) (subst (P n) h.1 here)
 
-pub more_first : (s : Scenario) (n : ℕ) (slots more : List Slot) (y : Slot) → AreFirst s n slots
-    → more ≡ slots ++ y ∷ [] → ((told : Option Traffic) → IsRowServed s n told y false told) → y.second ≡ 0
-    → AreFirst s (n + 1) more
-more_first s n slots more y h is here second =
+pub more_first : (s : Scenario) (played : Bool) (n : ℕ) (slots more : List Slot) (y : Slot) → AreFirst s played n slots
+    → more ≡ slots ++ y ∷ [] → ((told : Option Traffic) → IsRowServed s played n told y false told) → y.second ≡ 0
+    → AreFirst s played (n + 1) more
+more_first s played n slots more y h is here second =
     record {
       count = omega (arith, h.count, ap length is, length-append slots (y ∷ []));
-      each = λ told e x at. by_place (λ k z. IsRowServed s k told z false told) n e slots x y h.count (here told)
+      each = λ told e x at. by_place (λ k z. IsRowServed s played k told z false told) n e slots x y h.count (here told)
           (h.each told e x) (pushed_cases slots y e x (ap (λ l. slice_get l e) (sym is) ∙ at));
       early = λ e x at. by_place (λ k z. z.second ≤ 0) n e slots x y h.count (omega (arith, second)) (h.early e x)
           (pushed_cases slots y e x (ap (λ l. slice_get l e) (sym is) ∙ at));
     }
 
-pub all_first : (s : Scenario) (slots : List Slot) (now : ℕ) (told : ℕ → Option Traffic)
-    → AreFirst s (length s.rows) slots
-    → now ≡ 0 → IsFleet s told slots now false told
-all_first s slots now told h zero =
+pub all_first : (s : Scenario) (played : Bool) (slots : List Slot) (now : ℕ) (told : ℕ → Option Traffic)
+    → AreFirst s played (length s.rows) slots
+    → now ≡ 0 → IsFleet s played told slots now false told
+all_first s played slots now told h zero =
     record {
       count = h.count;
       each = λ e x at. h.each (told e) e x at;

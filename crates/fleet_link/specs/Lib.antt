@@ -1,5 +1,6 @@
 pub mod Ends
 pub mod Traffic
+pub mod Playing
 pub mod Serving
 pub mod Timing
 pub mod Memory

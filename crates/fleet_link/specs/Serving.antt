@@ -1,5 +1,5 @@
 -- A fleet that is served: what each of its devices is, of what its port handed out and took in.
-use Rattle.std.specs.Prelude.{◌≡◌, ℕ, ◌+◌, ◌≤◌, ◌<◌, Bool, true, List, [], ◌∷◌, ◌++◌, length, slice_get, Option, None}
+use Rattle.std.specs.Prelude.{◌≡◌, ℕ, ◌≤◌, ◌<◌, Bool, true, List, [], ◌∷◌, ◌++◌, length, slice_get, Option, None}
 use Rattle.std.specs.Prelude.{Some, IfSome, MatchOption}
 use Rattle.std.specs.List.{AllByRecursion}
 use Rattle.device_machine.specs.declared.event.Event.TheVariants.{Recv, Put, Firmware, Tick}
@@ -7,7 +7,7 @@ use Rattle.device_machine.specs.Held.{IsNextSending, IsSilent}
 use Rattle.device_machine.specs.Reactions.{passes_end}
 use Rattle.device_machine.specs.State.{Machine, Device, Shows}
 use Rattle.device_template.specs.Template.{Template}
-use Rattle.live_link.specs.Live.{sent_by, IsLiveStep}
+use Rattle.live_link.specs.Live.{sent_by}
 use Rattle.scenario_image.specs.declared.step.Step.{Step}
 use Rattle.scenario_image.specs.declared.step.Step.TheVariants.{Event, Post, Need}
 use Rattle.scenario_image.specs.Play.{start, state_after, IsRowOf}
@@ -16,23 +16,11 @@ use Rattle.fleet_link.specs.declared.recording.Recording.{Recording}
 use Rattle.fleet_link.specs.declared.slot.DeviceEnd.{DeviceEnd}
 use Rattle.fleet_link.specs.declared.slot.DeviceEnd.TheVariants.{Memory, Port, Spent}
 use Rattle.fleet_link.specs.declared.slot.Slot.{Slot}
+use Rattle.fleet_link.specs.Playing.{changes_by, changes_of, played_steps, row_state, second_after, second_by, Change}
+use Rattle.fleet_link.specs.Playing.{IsFleetStep, IsLaterThan, IsOnTime}
 use Rattle.fleet_link.specs.Traffic.{Carries, Heard, Traffic}
 
--- ---- the seconds of steps
-
--- the second after a step: a tick alone sets it on
-abbrev pub second_after : ℕ → Step → ℕ
-second_after second (Event (Recv server bytes)) = second
-second_after second (Event (Put path value)) = second
-second_after second (Event (Firmware code)) = second
-second_after second (Event (Tick seconds)) = second + seconds
-second_after second (Post group) = second
-second_after second (Need group count) = second
-
--- the second after steps, one after another
-abbrev pub second_by : ℕ → List Step → ℕ
-second_by second [] = second
-second_by second (step ∷ steps) = second_by (second_after second step) steps
+-- ---- what steps receive
 
 -- the datagram that a step receives at this second
 abbrev pub heard_at : ℕ → Step → List Heard
@@ -72,15 +60,18 @@ pub record IsRecorded (recording : Recording) (steps : List Step) : Type 0 where
 
 -- A device began in the flat state f, at second 0, with a port that told this before and tells this now. It has taken
 -- steps: what the port handed out is what they receive, each datagram at its second, and then what is still pending;
--- and all that they output was sent. The steps of other devices have no part in it.
-pub record IsServing (f : Machine) (before : Option Traffic) (pending : List Heard) (end : Option DeviceEnd)
-    (device : Device) (second : ℕ) (recording : Recording) (after : Option Traffic) : Type 0 where
+-- all that they output was sent; and the changes among them are these, each at its second. The steps of other devices
+-- have no part in it.
+pub record IsServing (f : Machine) (before : Option Traffic) (pending : List Heard) (changes : List Change)
+    (end : Option DeviceEnd) (device : Device) (second : ℕ) (recording : Recording) (after : Option Traffic)
+    : Type 0 where
   pub steps : List Step
   pub failures : ℕ
   pub told : Carries before after
       (record { handed = heard_by 0 steps ++ pending; sent = sent_by f steps; failures = failures })
   pub clock : second ≡ second_by 0 steps
-  pub live : AllByRecursion IsLiveStep steps
+  pub each : AllByRecursion IsFleetStep steps
+  pub changed : changes_by 0 steps ≡ changes
   pub shows : end ≡ None → Shows device (state_after f steps)
   pub ended : IsEndOf end f steps failures
   pub recorded : IsRecorded recording steps
@@ -89,12 +80,17 @@ pub record IsServing (f : Machine) (before : Option Traffic) (pending : List Hea
 abbrev pub IsDue : Device → Option ℕ → Type 0
 IsDue device due = (f : Machine) → Shows device f → MatchOption due (IsSilent f) (IsNextSending f)
 
--- A device of a class is served from its start. While it goes on nothing is pending, and the second in which it is due
--- next is known, and still to come. One that has ended hears no more. It ended for want of memory only if it may have.
-pub record IsServed (class : Template) (before : Option Traffic) (slot : Slot) (broken : Bool)
+-- A device of a class is served from its start, and these steps of its row are played: those at the row's place and
+-- after it are still to come, and the changes of those before it are all that it has made of its own. While it goes on
+-- nothing is pending, and the second in which it is due next is known, and still to come. One that has ended hears no
+-- more. It ended for want of memory only if it may have.
+pub record IsServed (class : Template) (row : List Step) (before : Option Traffic) (slot : Slot) (broken : Bool)
     (after : Option Traffic) : Type 0 where
   pub unheard : List Heard
-  pub serving : IsServing (start class) before unheard slot.end slot.device slot.second slot.recording after
+  pub serving : IsServing (start class) before unheard (changes_of slot.row) slot.end slot.device slot.second
+      slot.recording after
+  pub row_is : slot.row.steps.items ≡ row
+  pub on_time : slot.end ≡ None → IsOnTime slot.row slot.second
   pub heard : slot.end ≡ None → unheard ≡ []
   pub due : slot.end ≡ None → IsDue slot.device slot.due
   pub later : slot.end ≡ None → IfSome slot.due (λ d. slot.second < d)
@@ -102,28 +98,32 @@ pub record IsServed (class : Template) (before : Option Traffic) (slot : Slot) (
 
 -- ---- all devices
 
--- the device of a row is served from the start of its class
-pub record IsRowServed (s : Scenario) (e : ℕ) (before : Option Traffic) (slot : Slot) (broken : Bool)
+-- the device of a row is served from the start of its class, and its row is played, or is not
+pub record IsRowServed (s : Scenario) (played : Bool) (e : ℕ) (before : Option Traffic) (slot : Slot) (broken : Bool)
     (after : Option Traffic) : Type 0 where
   pub class : Template
   pub steps : List Step
   pub row : IsRowOf s e class steps
-  pub served : IsServed class before slot broken after
+  pub served : IsServed class (played_steps played steps) before slot broken after
 
--- the devices of a scenario are served, each on its port, and at most to this second. One of them ended for want of
--- memory only if the session is broken off
-pub record IsFleet (s : Scenario) (before : ℕ → Option Traffic) (slots : List Slot) (now : ℕ) (broken : Bool)
-    (after : ℕ → Option Traffic) : Type 0 where
+-- the devices of a scenario are served, each on its port, and at most to this second; their rows are played, or are
+-- not. One of them ended for want of memory only if the session is broken off
+pub record IsFleet (s : Scenario) (played : Bool) (before : ℕ → Option Traffic) (slots : List Slot) (now : ℕ)
+    (broken : Bool) (after : ℕ → Option Traffic) : Type 0 where
   pub count : length slots ≡ length s.rows
   pub each : (e : ℕ) (slot : Slot) → slice_get slots e ≡ Some slot
-      → IsRowServed s e (before e) slot broken (after e)
+      → IsRowServed s played e (before e) slot broken (after e)
   pub early : (e : ℕ) (slot : Slot) → slice_get slots e ≡ Some slot → slot.second ≤ now
 
--- of the first n devices none that goes on is due at this second or before
+-- nothing is to be done by a device at this second or before: it sends nothing by itself, and no step of its row is due
+pub record IsSweptAt (slot : Slot) (second : ℕ) : Type 0 where
+  pub due : IfSome slot.due (λ d. second < d)
+  pub row : IsLaterThan second (row_state slot.row)
+
+-- of the first n devices each that goes on has nothing to do at this second or before
 abbrev pub AreSwept : List Slot → ℕ → ℕ → Type 0
 AreSwept slots n second =
-    (e : ℕ) (slot : Slot) → e < n → slice_get slots e ≡ Some slot → slot.end ≡ None
-    → IfSome slot.due (λ d. second < d)
+    (e : ℕ) (slot : Slot) → e < n → slice_get slots e ≡ Some slot → slot.end ≡ None → IsSweptAt slot second
 
 -- of the first n devices each that goes on stands at this second
 abbrev pub AreAt : List Slot → ℕ → ℕ → Type 0

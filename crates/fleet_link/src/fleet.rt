@@ -4,6 +4,7 @@ ghost use Rattle.fleet_link.specs.Traffic.{Traffic};
 ghost use Rattle.fleet_link.specs.Serving.{AreRecorded, IsFleet, IsRowServed};
 
 use crate::recording::Recording;
+use crate::row::PlayedRow;
 use crate::slot::Slot;
 use fleet_core::start_of_row;
 use scenario_image::Scenario;
@@ -40,25 +41,32 @@ fn slot_of_row(
     alloc: Global,
     scenario: &Scenario,
     device: u16,
+    played: bool,
     saved: bool,
 ) -> Result<Slot, AllocError>
     requires { device < length scenario.now.rows }
     ensures served { IfOk result (λ slot. (told : Option Traffic)
-        → IsRowServed scenario.now device told slot false told) }
+        → IsRowServed scenario.now played device told slot false told) }
     ensures second { IfOk result (λ slot. slot.second ≡ 0) }
     ensures recorded { IfOk result (λ slot. saved ≡ true → slot.recording.complete ≡ true) }
 {
     let rows = scenario.rows();
+    let row = PlayedRow::of_device(alloc, scenario, device, played)?;
     let device = start_of_row(scenario, device)?;
-    Ok(Slot::new(device, recording_of(alloc, rows, saved)))
+    Ok(Slot::new(device, row, recording_of(alloc, rows, saved)))
 }
 
 impl Fleet {
-    /// The devices of a scenario, each at the start of its row's class, at second 0. Their steps are recorded if they
-    /// are to be saved.
-    pub fn start(alloc: Global, scenario: &Scenario, saved: bool) -> Result<Fleet, AllocError>
+    /// The devices of a scenario, each at the start of its row's class, at second 0. Their rows are played, or are not;
+    /// their steps are recorded if they are to be saved.
+    fn start_rows(
+        alloc: Global,
+        scenario: &Scenario,
+        played: bool,
+        saved: bool,
+    ) -> Result<Fleet, AllocError>
         ensures fleet { (told : ℕ → Option Traffic)
-            → IfOk result (λ fleet. IsFleet scenario.now told fleet.slots.items fleet.second false told) }
+            → IfOk result (λ fleet. IsFleet scenario.now played told fleet.slots.items fleet.second false told) }
         ensures second { IfOk result (λ fleet. fleet.second ≡ 0) }
         ensures recorded { IfOk result (λ fleet. saved ≡ true → AreRecorded fleet.slots.items) }
         ensures began { IfOk result (λ fleet. fleet.began ≡ None) }
@@ -66,13 +74,40 @@ impl Fleet {
         let rows = scenario.rows();
         let mut slots = Vec::with_capacity(alloc, rows)?;
         for device in 0..rows {
-            slots.push(slot_of_row(alloc, scenario, device as u16, saved)?)?;
+            slots.push(slot_of_row(alloc, scenario, device as u16, played, saved)?)?;
         }
         Ok(Fleet {
             slots,
             began: None,
             second: 0,
         })
+    }
+
+    /// The devices of a scenario, each at the start of its row's class, at second 0. Their rows are not played. Their
+    /// steps are recorded if they are to be saved.
+    pub fn start(alloc: Global, scenario: &Scenario, saved: bool) -> Result<Fleet, AllocError>
+        ensures fleet { (told : ℕ → Option Traffic)
+            → IfOk result (λ fleet. IsFleet scenario.now false told fleet.slots.items fleet.second false told) }
+        ensures second { IfOk result (λ fleet. fleet.second ≡ 0) }
+        ensures recorded { IfOk result (λ fleet. saved ≡ true → AreRecorded fleet.slots.items) }
+        ensures began { IfOk result (λ fleet. fleet.began ≡ None) }
+    {
+        Fleet::start_rows(alloc, scenario, false, saved)
+    }
+
+    /// The same, but their rows are played: what they say, but for their datagrams, happens as seconds pass.
+    pub fn start_played(
+        alloc: Global,
+        scenario: &Scenario,
+        saved: bool,
+    ) -> Result<Fleet, AllocError>
+        ensures fleet { (told : ℕ → Option Traffic)
+            → IfOk result (λ fleet. IsFleet scenario.now true told fleet.slots.items fleet.second false told) }
+        ensures second { IfOk result (λ fleet. fleet.second ≡ 0) }
+        ensures recorded { IfOk result (λ fleet. saved ≡ true → AreRecorded fleet.slots.items) }
+        ensures began { IfOk result (λ fleet. fleet.began ≡ None) }
+    {
+        Fleet::start_rows(alloc, scenario, true, saved)
     }
 
     /// The devices, in the order of their rows.

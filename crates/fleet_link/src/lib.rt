@@ -9,6 +9,7 @@ mod laws;
 mod memory;
 mod ports;
 mod recording;
+mod row;
 mod saving;
 mod sending;
 mod serving;
@@ -18,9 +19,12 @@ mod udp;
 pub use directory::FixedServer;
 pub use fault::FleetFault;
 pub use fleet::Fleet;
-pub use laws::{clocks_show_seconds, saved_rows_play_back};
+pub use laws::{
+    clocks_show_seconds, played_steps_keep_changes, saved_rows_play_back, unchanged_steps_are_live,
+};
 pub use memory::{ScriptedPorts, Sending};
 pub use ports::{Arrival, Ports, PortsFault, Receipt};
 pub use recording::Recording;
+pub use row::{PlayedRow, RowState};
 pub use slot::{DeviceEnd, Slot};
 pub use udp::{BindFault, Counts, UdpPorts};

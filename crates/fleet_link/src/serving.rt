@@ -1,6 +1,6 @@
 //! All devices of a fleet are served: what arrives at their ports is what they receive, and the seconds of a clock are
 //! their ticks.
-ghost use Rattle.std.specs.Prelude.{◌≡◌, ◌+◌, ◌-◌, ◌≤◌, ◌⊎◌, [], ℕ, List, Option, Some, Ok};
+ghost use Rattle.std.specs.Prelude.{◌≡◌, ◌+◌, ◌-◌, ◌≤◌, ◌⊎◌, [], ℕ, Bool, List, Option, Some, Ok};
 ghost use Rattle.std.specs.Prelude.{OnOk, is_err, false, length, max, unwrap_or};
 ghost use Rattle.live_link.specs.Wire.{AreRead};
 ghost use Rattle.scenario_image.specs.Scenario.{Scenario};
@@ -35,13 +35,13 @@ fn wait_of(slices: usize) -> u32 {
 impl Fleet {
     /// Lets the device receive a datagram that has arrived at its port. There may be no such device.
     fn take_arrival<P: Ports>(&mut self, ports: &mut P, arrival: Arrival) -> Result<(), AllocError>
-        ensures fleet { (s : Scenario) (before between : ℕ → Option Traffic)
-            → IsFleet s before self.old.slots.items self.old.second false between
+        ensures fleet { (s : Scenario) (played : Bool) (before between : ℕ → Option Traffic)
+            → IsFleet s played before self.old.slots.items self.old.second false between
             → ((e : ℕ) → Carries (between e) (P.told ports.old e)
             (at_port arrival.device e (handed_at self.old.second arrival.packet)))
-            → IsFleet s before self.new.slots.items self.new.second (is_err result) (P.told ports.new) }
-        ensures swept { (s : Scenario) (before between : ℕ → Option Traffic)
-            → IsFleet s before self.old.slots.items self.old.second false between
+            → IsFleet s played before self.new.slots.items self.new.second (is_err result) (P.told ports.new) }
+        ensures swept { (s : Scenario) (played : Bool) (before between : ℕ → Option Traffic)
+            → IsFleet s played before self.old.slots.items self.old.second false between
             → ((e : ℕ) → Carries (between e) (P.told ports.old e)
             (at_port arrival.device e (handed_at self.old.second arrival.packet)))
             → (n second : ℕ) → second ≤ self.old.second → AreSwept self.old.slots.items n second
@@ -61,10 +61,10 @@ impl Fleet {
 
     /// Notes that the port of a device failed. There may be no such device.
     fn take_failure(&mut self, device: usize)
-        ensures fleet { (s : Scenario) (before between after : ℕ → Option Traffic)
-            → IsFleet s before self.old.slots.items self.old.second false between
+        ensures fleet { (s : Scenario) (played : Bool) (before between after : ℕ → Option Traffic)
+            → IsFleet s played before self.old.slots.items self.old.second false between
             → ((e : ℕ) → Carries (between e) (after e) (at_port device e failed_once))
-            → IsFleet s before self.new.slots.items self.new.second false after }
+            → IsFleet s played before self.new.slots.items self.new.second false after }
         ensures swept { (n second : ℕ) → AreSwept self.old.slots.items n second
             → AreSwept self.new.slots.items n second }
         ensures second { self.new.second ≡ self.old.second }
@@ -89,12 +89,12 @@ impl Fleet {
 
     /// Lets the devices know what came of asking the ports.
     fn take_receipt<P: Ports>(&mut self, ports: &mut P, receipt: Receipt) -> Result<(), AllocError>
-        ensures fleet { (s : Scenario) (before between : ℕ → Option Traffic)
-            → IsFleet s before self.old.slots.items self.old.second false between
+        ensures fleet { (s : Scenario) (played : Bool) (before between : ℕ → Option Traffic)
+            → IsFleet s played before self.old.slots.items self.old.second false between
             → ((e : ℕ) → Carries (between e) (P.told ports.old e) (traffic_of_receipt self.old.second (Ok receipt) e))
-            → IsFleet s before self.new.slots.items self.new.second (is_err result) (P.told ports.new) }
-        ensures swept { (s : Scenario) (before between : ℕ → Option Traffic)
-            → IsFleet s before self.old.slots.items self.old.second false between
+            → IsFleet s played before self.new.slots.items self.new.second (is_err result) (P.told ports.new) }
+        ensures swept { (s : Scenario) (played : Bool) (before between : ℕ → Option Traffic)
+            → IsFleet s played before self.old.slots.items self.old.second false between
             → ((e : ℕ) → Carries (between e) (P.told ports.old e) (traffic_of_receipt self.old.second (Ok receipt) e))
             → (n second : ℕ) → second ≤ self.old.second → AreSwept self.old.slots.items n second
             → AreSwept self.new.slots.items n second }
@@ -120,11 +120,11 @@ impl Fleet {
         ports: &mut P,
         clock: &mut C,
     ) -> Result<bool, FleetFault>
-        ensures fleet { (s : Scenario) (before : ℕ → Option Traffic)
-            → IsFleet s before self.old.slots.items self.old.second false (P.told ports.old)
-            → IsFleet s before self.new.slots.items self.new.second (is_err result) (P.told ports.new) }
-        ensures swept { (s : Scenario) (before : ℕ → Option Traffic)
-            → IsFleet s before self.old.slots.items self.old.second false (P.told ports.old)
+        ensures fleet { (s : Scenario) (played : Bool) (before : ℕ → Option Traffic)
+            → IsFleet s played before self.old.slots.items self.old.second false (P.told ports.old)
+            → IsFleet s played before self.new.slots.items self.new.second (is_err result) (P.told ports.new) }
+        ensures swept { (s : Scenario) (played : Bool) (before : ℕ → Option Traffic)
+            → IsFleet s played before self.old.slots.items self.old.second false (P.told ports.old)
             → (n second : ℕ) → second ≤ self.old.second → AreSwept self.old.slots.items n second
             → AreSwept self.new.slots.items n second }
         ensures asked { (read_before asked_before : Option (List ℕ)) (calls : ℕ)
@@ -149,11 +149,11 @@ impl Fleet {
         ports: &mut P,
         clock: &mut C,
     ) -> Result<(), FleetFault>
-        ensures fleet { (s : Scenario) (before : ℕ → Option Traffic)
-            → IsFleet s before self.old.slots.items self.old.second false (P.told ports.old)
-            → IsFleet s before self.new.slots.items self.new.second (is_err result) (P.told ports.new) }
-        ensures swept { (s : Scenario) (before : ℕ → Option Traffic)
-            → IsFleet s before self.old.slots.items self.old.second false (P.told ports.old)
+        ensures fleet { (s : Scenario) (played : Bool) (before : ℕ → Option Traffic)
+            → IsFleet s played before self.old.slots.items self.old.second false (P.told ports.old)
+            → IsFleet s played before self.new.slots.items self.new.second (is_err result) (P.told ports.new) }
+        ensures swept { (s : Scenario) (played : Bool) (before : ℕ → Option Traffic)
+            → IsFleet s played before self.old.slots.items self.old.second false (P.told ports.old)
             → (n second : ℕ) → second ≤ self.old.second → AreSwept self.old.slots.items n second
             → OnOk result (AreSwept self.new.slots.items n second) }
         ensures asked { (read_before asked_before : Option (List ℕ)) (calls : ℕ)
@@ -184,11 +184,11 @@ impl Fleet {
         clock: &mut C,
         millis: u32,
     ) -> Result<(), FleetFault>
-        ensures fleet { (s : Scenario) (before : ℕ → Option Traffic)
-            → IsFleet s before self.old.slots.items self.old.second false (P.told ports.old)
-            → IsFleet s before self.new.slots.items self.new.second (is_err result) (P.told ports.new) }
-        ensures swept { (s : Scenario) (before : ℕ → Option Traffic)
-            → IsFleet s before self.old.slots.items self.old.second false (P.told ports.old)
+        ensures fleet { (s : Scenario) (played : Bool) (before : ℕ → Option Traffic)
+            → IsFleet s played before self.old.slots.items self.old.second false (P.told ports.old)
+            → IsFleet s played before self.new.slots.items self.new.second (is_err result) (P.told ports.new) }
+        ensures swept { (s : Scenario) (played : Bool) (before : ℕ → Option Traffic)
+            → IsFleet s played before self.old.slots.items self.old.second false (P.told ports.old)
             → (n second : ℕ) → second ≤ self.old.second → AreSwept self.old.slots.items n second
             → OnOk result (AreSwept self.new.slots.items n second) }
         ensures asked { (read_before asked_before : Option (List ℕ)) (calls : ℕ)
@@ -217,11 +217,11 @@ impl Fleet {
         second: u64,
     ) -> Result<(), AllocError>
         requires { to ≤ length self.old.slots.items }
-        ensures fleet { (s : Scenario) (before : ℕ → Option Traffic) → second ≤ self.old.second
-            → IsFleet s before self.old.slots.items self.old.second false (P.told ports.old)
-            → IsFleet s before self.new.slots.items self.new.second (is_err result) (P.told ports.new) }
-        ensures swept { (s : Scenario) (before : ℕ → Option Traffic) → second ≤ self.old.second
-            → IsFleet s before self.old.slots.items self.old.second false (P.told ports.old)
+        ensures fleet { (s : Scenario) (played : Bool) (before : ℕ → Option Traffic) → second ≤ self.old.second
+            → IsFleet s played before self.old.slots.items self.old.second false (P.told ports.old)
+            → IsFleet s played before self.new.slots.items self.new.second (is_err result) (P.told ports.new) }
+        ensures swept { (s : Scenario) (played : Bool) (before : ℕ → Option Traffic) → second ≤ self.old.second
+            → IsFleet s played before self.old.slots.items self.old.second false (P.told ports.old)
             → from ≤ to → AreSwept self.old.slots.items from second
             → OnOk result (AreSwept self.new.slots.items to second) }
         ensures asked { AreRead (P.asked ports.old) (P.asked ports.new) [] }
@@ -242,11 +242,11 @@ impl Fleet {
         ports: &mut P,
         clock: &mut C,
     ) -> Result<(), FleetFault>
-        ensures fleet { (s : Scenario) (before : ℕ → Option Traffic)
-            → IsFleet s before self.old.slots.items self.old.second false (P.told ports.old)
-            → IsFleet s before self.new.slots.items self.new.second (is_err result) (P.told ports.new) }
-        ensures swept { (s : Scenario) (before : ℕ → Option Traffic)
-            → IsFleet s before self.old.slots.items self.old.second false (P.told ports.old)
+        ensures fleet { (s : Scenario) (played : Bool) (before : ℕ → Option Traffic)
+            → IsFleet s played before self.old.slots.items self.old.second false (P.told ports.old)
+            → IsFleet s played before self.new.slots.items self.new.second (is_err result) (P.told ports.new) }
+        ensures swept { (s : Scenario) (played : Bool) (before : ℕ → Option Traffic)
+            → IsFleet s played before self.old.slots.items self.old.second false (P.told ports.old)
             → OnOk result (AreSwept self.new.slots.items (length self.new.slots.items) self.old.second) }
         ensures asked { (read_before asked_before : Option (List ℕ)) (calls : ℕ)
             → AreAsked read_before (C.read clock.old) asked_before (P.asked ports.old) self.old.began
@@ -276,11 +276,11 @@ impl Fleet {
 
     /// Brings each device to the second of the session.
     pub fn finish<P: Ports>(&mut self, ports: &mut P) -> Result<(), FleetFault>
-        ensures fleet { (s : Scenario) (before : ℕ → Option Traffic)
-            → IsFleet s before self.old.slots.items self.old.second false (P.told ports.old)
-            → IsFleet s before self.new.slots.items self.new.second (is_err result) (P.told ports.new) }
-        ensures finished { (s : Scenario) (before : ℕ → Option Traffic)
-            → IsFleet s before self.old.slots.items self.old.second false (P.told ports.old)
+        ensures fleet { (s : Scenario) (played : Bool) (before : ℕ → Option Traffic)
+            → IsFleet s played before self.old.slots.items self.old.second false (P.told ports.old)
+            → IsFleet s played before self.new.slots.items self.new.second (is_err result) (P.told ports.new) }
+        ensures finished { (s : Scenario) (played : Bool) (before : ℕ → Option Traffic)
+            → IsFleet s played before self.old.slots.items self.old.second false (P.told ports.old)
             → OnOk result (AreAt self.new.slots.items (length self.new.slots.items) self.new.second) }
         ensures asked { AreRead (P.asked ports.old) (P.asked ports.new) [] }
         ensures second { self.new.second ≡ self.old.second }
@@ -303,11 +303,11 @@ impl Fleet {
         turns: u64,
         until: u64,
     ) -> Result<(), FleetFault>
-        ensures fleet { (s : Scenario) (before : ℕ → Option Traffic)
-            → IsFleet s before self.old.slots.items self.old.second false (P.told ports.old)
-            → IsFleet s before self.new.slots.items self.new.second (is_err result) (P.told ports.new) }
-        ensures finished { (s : Scenario) (before : ℕ → Option Traffic)
-            → IsFleet s before self.old.slots.items self.old.second false (P.told ports.old)
+        ensures fleet { (s : Scenario) (played : Bool) (before : ℕ → Option Traffic)
+            → IsFleet s played before self.old.slots.items self.old.second false (P.told ports.old)
+            → IsFleet s played before self.new.slots.items self.new.second (is_err result) (P.told ports.new) }
+        ensures finished { (s : Scenario) (played : Bool) (before : ℕ → Option Traffic)
+            → IsFleet s played before self.old.slots.items self.old.second false (P.told ports.old)
             → OnOk result (AreAt self.new.slots.items (length self.new.slots.items) self.new.second) }
         ensures asked { (read_before asked_before : Option (List ℕ)) (calls : ℕ)
             → AreAsked read_before (C.read clock.old) asked_before (P.asked ports.old) self.old.began

@@ -1,17 +1,21 @@
 //! One device of a fleet: its second, its steps.
 ghost use Rattle.std.specs.Prelude.{◌≡◌, ◌≢◌, ◌⊎◌, ◌+◌, ◌^◌, ◌≤◌, ◌<◌, ◌∷◌, ◌++◌, [], ℕ, List, Option, Some, None, Err};
-ghost use Rattle.std.specs.Prelude.{IfErr, IfOk, IfSome, OnErr, OnOk, IsTrue, false, true, is_err, vec_capacity, vec_len};
+ghost use Rattle.std.specs.Prelude.{IfErr, IfOk, OnErr, OnOk, IsTrue, false, true, is_err, length, vec_capacity};
+ghost use Rattle.std.specs.Prelude.{vec_len};
 ghost use Rattle.device_machine.specs.State.{Machine, Shows};
 ghost use Rattle.device_machine.specs.Reactions.{flat_after, is_refused, outputs_of};
 ghost use Rattle.device_template.specs.Template.{Template};
-ghost use Rattle.live_link.specs.Live.{IsLiveStep};
 ghost use Rattle.live_link.specs.Wire.{AreRead};
+ghost use Rattle.scenario_image.specs.declared.step.Step.{Step};
 ghost use Rattle.scenario_image.specs.declared.step.Step.TheVariants.{Event as event_step};
+ghost use Rattle.fleet_link.specs.Playing.{change_at, change_in, changes_of, row_state, second_after, Change};
+ghost use Rattle.fleet_link.specs.Playing.{IsFleetStep, IsLaterThan, IsOnTime};
 ghost use Rattle.fleet_link.specs.Traffic.{Carries, Heard, Traffic, failed_once, handed_at, no_traffic};
-ghost use Rattle.fleet_link.specs.Serving.{heard_at, second_after, IsDue, IsRecorded, IsServed, IsServing};
+ghost use Rattle.fleet_link.specs.Serving.{heard_at, IsDue, IsRecorded, IsServed, IsServing, IsSweptAt};
 
 use crate::ports::Ports;
 use crate::recording::Recording;
+use crate::row::{PlayedRow, RowState};
 use crate::sending::send_all;
 use device_machine::{Device, Event, Outputs, StepFault};
 use live_link::Packet;
@@ -67,16 +71,19 @@ pub struct Slot {
     due: Option<u64>,
     /// How it ended; none while it goes on.
     end: Option<DeviceEnd>,
+    /// What it does as its row says.
+    row: PlayedRow,
     recording: Recording,
 }
 
 impl Slot {
     /// A device at second 0.
-    pub(crate) fn new(device: Device, recording: Recording) -> Slot
+    pub(crate) fn new(device: Device, row: PlayedRow, recording: Recording) -> Slot
         ensures device { result.device ≡ device }
         ensures second { result.second ≡ 0 }
         ensures end { result.end ≡ None }
         ensures due { IsDue device result.due }
+        ensures row { result.row ≡ row }
         ensures recording { result.recording ≡ recording }
     {
         let due = device.due();
@@ -85,6 +92,7 @@ impl Slot {
             second: 0,
             due,
             end: None,
+            row,
             recording,
         }
     }
@@ -94,6 +102,13 @@ impl Slot {
         ensures { result ≡ self.now.end }
     {
         self.end
+    }
+
+    /// How its row goes on.
+    pub fn row(&self) -> RowState
+        ensures { result ≡ row_state self.now.row }
+    {
+        self.row.state()
     }
 
     /// Whether all of its steps are recorded.
@@ -125,6 +140,7 @@ impl Slot {
         ensures room { OnOk result (self.new.recording.complete ≡ true
             → vec_len self.new.recording.steps < vec_capacity self.new.recording.steps) }
         ensures second { self.new.second ≡ self.old.second }
+        ensures row { self.new.row ≡ self.old.row }
         ensures due { self.new.due ≡ self.old.due }
         ensures end { self.new.end ≡ self.old.end }
     {
@@ -140,19 +156,23 @@ impl Slot {
         place: usize,
         event: Event,
     ) -> Result<(), DeviceEnd>
-        ensures served { (f : Machine) (before : Option Traffic) (rest : List Heard) → IsLiveStep (event_step event)
-            → IsServing f before (heard_at self.old.second (event_step event) ++ rest) None self.old.device
+        ensures served { (f : Machine) (before : Option Traffic) (rest : List Heard) (changes : List Change)
+            → IsFleetStep (event_step event)
+            → IsServing f before (heard_at self.old.second (event_step event) ++ rest) changes None self.old.device
             self.old.second self.old.recording (P.told ports.old place)
-            → OnOk result (IsServing f before rest None self.new.device
+            → OnOk result (IsServing f before rest
+            (changes ++ change_at self.old.second (change_in (event_step event))) None self.new.device
             (second_after self.old.second (event_step event)) self.new.recording (P.told ports.new place)) }
-        ensures refused { (f : Machine) (before : Option Traffic) (pending : List Heard) → IsLiveStep (event_step event)
-            → IsServing f before pending None self.old.device self.old.second self.old.recording
+        ensures refused { (f : Machine) (before : Option Traffic) (pending : List Heard) (changes : List Change)
+            → IsFleetStep (event_step event)
+            → IsServing f before pending changes None self.old.device self.old.second self.old.recording
             (P.told ports.old place)
-            → IfErr result (λ end. IsServing f before pending (Some end) self.new.device self.old.second
+            → IfErr result (λ end. IsServing f before pending changes (Some end) self.new.device self.old.second
             self.new.recording (P.told ports.new place)) }
         ensures others { (e : ℕ) → e ≢ place → Carries (P.told ports.old e) (P.told ports.new e) no_traffic }
         ensures asked { AreRead (P.asked ports.old) (P.asked ports.new) [] }
         ensures second { self.new.second ≡ self.old.second }
+        ensures row { self.new.row ≡ self.old.row }
         ensures due { self.new.due ≡ self.old.due }
         ensures end { self.new.end ≡ self.old.end }
         ensures kind { IfErr result (λ end. end ≢ DeviceEnd.Port) }
@@ -168,20 +188,21 @@ impl Slot {
         requires some { 1 ≤ seconds }
         requires few { seconds ≤ 86400 }
         requires fits { self.old.second + seconds < 2 ^ 64 }
-        ensures served { (f : Machine) (before : Option Traffic) (pending : List Heard)
-            → IsServing f before pending None self.old.device self.old.second self.old.recording
+        ensures served { (f : Machine) (before : Option Traffic) (pending : List Heard) (changes : List Change)
+            → IsServing f before pending changes None self.old.device self.old.second self.old.recording
             (P.told ports.old place)
-            → OnOk result (IsServing f before pending None self.new.device self.new.second self.new.recording
+            → OnOk result (IsServing f before pending changes None self.new.device self.new.second self.new.recording
             (P.told ports.new place)) }
-        ensures refused { (f : Machine) (before : Option Traffic) (pending : List Heard)
-            → IsServing f before pending None self.old.device self.old.second self.old.recording
+        ensures refused { (f : Machine) (before : Option Traffic) (pending : List Heard) (changes : List Change)
+            → IsServing f before pending changes None self.old.device self.old.second self.old.recording
             (P.told ports.old place)
-            → IfErr result (λ end. IsServing f before pending (Some end) self.new.device self.new.second
+            → IfErr result (λ end. IsServing f before pending changes (Some end) self.new.device self.new.second
             self.new.recording (P.told ports.new place)) }
         ensures others { (e : ℕ) → e ≢ place → Carries (P.told ports.old e) (P.told ports.new e) no_traffic }
         ensures asked { AreRead (P.asked ports.old) (P.asked ports.new) [] }
         ensures second { OnOk result (self.new.second ≡ self.old.second + seconds) }
         ensures left { OnErr result (self.new.second ≡ self.old.second) }
+        ensures row { self.new.row ≡ self.old.row }
         ensures due { self.new.due ≡ self.old.due }
         ensures end { self.new.end ≡ self.old.end }
     {
@@ -191,21 +212,22 @@ impl Slot {
     }
 
     /// Lets the seconds pass up to this one, at most a day in a step.
-    fn catch_up<P: Ports>(&mut self, ports: &mut P, place: usize, now: u64) -> Result<(), DeviceEnd>
-        ensures served { (f : Machine) (before : Option Traffic) (pending : List Heard)
-            → IsServing f before pending None self.old.device self.old.second self.old.recording
+    fn pass_to<P: Ports>(&mut self, ports: &mut P, place: usize, now: u64) -> Result<(), DeviceEnd>
+        ensures served { (f : Machine) (before : Option Traffic) (pending : List Heard) (changes : List Change)
+            → IsServing f before pending changes None self.old.device self.old.second self.old.recording
             (P.told ports.old place)
-            → OnOk result (IsServing f before pending None self.new.device self.new.second self.new.recording
+            → OnOk result (IsServing f before pending changes None self.new.device self.new.second self.new.recording
             (P.told ports.new place)) }
-        ensures refused { (f : Machine) (before : Option Traffic) (pending : List Heard)
-            → IsServing f before pending None self.old.device self.old.second self.old.recording
+        ensures refused { (f : Machine) (before : Option Traffic) (pending : List Heard) (changes : List Change)
+            → IsServing f before pending changes None self.old.device self.old.second self.old.recording
             (P.told ports.old place)
-            → IfErr result (λ end. IsServing f before pending (Some end) self.new.device self.new.second
+            → IfErr result (λ end. IsServing f before pending changes (Some end) self.new.device self.new.second
             self.new.recording (P.told ports.new place)) }
         ensures others { (e : ℕ) → e ≢ place → Carries (P.told ports.old e) (P.told ports.new e) no_traffic }
         ensures asked { AreRead (P.asked ports.old) (P.asked ports.new) [] }
         ensures second { self.old.second ≤ now → OnOk result (self.new.second ≡ now) }
         ensures most { (most : ℕ) → self.old.second ≤ most → now ≤ most → self.new.second ≤ most }
+        ensures row { self.new.row ≡ self.old.row }
         ensures end { self.new.end ≡ self.old.end }
     {
         while self.second < now {
@@ -213,6 +235,100 @@ impl Slot {
             self.tick(ports, place, seconds)?;
         }
         Ok(())
+    }
+
+    /// Makes a change of the row at this second.
+    fn change<P: Ports>(
+        &mut self,
+        ports: &mut P,
+        place: usize,
+        second: u64,
+        event: Event,
+    ) -> Result<(), DeviceEnd>
+        ensures served { (f : Machine) (before : Option Traffic) (pending : List Heard) (changes : List Change)
+            → change_in (event_step event) ≡ Some event
+            → IsServing f before pending changes None self.old.device self.old.second self.old.recording
+            (P.told ports.old place) → self.old.second ≤ second
+            → OnOk result (IsServing f before pending (changes ++ change_at second (Some event)) None self.new.device
+            self.new.second self.new.recording (P.told ports.new place)) }
+        ensures refused { (f : Machine) (before : Option Traffic) (pending : List Heard) (changes : List Change)
+            → change_in (event_step event) ≡ Some event
+            → IsServing f before pending changes None self.old.device self.old.second self.old.recording
+            (P.told ports.old place)
+            → IfErr result (λ end. IsServing f before pending changes (Some end) self.new.device self.new.second
+            self.new.recording (P.told ports.new place)) }
+        ensures others { (e : ℕ) → e ≢ place → Carries (P.told ports.old e) (P.told ports.new e) no_traffic }
+        ensures asked { AreRead (P.asked ports.old) (P.asked ports.new) [] }
+        ensures second { self.old.second ≤ second → OnOk result (self.new.second ≡ second) }
+        ensures most { (most : ℕ) → self.old.second ≤ most → second ≤ most → self.new.second ≤ most }
+        ensures row { self.new.row ≡ self.old.row }
+        ensures end { self.new.end ≡ self.old.end }
+    {
+        self.pass_to(ports, place, second)?;
+        self.take_event(ports, place, event)
+    }
+
+    /// Makes the next step of the row, which is due at this second.
+    fn make_step<P: Ports>(
+        &mut self,
+        ports: &mut P,
+        place: usize,
+        due: u64,
+    ) -> Result<(), DeviceEnd>
+        requires due { row_state self.old.row ≡ RowState.Due due }
+        requires within { self.old.row.place < length self.old.row.steps.items }
+        ensures served { (f : Machine) (before : Option Traffic) (pending : List Heard)
+            → IsServing f before pending (changes_of self.old.row) None self.old.device self.old.second
+            self.old.recording (P.told ports.old place) → IsOnTime self.old.row self.old.second
+            → OnOk result (IsServing f before pending (changes_of self.new.row) None self.new.device self.new.second
+            self.new.recording (P.told ports.new place)) }
+        ensures on_time { IsOnTime self.old.row self.old.second → OnOk result (IsOnTime self.new.row self.new.second) }
+        ensures refused { (f : Machine) (before : Option Traffic) (pending : List Heard)
+            → IsServing f before pending (changes_of self.old.row) None self.old.device self.old.second
+            self.old.recording (P.told ports.old place) → IsOnTime self.old.row self.old.second
+            → IfErr result (λ end. IsServing f before pending (changes_of self.new.row) (Some end) self.new.device
+            self.new.second self.new.recording (P.told ports.new place)) }
+        ensures others { (e : ℕ) → e ≢ place → Carries (P.told ports.old e) (P.told ports.new e) no_traffic }
+        ensures asked { AreRead (P.asked ports.old) (P.asked ports.new) [] }
+        ensures most { (most : ℕ) → self.old.second ≤ most → due ≤ most → self.new.second ≤ most }
+        ensures steps { self.new.row.steps ≡ self.old.row.steps }
+        ensures next { OnOk result (self.new.row.place ≡ self.old.row.place + 1) }
+        ensures end { self.new.end ≡ self.old.end }
+    {
+        let Some(event) = self.row.next_change()? else {
+            self.row.advance();
+            return Ok(());
+        };
+        self.change(ports, place, due, event)?;
+        self.row.advance();
+        Ok(())
+    }
+
+    /// Lets the seconds pass up to this one, and what the row says happen in them, each step at its second.
+    fn catch_up<P: Ports>(&mut self, ports: &mut P, place: usize, now: u64) -> Result<(), DeviceEnd>
+        ensures served { (f : Machine) (before : Option Traffic) (pending : List Heard)
+            → IsServing f before pending (changes_of self.old.row) None self.old.device self.old.second
+            self.old.recording (P.told ports.old place) → IsOnTime self.old.row self.old.second
+            → OnOk result (IsServing f before pending (changes_of self.new.row) None self.new.device self.new.second
+            self.new.recording (P.told ports.new place)) }
+        ensures on_time { IsOnTime self.old.row self.old.second → OnOk result (IsOnTime self.new.row self.new.second) }
+        ensures refused { (f : Machine) (before : Option Traffic) (pending : List Heard)
+            → IsServing f before pending (changes_of self.old.row) None self.old.device self.old.second
+            self.old.recording (P.told ports.old place) → IsOnTime self.old.row self.old.second
+            → IfErr result (λ end. IsServing f before pending (changes_of self.new.row) (Some end) self.new.device
+            self.new.second self.new.recording (P.told ports.new place)) }
+        ensures others { (e : ℕ) → e ≢ place → Carries (P.told ports.old e) (P.told ports.new e) no_traffic }
+        ensures asked { AreRead (P.asked ports.old) (P.asked ports.new) [] }
+        ensures second { self.old.second ≤ now → OnOk result (self.new.second ≡ now) }
+        ensures most { (most : ℕ) → self.old.second ≤ most → now ≤ most → self.new.second ≤ most }
+        ensures steps { self.new.row.steps ≡ self.old.row.steps }
+        ensures later { OnOk result (IsLaterThan now (row_state self.new.row)) }
+        ensures end { self.new.end ≡ self.old.end }
+    {
+        while let Some(due) = self.row.due_by(now) {
+            self.make_step(ports, place, due)?;
+        }
+        self.pass_to(ports, place, now)
     }
 
     /// Lets the device receive what its port handed out at this second.
@@ -224,19 +340,25 @@ impl Slot {
         packet: Packet,
     ) -> Result<(), DeviceEnd>
         ensures served { (f : Machine) (before : Option Traffic)
-            → IsServing f before (record { second = now; packet = packet } ∷ []) None self.old.device self.old.second
-            self.old.recording (P.told ports.old place) → self.old.second ≤ now
-            → OnOk result (IsServing f before [] None self.new.device self.new.second self.new.recording
-            (P.told ports.new place)) }
+            → IsServing f before (record { second = now; packet = packet } ∷ []) (changes_of self.old.row) None
+            self.old.device self.old.second self.old.recording (P.told ports.old place)
+            → IsOnTime self.old.row self.old.second → self.old.second ≤ now
+            → OnOk result (IsServing f before [] (changes_of self.new.row) None self.new.device self.new.second
+            self.new.recording (P.told ports.new place)) }
+        ensures on_time { IsOnTime self.old.row self.old.second → OnOk result (IsOnTime self.new.row self.new.second) }
         ensures refused { (f : Machine) (before : Option Traffic)
-            → IsServing f before (record { second = now; packet = packet } ∷ []) None self.old.device self.old.second
-            self.old.recording (P.told ports.old place)
-            → IfErr result (λ end. IsServing f before (record { second = now; packet = packet } ∷ []) (Some end)
-            self.new.device self.new.second self.new.recording (P.told ports.new place)) }
+            → IsServing f before (record { second = now; packet = packet } ∷ []) (changes_of self.old.row) None
+            self.old.device self.old.second self.old.recording (P.told ports.old place)
+            → IsOnTime self.old.row self.old.second
+            → IfErr result (λ end. IsServing f before (record { second = now; packet = packet } ∷ [])
+            (changes_of self.new.row) (Some end) self.new.device self.new.second self.new.recording
+            (P.told ports.new place)) }
         ensures others { (e : ℕ) → e ≢ place → Carries (P.told ports.old e) (P.told ports.new e) no_traffic }
         ensures asked { AreRead (P.asked ports.old) (P.asked ports.new) [] }
         ensures second { self.old.second ≤ now → OnOk result (self.new.second ≡ now) }
         ensures most { (most : ℕ) → self.old.second ≤ most → now ≤ most → self.new.second ≤ most }
+        ensures steps { self.new.row.steps ≡ self.old.row.steps }
+        ensures later { OnOk result (IsLaterThan now (row_state self.new.row)) }
         ensures end { self.new.end ≡ self.old.end }
     {
         self.catch_up(ports, place, now)?;
@@ -255,6 +377,7 @@ impl Slot {
         requires { self.old.end ≡ None }
         ensures device { self.new.device ≡ self.old.device }
         ensures second { self.new.second ≡ self.old.second }
+        ensures row { self.new.row ≡ self.old.row }
         ensures recording { self.new.recording ≡ self.old.recording }
         ensures ok { OnOk taken ((self.new.end ≡ None) × IsDue self.new.device self.new.due) }
         ensures ended { IfErr taken (λ end. self.new.end ≡ Some end) }
@@ -284,13 +407,14 @@ impl Slot {
         now: u64,
         packet: Packet,
     ) -> Result<(), AllocError>
-        ensures served { (class : Template) (before between : Option Traffic)
-            → IsServed class before self.old false between
+        ensures served { (class : Template) (row : List Step) (before between : Option Traffic)
+            → IsServed class row before self.old false between
             → Carries between (P.told ports.old place) (handed_at now packet) → self.old.second ≤ now
-            → IsServed class before self.new (is_err result) (P.told ports.new place) }
+            → IsServed class row before self.new (is_err result) (P.told ports.new place) }
         ensures others { (e : ℕ) → e ≢ place → Carries (P.told ports.old e) (P.told ports.new e) no_traffic }
         ensures asked { AreRead (P.asked ports.old) (P.asked ports.new) [] }
         ensures second { self.old.second ≤ now → self.new.end ≡ None → self.new.second ≡ now }
+        ensures later { self.new.end ≡ None → IsLaterThan now (row_state self.new.row) }
         ensures most { (most : ℕ) → self.old.second ≤ most → now ≤ most → self.new.second ≤ most }
     {
         match self.end {
@@ -309,12 +433,13 @@ impl Slot {
         place: usize,
         now: u64,
     ) -> Result<(), AllocError>
-        ensures served { (class : Template) (before : Option Traffic)
-            → IsServed class before self.old false (P.told ports.old place)
-            → IsServed class before self.new (is_err result) (P.told ports.new place) }
+        ensures served { (class : Template) (row : List Step) (before : Option Traffic)
+            → IsServed class row before self.old false (P.told ports.old place)
+            → IsServed class row before self.new (is_err result) (P.told ports.new place) }
         ensures others { (e : ℕ) → e ≢ place → Carries (P.told ports.old e) (P.told ports.new e) no_traffic }
         ensures asked { AreRead (P.asked ports.old) (P.asked ports.new) [] }
         ensures second { self.old.second ≤ now → self.new.end ≡ None → self.new.second ≡ now }
+        ensures later { self.new.end ≡ None → IsLaterThan now (row_state self.new.row) }
         ensures over { self.old.end ≢ None → self.new ≡ self.old }
         ensures most { (most : ℕ) → self.old.second ≤ most → now ≤ most → self.new.second ≤ most }
     {
@@ -327,6 +452,22 @@ impl Slot {
         }
     }
 
+    /// Whether, at this second or before, it sends something by itself or a step of its row is due.
+    fn is_due(&self, now: u64) -> bool
+        ensures due { (class : Template) (row : List Step) (before after : Option Traffic)
+            → IsServed class row before self.now false after → self.now.end ≡ None → result ≡ true
+            → self.now.second ≤ now }
+        ensures later { result ≡ false → IsSweptAt self.now now }
+    {
+        if self.row.due_by(now).is_some() {
+            return true;
+        }
+        match self.due {
+            None => false,
+            Some(due) => due <= now,
+        }
+    }
+
     /// Brings the device to this second, if it is due then or before. `Err`: no memory was left.
     pub(crate) fn sweep<P: Ports>(
         &mut self,
@@ -334,32 +475,27 @@ impl Slot {
         place: usize,
         now: u64,
     ) -> Result<(), AllocError>
-        ensures served { (class : Template) (before : Option Traffic)
-            → IsServed class before self.old false (P.told ports.old place)
-            → IsServed class before self.new (is_err result) (P.told ports.new place) }
+        ensures served { (class : Template) (row : List Step) (before : Option Traffic)
+            → IsServed class row before self.old false (P.told ports.old place)
+            → IsServed class row before self.new (is_err result) (P.told ports.new place) }
         ensures others { (e : ℕ) → e ≢ place → Carries (P.told ports.old e) (P.told ports.new e) no_traffic }
         ensures asked { AreRead (P.asked ports.old) (P.asked ports.new) [] }
         ensures most { (most : ℕ) → self.old.second ≤ most → now ≤ most → self.new.second ≤ most }
-        ensures swept { (class : Template) (before : Option Traffic)
-            → IsServed class before self.old false (P.told ports.old place)
-            → self.new.end ≡ None → IfSome self.new.due (λ d. now < d) }
+        ensures swept { (class : Template) (row : List Step) (before : Option Traffic)
+            → IsServed class row before self.old false (P.told ports.old place)
+            → self.new.end ≡ None → IsSweptAt self.new now }
     {
-        match self.due {
-            None => Ok(()),
-            Some(due) => {
-                if now < due {
-                    return Ok(());
-                }
-                self.reach(ports, place, now)
-            }
+        if !self.is_due(now) {
+            return Ok(());
         }
+        self.reach(ports, place, now)
     }
 
     /// Notes that the port of the device failed.
     pub(crate) fn fail(&mut self)
-        ensures served { (class : Template) (before between after : Option Traffic)
-            → IsServed class before self.old false between → Carries between after failed_once
-            → IsServed class before self.new false after }
+        ensures served { (class : Template) (row : List Step) (before between after : Option Traffic)
+            → IsServed class row before self.old false between → Carries between after failed_once
+            → IsServed class row before self.new false after }
         ensures second { self.new.second ≡ self.old.second }
         ensures ended { self.new.end ≢ None }
     {

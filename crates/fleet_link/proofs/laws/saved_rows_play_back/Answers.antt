@@ -6,5 +6,5 @@ returns-clause-complete c = plays_back
 
 pub returns-clause-serial : goal.returns-clause-serial
 returns-clause-serial c =
-    λ s before after slots now broken saved h is es serial.
-    plays_back s before after slots now broken saved h is es serial.complete
+    λ s played before after slots now broken saved h is es serial.
+    plays_back s played before after slots now broken saved h is es serial.complete

@@ -5,17 +5,17 @@ use Rattle.fleet_link.proofs.fleet.Fleet.ask.Goals as goal
 
 pub returns-in_err-receipt-clause-fleet : goal.returns-in_err-receipt-clause-fleet
 returns-in_err-receipt-clause-fleet g c =
-    λ s before h.
-    breaks s before (g.P.Ports.told c.receive.new.self) c.pass.new.self.slots.items c.pass.new.self.second
+    λ s played before h.
+    breaks s played before (g.P.Ports.told c.receive.new.self) c.pass.new.self.slots.items c.pass.new.self.second
     true _ (errs c.from_residual.result c.from_residual.ensures.0)
-    (still_served s before (g.P.Ports.told c.args.ports.now) (g.P.Ports.told c.receive.new.self)
+    (still_served s played before (g.P.Ports.told c.args.ports.now) (g.P.Ports.told c.receive.new.self)
     c.pass.new.self.slots.items c.pass.new.self.second true
-    (passed s before (g.P.Ports.told c.args.ports.now) c.args.self.now c.pass.new.self _ h c.pass.ensures.second
+    (passed s played before (g.P.Ports.told c.args.ports.now) c.args.self.now c.pass.new.self _ h c.pass.ensures.second
     c.pass.ensures.slots) c.in_err-receipt.ensures.told)
 
 pub returns-in_err-receipt-clause-swept : goal.returns-in_err-receipt-clause-swept
 returns-in_err-receipt-clause-swept g c =
-    λ s before h n second le k. swept_same c.args.self.now c.pass.new.self n second c.pass.ensures.slots k
+    λ s played before h n second le k. swept_same c.args.self.now c.pass.new.self n second c.pass.ensures.slots k
 
 pub returns-in_err-receipt-clause-asked : goal.returns-in_err-receipt-clause-asked
 returns-in_err-receipt-clause-asked g c =
@@ -24,20 +24,20 @@ returns-in_err-receipt-clause-asked g c =
 
 pub returns-in_err-take_receipt-clause-fleet : goal.returns-in_err-take_receipt-clause-fleet
 returns-in_err-take_receipt-clause-fleet g c =
-    λ s before h.
-    breaks s before (g.P.Ports.told c.take_receipt.new.ports) c.take_receipt.new.self.slots.items
+    λ s played before h.
+    breaks s played before (g.P.Ports.told c.take_receipt.new.ports) c.take_receipt.new.self.slots.items
     c.take_receipt.new.self.second true _
     (errs c.from_residual-in_err-take_receipt.result c.from_residual-in_err-take_receipt.ensures.0)
-    (c.in_err-take_receipt.ensures.fleet s before (g.P.Ports.told c.args.ports.now)
-    (passed s before (g.P.Ports.told c.args.ports.now) c.args.self.now c.pass.new.self _ h c.pass.ensures.second
+    (c.in_err-take_receipt.ensures.fleet s played before (g.P.Ports.told c.args.ports.now)
+    (passed s played before (g.P.Ports.told c.args.ports.now) c.args.self.now c.pass.new.self _ h c.pass.ensures.second
     c.pass.ensures.slots) c.in_ok-receipt.ensures.told)
 
 pub returns-in_err-take_receipt-clause-swept : goal.returns-in_err-take_receipt-clause-swept
 returns-in_err-take_receipt-clause-swept g c =
-    λ s before h n second le k.
+    λ s played before h n second le k.
     let later : second ≤ c.pass.new.self.second = omega (arith, c.pass.ensures.second) in
-    c.take_receipt.ensures.swept s before (g.P.Ports.told c.args.ports.now)
-    (passed s before (g.P.Ports.told c.args.ports.now) c.args.self.now c.pass.new.self _ h c.pass.ensures.second
+    c.take_receipt.ensures.swept s played before (g.P.Ports.told c.args.ports.now)
+    (passed s played before (g.P.Ports.told c.args.ports.now) c.args.self.now c.pass.new.self _ h c.pass.ensures.second
     c.pass.ensures.slots) c.in_ok-receipt.ensures.told n second later
     (swept_same c.args.self.now c.pass.new.self n second c.pass.ensures.slots k)
 
@@ -50,17 +50,17 @@ returns-in_err-take_receipt-clause-asked g c =
 
 pub returns-clause-fleet : goal.returns-clause-fleet
 returns-clause-fleet g c =
-    λ s before h.
-    c.in_ok-take_receipt.ensures.fleet s before (g.P.Ports.told c.args.ports.now)
-    (passed s before (g.P.Ports.told c.args.ports.now) c.args.self.now c.pass.new.self _ h c.pass.ensures.second
+    λ s played before h.
+    c.in_ok-take_receipt.ensures.fleet s played before (g.P.Ports.told c.args.ports.now)
+    (passed s played before (g.P.Ports.told c.args.ports.now) c.args.self.now c.pass.new.self _ h c.pass.ensures.second
     c.pass.ensures.slots) c.in_ok-receipt.ensures.told
 
 pub returns-clause-swept : goal.returns-clause-swept
 returns-clause-swept g c =
-    λ s before h n second le k.
+    λ s played before h n second le k.
     let later : second ≤ c.pass.new.self.second = omega (arith, c.pass.ensures.second) in
-    c.take_receipt.ensures.swept s before (g.P.Ports.told c.args.ports.now)
-    (passed s before (g.P.Ports.told c.args.ports.now) c.args.self.now c.pass.new.self _ h c.pass.ensures.second
+    c.take_receipt.ensures.swept s played before (g.P.Ports.told c.args.ports.now)
+    (passed s played before (g.P.Ports.told c.args.ports.now) c.args.self.now c.pass.new.self _ h c.pass.ensures.second
     c.pass.ensures.slots) c.in_ok-receipt.ensures.told n second later
     (swept_same c.args.self.now c.pass.new.self n second c.pass.ensures.slots k)
 

@@ -10,12 +10,12 @@ returns-in_err-reach-clause-fleet g c =
     let slots = at.self.slots in
     let within : at.place < length slots.items =
     omega (arith, at.invariant.count, c.len-place-end.ensures, c.args.self.now.slots.ok.0) in
-    λ s before h.
+    λ s played before h.
     let to : c.args.self.now.second ≤ at.self.second = omega (arith, at.invariant.second) in
-    breaks s before (g.P.Ports.told c.reach.new.ports) _ at.self.second true _
+    breaks s played before (g.P.Ports.told c.reach.new.ports) _ at.self.second true _
     (errs c.from_residual.result c.from_residual.ensures.0)
-    (next_served s before (g.P.Ports.told at.ports) (g.P.Ports.told c.reach.new.ports) slots.items at.self.second
-    at.place c.args.self.now.second true c.index_mut.result.now c.reach.new.self (at.invariant.fleet s before h)
+    (next_served s played before (g.P.Ports.told at.ports) (g.P.Ports.told c.reach.new.ports) slots.items at.self.second
+    at.place c.args.self.now.second true c.index_mut.result.now c.reach.new.self (at.invariant.fleet s played before h)
     (read_at slots.items at.place c.index_mut.result.now within c.index_mut.ensures.value)
     c.in_err-reach.ensures.served c.reach.ensures.others c.reach.ensures.most to)
 
@@ -28,17 +28,18 @@ loop-place-preserved g c =
     let got = read_at slots.items at.place c.index_mut.result.now within c.index_mut.ensures.value in
     let to : c.args.self.now.second ≤ at.self.second = omega (arith, at.invariant.second) in
     record {
-      fleet = λ s before h.
-          next_served s before (g.P.Ports.told at.ports) (g.P.Ports.told c.reach.new.ports) slots.items at.self.second
+      fleet = λ s played before h.
+          next_served s played before (g.P.Ports.told at.ports) (g.P.Ports.told c.reach.new.ports) slots.items
+          at.self.second
           at.place c.args.self.now.second false c.index_mut.result.now c.reach.new.self
-          (at.invariant.fleet s before h) got c.in_ok-reach.ensures.served c.reach.ensures.others
+          (at.invariant.fleet s played before h) got c.in_ok-reach.ensures.served c.reach.ensures.others
           c.reach.ensures.most to;
-      finished = λ s before h.
-          next_at s before (g.P.Ports.told at.ports) slots.items at.self.second at.place c.index_mut.result.now
-          c.reach.new.self (at.invariant.fleet s before h) got
+      finished = λ s played before h.
+          next_at s played before (g.P.Ports.told at.ports) slots.items at.self.second at.place c.index_mut.result.now
+          c.reach.new.self (at.invariant.fleet s played before h) got
           (λ early e. c.reach.ensures.second (omega (arith, early, at.invariant.second)) e
           ∙ omega (arith, at.invariant.second))
-          (at.invariant.finished s before h);
+          (at.invariant.finished s played before h);
       asked = still_none _ _ _ at.invariant.asked c.reach.ensures.asked;
       second = at.invariant.second;
       began = at.invariant.began;
@@ -48,8 +49,8 @@ loop-place-preserved g c =
 pub returns-clause-finished : goal.returns-clause-finished
 returns-clause-finished g c =
     let at = c.loop-place in
-    λ s before h.
+    λ s played before h.
     let end : at.place ≡ length at.self.slots.items =
     omega (arith, at.auto.place-end, at.invariant.count, c.len-place-end.ensures, c.args.self.now.slots.ok.0) in
     stand_at at.self.slots.items at.place (length at.self.slots.items) at.self.second end
-    (at.invariant.finished s before h)
+    (at.invariant.finished s played before h)

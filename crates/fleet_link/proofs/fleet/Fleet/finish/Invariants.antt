@@ -1,5 +1,5 @@
 -- The devices so far stand at the second of the session, and all are served.
-use Rattle.std.proofs.Common.{◌≡◌, ℕ, [], false, length, Option}
+use Rattle.std.proofs.Common.{Bool, ◌≡◌, ℕ, [], false, length, Option}
 use Rattle.live_link.specs.Wire.{AreRead}
 use Rattle.scenario_image.specs.Scenario.{Scenario}
 use Rattle.fleet_link.specs.Serving.{AreAt, IsFleet}
@@ -8,11 +8,11 @@ use Rattle.fleet_link.proofs.fleet.Fleet.finish.Given as goal
 
 abbrev pub invariant-loop-place : goal.invariant-loop-place
 invariant-loop-place g l = record {
-  fleet : (s : Scenario) (before : ℕ → Option Traffic)
-      → IsFleet s before l.fn.self.slots.items l.fn.self.second false (g.P.Ports.told l.fn.ports)
-      → IsFleet s before l.self.slots.items l.self.second false (g.P.Ports.told l.ports);
-  finished : (s : Scenario) (before : ℕ → Option Traffic)
-      → IsFleet s before l.fn.self.slots.items l.fn.self.second false (g.P.Ports.told l.fn.ports)
+  fleet : (s : Scenario) (played : Bool) (before : ℕ → Option Traffic)
+      → IsFleet s played before l.fn.self.slots.items l.fn.self.second false (g.P.Ports.told l.fn.ports)
+      → IsFleet s played before l.self.slots.items l.self.second false (g.P.Ports.told l.ports);
+  finished : (s : Scenario) (played : Bool) (before : ℕ → Option Traffic)
+      → IsFleet s played before l.fn.self.slots.items l.fn.self.second false (g.P.Ports.told l.fn.ports)
       → AreAt l.self.slots.items l.place l.self.second;
   asked : AreRead (g.P.Ports.asked l.fn.ports) (g.P.Ports.asked l.ports) [];
   second : l.self.second ≡ l.fn.self.second;

@@ -5,10 +5,10 @@ use Rattle.fleet_link.proofs.fleet.Fleet.listen.Goals as goal
 
 pub returns-in_err-wait-clause-fleet : goal.returns-in_err-wait-clause-fleet
 returns-in_err-wait-clause-fleet g c =
-    λ s before h.
-    breaks s before (g.P.Ports.told c.wait.new.self) c.args.self.now.slots.items c.args.self.now.second true _
+    λ s played before h.
+    breaks s played before (g.P.Ports.told c.wait.new.self) c.args.self.now.slots.items c.args.self.now.second true _
     (errs c.from_residual.result c.from_residual.ensures.0)
-    (still_served s before (g.P.Ports.told c.args.ports.now) (g.P.Ports.told c.wait.new.self)
+    (still_served s played before (g.P.Ports.told c.args.ports.now) (g.P.Ports.told c.wait.new.self)
     c.args.self.now.slots.items c.args.self.now.second true h c.wait.ensures.told)
 
 pub returns-in_err-wait-clause-asked : goal.returns-in_err-wait-clause-asked
@@ -18,14 +18,14 @@ returns-in_err-wait-clause-asked g c =
 
 pub returns-clause-fleet : goal.returns-clause-fleet
 returns-clause-fleet g c =
-    λ s before h. c.serve_arrivals.ensures.fleet s before
-    (still_served s before (g.P.Ports.told c.args.ports.now) (g.P.Ports.told c.wait.new.self)
+    λ s played before h. c.serve_arrivals.ensures.fleet s played before
+    (still_served s played before (g.P.Ports.told c.args.ports.now) (g.P.Ports.told c.wait.new.self)
     c.args.self.now.slots.items c.args.self.now.second false h c.wait.ensures.told)
 
 pub returns-clause-swept : goal.returns-clause-swept
 returns-clause-swept g c =
-    λ s before h. c.serve_arrivals.ensures.swept s before
-    (still_served s before (g.P.Ports.told c.args.ports.now) (g.P.Ports.told c.wait.new.self)
+    λ s played before h. c.serve_arrivals.ensures.swept s played before
+    (still_served s played before (g.P.Ports.told c.args.ports.now) (g.P.Ports.told c.wait.new.self)
     c.args.self.now.slots.items c.args.self.now.second false h c.wait.ensures.told)
 
 pub returns-clause-asked : goal.returns-clause-asked

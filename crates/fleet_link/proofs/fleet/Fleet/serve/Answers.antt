@@ -5,22 +5,23 @@ use Rattle.fleet_link.proofs.fleet.Fleet.serve.Goals as goal
 
 pub returns-then-self-until-clause-fleet : goal.returns-then-self-until-clause-fleet
 returns-then-self-until-clause-fleet g c =
-    λ s before h. c.finish.ensures.fleet s before (c.loop-turn.invariant.fleet s before h)
+    λ s played before h. c.finish.ensures.fleet s played before (c.loop-turn.invariant.fleet s played before h)
 
 pub returns-then-self-until-clause-finished : goal.returns-then-self-until-clause-finished
 returns-then-self-until-clause-finished g c =
-    λ s before h. c.finish.ensures.finished s before (c.loop-turn.invariant.fleet s before h)
+    λ s played before h. c.finish.ensures.finished s played before (c.loop-turn.invariant.fleet s played before h)
 
 pub returns-in_err-turn-clause-fleet : goal.returns-in_err-turn-clause-fleet
 returns-in_err-turn-clause-fleet g c =
-    λ s before h.
-    breaks s before (g.P.Ports.told c.turn.new.ports) c.turn.new.self.slots.items c.turn.new.self.second true _
+    λ s played before h.
+    breaks s played before (g.P.Ports.told c.turn.new.ports) c.turn.new.self.slots.items c.turn.new.self.second true _
     (errs c.from_residual.result c.from_residual.ensures.0)
-    (c.in_err-turn.ensures.fleet s before (c.loop-turn.invariant.fleet s before h))
+    (c.in_err-turn.ensures.fleet s played before (c.loop-turn.invariant.fleet s played before h))
 
 pub loop-turn-preserved : goal.loop-turn-preserved
 loop-turn-preserved g c = record {
-  fleet = λ s before h. c.in_ok-turn.ensures.fleet s before (c.loop-turn.invariant.fleet s before h);
+  fleet = λ s played before h. c.in_ok-turn.ensures.fleet s played before (c.loop-turn.invariant.fleet s played before
+      h);
   asked = λ read_before asked_before calls h. asked_less read_before _ asked_before _ _ _ _
       (calls + (c.loop-turn._turn + 1))
       (c.in_ok-turn.ensures.heard read_before asked_before (calls + c.loop-turn._turn)
@@ -29,15 +30,15 @@ loop-turn-preserved g c = record {
 
 pub returns-clause-fleet : goal.returns-clause-fleet
 returns-clause-fleet g c =
-    λ s before h. c.finish-2.ensures.fleet s before (c.loop-turn.invariant.fleet s before h)
+    λ s played before h. c.finish-2.ensures.fleet s played before (c.loop-turn.invariant.fleet s played before h)
 
 pub returns-clause-finished : goal.returns-clause-finished
 returns-clause-finished g c =
-    λ s before h. c.finish-2.ensures.finished s before (c.loop-turn.invariant.fleet s before h)
+    λ s played before h. c.finish-2.ensures.finished s played before (c.loop-turn.invariant.fleet s played before h)
 
 pub loop-turn-init : goal.loop-turn-init
 loop-turn-init g c = record {
-  fleet = λ s before h. h;
+  fleet = λ s played before h. h;
   asked = λ read_before asked_before calls h. asked_less read_before _ asked_before _ _ _ _ (calls + 0) h (omega arith);
 }
 

@@ -1,5 +1,5 @@
 -- All devices are served so far.
-use Rattle.std.proofs.Common.{◌+◌, ℕ, List, false, Option}
+use Rattle.std.proofs.Common.{Bool, ◌+◌, ℕ, List, false, Option}
 use Rattle.scenario_image.specs.Scenario.{Scenario}
 use Rattle.fleet_link.specs.Serving.{IsFleet}
 use Rattle.fleet_link.specs.Timing.{AreAsked}
@@ -8,9 +8,9 @@ use Rattle.fleet_link.proofs.fleet.Fleet.serve.Given as goal
 
 abbrev pub invariant-loop-turn : goal.invariant-loop-turn
 invariant-loop-turn g l = record {
-  fleet : (s : Scenario) (before : ℕ → Option Traffic)
-      → IsFleet s before l.fn.self.slots.items l.fn.self.second false (g.P.Ports.told l.fn.ports)
-      → IsFleet s before l.self.slots.items l.self.second false (g.P.Ports.told l.ports);
+  fleet : (s : Scenario) (played : Bool) (before : ℕ → Option Traffic)
+      → IsFleet s played before l.fn.self.slots.items l.fn.self.second false (g.P.Ports.told l.fn.ports)
+      → IsFleet s played before l.self.slots.items l.self.second false (g.P.Ports.told l.ports);
   asked : (read_before asked_before : Option (List ℕ)) (calls : ℕ) → AreAsked read_before
       (g.C.Seconds.read l.fn.clock) asked_before (g.P.Ports.asked l.fn.ports) l.fn.self.began l.fn.self.second calls
       → AreAsked read_before (g.C.Seconds.read l.clock) asked_before (g.P.Ports.asked l.ports) l.self.began

@@ -5,10 +5,10 @@ use Rattle.fleet_link.proofs.fleet.Fleet.serve_arrivals.Goals as goal
 
 pub returns-in_err-ask-clause-fleet : goal.returns-in_err-ask-clause-fleet
 returns-in_err-ask-clause-fleet g c =
-    λ s before h.
-    breaks s before (g.P.Ports.told c.ask.new.ports) c.ask.new.self.slots.items c.ask.new.self.second true _
+    λ s played before h.
+    breaks s played before (g.P.Ports.told c.ask.new.ports) c.ask.new.self.slots.items c.ask.new.self.second true _
     (errs c.from_residual.result c.from_residual.ensures.0)
-    (c.in_err-ask.ensures.fleet s before (c.loop-turn.invariant.fleet s before h))
+    (c.in_err-ask.ensures.fleet s played before (c.loop-turn.invariant.fleet s played before h))
 
 pub returns-in_err-ask-clause-asked : goal.returns-in_err-ask-clause-asked
 returns-in_err-ask-clause-asked g c =
@@ -18,8 +18,8 @@ returns-in_err-ask-clause-asked g c =
 
 pub loop-turn-init : goal.loop-turn-init
 loop-turn-init g c = record {
-  fleet = λ s before h. h;
-  swept = λ s before h n second le k. k;
+  fleet = λ s played before h. h;
+  swept = λ s played before h n second le k. k;
   asked = λ read_before asked_before calls h. asked_less read_before _ asked_before _ _ _ _ (calls + 0) h (omega arith);
   later = omega arith;
   count = refl;
@@ -27,11 +27,12 @@ loop-turn-init g c = record {
 
 pub loop-turn-preserved : goal.loop-turn-preserved
 loop-turn-preserved g c = record {
-  fleet = λ s before h. c.in_ok-ask.ensures.fleet s before (c.loop-turn.invariant.fleet s before h);
-  swept = λ s before h n second le k.
+  fleet = λ s played before h. c.in_ok-ask.ensures.fleet s played before (c.loop-turn.invariant.fleet s played before
+      h);
+  swept = λ s played before h n second le k.
       let later : second ≤ c.loop-turn.self.second = omega (arith, c.loop-turn.invariant.later) in
-      c.ask.ensures.swept s before (c.loop-turn.invariant.fleet s before h) n second later
-      (c.loop-turn.invariant.swept s before h n second le k);
+      c.ask.ensures.swept s played before (c.loop-turn.invariant.fleet s played before h) n second later
+      (c.loop-turn.invariant.swept s played before h n second le k);
   asked = λ read_before asked_before calls h. asked_less read_before _ asked_before _ _ _ _
       (calls + (c.loop-turn._turn + 1))
       (c.ask.ensures.asked read_before asked_before (calls + c.loop-turn._turn)
@@ -42,14 +43,14 @@ loop-turn-preserved g c = record {
 
 pub returns-then-not-branch-clause-fleet : goal.returns-then-not-branch-clause-fleet
 returns-then-not-branch-clause-fleet g c =
-    λ s before h. c.in_ok-ask.ensures.fleet s before (c.loop-turn.invariant.fleet s before h)
+    λ s played before h. c.in_ok-ask.ensures.fleet s played before (c.loop-turn.invariant.fleet s played before h)
 
 pub returns-then-not-branch-clause-swept : goal.returns-then-not-branch-clause-swept
 returns-then-not-branch-clause-swept g c =
-    λ s before h n second le k.
+    λ s played before h n second le k.
     let later : second ≤ c.loop-turn.self.second = omega (arith, c.loop-turn.invariant.later) in
-    c.ask.ensures.swept s before (c.loop-turn.invariant.fleet s before h) n second later
-    (c.loop-turn.invariant.swept s before h n second le k)
+    c.ask.ensures.swept s played before (c.loop-turn.invariant.fleet s played before h) n second later
+    (c.loop-turn.invariant.swept s played before h n second le k)
 
 pub returns-then-not-branch-clause-asked : goal.returns-then-not-branch-clause-asked
 returns-then-not-branch-clause-asked g c =

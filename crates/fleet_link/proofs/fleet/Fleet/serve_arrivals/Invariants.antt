@@ -1,5 +1,5 @@
 -- All devices are served so far.
-use Rattle.std.proofs.Common.{◌≡◌, ◌+◌, ◌≤◌, ℕ, List, false, length, Option}
+use Rattle.std.proofs.Common.{Bool, ◌≡◌, ◌+◌, ◌≤◌, ℕ, List, false, length, Option}
 use Rattle.scenario_image.specs.Scenario.{Scenario}
 use Rattle.fleet_link.specs.Serving.{AreSwept, IsFleet}
 use Rattle.fleet_link.specs.Timing.{AreAsked}
@@ -8,11 +8,11 @@ use Rattle.fleet_link.proofs.fleet.Fleet.serve_arrivals.Given as goal
 
 abbrev pub invariant-loop-turn : goal.invariant-loop-turn
 invariant-loop-turn g l = record {
-  fleet : (s : Scenario) (before : ℕ → Option Traffic)
-      → IsFleet s before l.fn.self.slots.items l.fn.self.second false (g.P.Ports.told l.fn.ports)
-      → IsFleet s before l.self.slots.items l.self.second false (g.P.Ports.told l.ports);
-  swept : (s : Scenario) (before : ℕ → Option Traffic)
-      → IsFleet s before l.fn.self.slots.items l.fn.self.second false (g.P.Ports.told l.fn.ports)
+  fleet : (s : Scenario) (played : Bool) (before : ℕ → Option Traffic)
+      → IsFleet s played before l.fn.self.slots.items l.fn.self.second false (g.P.Ports.told l.fn.ports)
+      → IsFleet s played before l.self.slots.items l.self.second false (g.P.Ports.told l.ports);
+  swept : (s : Scenario) (played : Bool) (before : ℕ → Option Traffic)
+      → IsFleet s played before l.fn.self.slots.items l.fn.self.second false (g.P.Ports.told l.fn.ports)
       → (n second : ℕ) → second ≤ l.fn.self.second → AreSwept l.fn.self.slots.items n second
       → AreSwept l.self.slots.items n second;
   asked : (read_before asked_before : Option (List ℕ)) (calls : ℕ) → AreAsked read_before

@@ -9,12 +9,12 @@ returns-in_err-sweep-clause-fleet g c =
     let at = c.loop-place in
     let slots = at.self.slots in
     let within : at.place < length slots.items = omega (arith, at.invariant.count, c.requires) in
-    λ s before le h.
+    λ s played before le h.
     let to : c.args.second ≤ at.self.second = omega (arith, le, at.invariant.second) in
-    breaks s before (g.P.Ports.told c.sweep.new.ports) _ at.self.second true _
+    breaks s played before (g.P.Ports.told c.sweep.new.ports) _ at.self.second true _
     (errs c.from_residual.result c.from_residual.ensures.0)
-    (next_served s before (g.P.Ports.told at.ports) (g.P.Ports.told c.sweep.new.ports) slots.items at.self.second
-    at.place c.args.second true c.index_mut.result.now c.sweep.new.self (at.invariant.fleet s before le h)
+    (next_served s played before (g.P.Ports.told at.ports) (g.P.Ports.told c.sweep.new.ports) slots.items at.self.second
+    at.place c.args.second true c.index_mut.result.now c.sweep.new.self (at.invariant.fleet s played before le h)
     (read_at slots.items at.place c.index_mut.result.now within c.index_mut.ensures.value)
     c.in_err-sweep.ensures.served c.sweep.ensures.others c.sweep.ensures.most to)
 
@@ -25,15 +25,17 @@ loop-place-preserved g c =
     let within : at.place < length slots.items = omega (arith, at.invariant.count, c.requires) in
     let got = read_at slots.items at.place c.index_mut.result.now within c.index_mut.ensures.value in
     record {
-      fleet = λ s before le h.
+      fleet = λ s played before le h.
           let to : c.args.second ≤ at.self.second = omega (arith, le, at.invariant.second) in
-          next_served s before (g.P.Ports.told at.ports) (g.P.Ports.told c.sweep.new.ports) slots.items at.self.second
-          at.place c.args.second false c.index_mut.result.now c.sweep.new.self (at.invariant.fleet s before le h) got
+          next_served s played before (g.P.Ports.told at.ports) (g.P.Ports.told c.sweep.new.ports) slots.items
+          at.self.second
+          at.place c.args.second false c.index_mut.result.now c.sweep.new.self (at.invariant.fleet s played before le
+          h) got
           c.in_ok-sweep.ensures.served c.sweep.ensures.others c.sweep.ensures.most to;
-      swept = λ s before le h k.
-          next_swept s before (g.P.Ports.told at.ports) slots.items at.self.second at.place c.args.second
-          c.index_mut.result.now c.sweep.new.self (at.invariant.fleet s before le h) got c.sweep.ensures.swept
-          (at.invariant.swept s before le h k);
+      swept = λ s played before le h k.
+          next_swept s played before (g.P.Ports.told at.ports) slots.items at.self.second at.place c.args.second
+          c.index_mut.result.now c.sweep.new.self (at.invariant.fleet s played before le h) got c.sweep.ensures.swept
+          (at.invariant.swept s played before le h k);
       asked = still_none _ _ _ at.invariant.asked c.sweep.ensures.asked;
       second = at.invariant.second;
       began = at.invariant.began;
@@ -43,6 +45,6 @@ loop-place-preserved g c =
 pub returns-clause-swept : goal.returns-clause-swept
 returns-clause-swept g c =
     let at = c.loop-place in
-    λ s before le h order k.
+    λ s played before le h order k.
     let end : at.place ≡ c.args.to = omega (arith, order, at.auto.place-end) in
-    swept_at at.self.slots.items at.place c.args.to c.args.second end (at.invariant.swept s before le h k)
+    swept_at at.self.slots.items at.place c.args.to c.args.second end (at.invariant.swept s played before le h k)

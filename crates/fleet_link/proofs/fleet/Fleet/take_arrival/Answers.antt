@@ -8,8 +8,9 @@ pub returns-then-place-len-clause-fleet : goal.returns-then-place-len-clause-fle
 returns-then-place-len-clause-fleet g c =
     let slots = c.args.self.now.slots in
     let past : length slots.items ≤ c.args.arrival.device = omega (arith, slots.ok.0, c.len.ensures) in
-    λ s before between h went.
-    beyond s before between (g.P.Ports.told c.args.ports.now) slots.items c.args.self.now.second c.args.arrival.device
+    λ s played before between h went.
+    beyond s played before between (g.P.Ports.told c.args.ports.now) slots.items c.args.self.now.second
+    c.args.arrival.device
     false (handed_at c.args.self.now.second c.args.arrival.packet) h went past
 
 pub returns-clause-fleet : goal.returns-clause-fleet
@@ -17,8 +18,8 @@ returns-clause-fleet g c =
     let slots = c.args.self.now.slots in
     let place = c.args.arrival.device in
     let within : place < length slots.items = omega (arith, slots.ok.0, c.len.ensures) in
-    λ s before between h went.
-    gone_on s before between (g.P.Ports.told c.args.ports.now) (g.P.Ports.told c.hear.new.ports) slots.items
+    λ s played before between h went.
+    gone_on s played before between (g.P.Ports.told c.args.ports.now) (g.P.Ports.told c.hear.new.ports) slots.items
     c.args.self.now.second place (is_err c.hear.result)
     (handed_at c.args.self.now.second c.args.arrival.packet) c.index_mut.result.now c.hear.new.self h went
     (read_at slots.items place c.index_mut.result.now within c.index_mut.ensures.value) c.hear.ensures.served
@@ -29,9 +30,9 @@ returns-clause-swept g c =
     let slots = c.args.self.now.slots in
     let place = c.args.arrival.device in
     let within : place < length slots.items = omega (arith, slots.ok.0, c.len.ensures) in
-    λ s before between h went.
-    gone_due s before between (g.P.Ports.told c.args.ports.now) (g.P.Ports.told c.hear.new.ports) slots.items
+    λ s played before between h went.
+    gone_due s played before between (g.P.Ports.told c.args.ports.now) (g.P.Ports.told c.hear.new.ports) slots.items
     c.args.self.now.second place (is_err c.hear.result)
     (handed_at c.args.self.now.second c.args.arrival.packet) c.index_mut.result.now c.hear.new.self h went
     (read_at slots.items place c.index_mut.result.now within c.index_mut.ensures.value) c.hear.ensures.served
-    c.hear.ensures.second
+    c.hear.ensures.second c.hear.ensures.later

@@ -7,8 +7,8 @@ pub returns-then-device-len-clause-fleet : goal.returns-then-device-len-clause-f
 returns-then-device-len-clause-fleet c =
     let slots = c.args.self.now.slots in
     let within : c.args.device < length slots.items = omega (arith, slots.ok.0, c.len.ensures) in
-    λ s before between after h went.
-    failed_at s before between after slots.items c.args.self.now.second c.args.device c.index_mut.result.now
+    λ s played before between after h went.
+    failed_at s played before between after slots.items c.args.self.now.second c.args.device c.index_mut.result.now
     c.fail.new.self h went (read_at slots.items c.args.device c.index_mut.result.now within c.index_mut.ensures.value)
     c.fail.ensures.served c.fail.ensures.second
 
@@ -21,5 +21,5 @@ pub returns-else-device-len-clause-fleet : goal.returns-else-device-len-clause-f
 returns-else-device-len-clause-fleet c =
     let slots = c.args.self.now.slots in
     let past : length slots.items ≤ c.args.device = omega (arith, slots.ok.0, c.len.ensures) in
-    λ s before between after h went.
-    beyond s before between after slots.items c.args.self.now.second c.args.device false failed_once h went past
+    λ s played before between after h went.
+    beyond s played before between after slots.items c.args.self.now.second c.args.device false failed_once h went past

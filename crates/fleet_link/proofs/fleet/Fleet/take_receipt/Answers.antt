@@ -5,32 +5,34 @@ use Rattle.fleet_link.proofs.fleet.Fleet.take_receipt.Goals as goal
 
 pub returns-in-Failed-clause-fleet : goal.returns-in-Failed-clause-fleet
 returns-in-Failed-clause-fleet g c =
-    λ s before between h went. c.take_failure.ensures.fleet s before between (g.P.Ports.told c.args.ports.now) h
+    λ s played before between h went. c.take_failure.ensures.fleet s played before between
+    (g.P.Ports.told c.args.ports.now) h
     (λ e. carries_at _ _ c.args.self.now.second e c.args.receipt (Failed c.in-Failed.device) c.in-Failed.is (went e))
 
 pub returns-in-Arrived-clause-fleet : goal.returns-in-Arrived-clause-fleet
 returns-in-Arrived-clause-fleet g c =
-    λ s before between h went. c.take_arrival.ensures.fleet s before between h
+    λ s played before between h went. c.take_arrival.ensures.fleet s played before between h
     (λ e. carries_at _ _ c.args.self.now.second e c.args.receipt (Arrived c.in-Arrived.arrival) c.in-Arrived.is
     (went e))
 
 pub returns-in-Arrived-clause-swept : goal.returns-in-Arrived-clause-swept
 returns-in-Arrived-clause-swept g c =
-    λ s before between h went. c.take_arrival.ensures.swept s before between h
+    λ s played before between h went. c.take_arrival.ensures.swept s played before between h
     (λ e. carries_at _ _ c.args.self.now.second e c.args.receipt (Arrived c.in-Arrived.arrival) c.in-Arrived.is
     (went e))
 
 pub returns-in-Failed-clause-swept : goal.returns-in-Failed-clause-swept
-returns-in-Failed-clause-swept g c = λ s before between h went n second le k. c.take_failure.ensures.swept n second k
+returns-in-Failed-clause-swept g c = λ s played before between h went n second le k. c.take_failure.ensures.swept n
+    second k
 
 pub returns-in-Nothing-clause-fleet : goal.returns-in-Nothing-clause-fleet
 returns-in-Nothing-clause-fleet g c =
-    λ s before between h went. still_served s before between (g.P.Ports.told c.args.ports.now)
+    λ s played before between h went. still_served s played before between (g.P.Ports.told c.args.ports.now)
     c.args.self.now.slots.items c.args.self.now.second false h
     (λ e. carries_at _ _ c.args.self.now.second e c.args.receipt Nothing c.in-Nothing.is (went e))
 
 pub returns-in-Dropped-clause-fleet : goal.returns-in-Dropped-clause-fleet
 returns-in-Dropped-clause-fleet g c =
-    λ s before between h went. still_served s before between (g.P.Ports.told c.args.ports.now)
+    λ s played before between h went. still_served s played before between (g.P.Ports.told c.args.ports.now)
     c.args.self.now.slots.items c.args.self.now.second false h
     (λ e. carries_at _ _ c.args.self.now.second e c.args.receipt Dropped c.in-Dropped.is (went e))

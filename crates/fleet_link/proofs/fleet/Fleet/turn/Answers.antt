@@ -6,10 +6,11 @@ use Rattle.fleet_link.proofs.fleet.Fleet.turn.Goals as goal
 pub returns-in_err-sweep-clause-fleet : goal.returns-in_err-sweep-clause-fleet
 returns-in_err-sweep-clause-fleet g c =
     let at = c.loop-slice in
-    λ s before h.
-    breaks s before (g.P.Ports.told c.sweep.new.ports) c.sweep.new.self.slots.items c.sweep.new.self.second true _
+    λ s played before h.
+    breaks s played before (g.P.Ports.told c.sweep.new.ports) c.sweep.new.self.slots.items c.sweep.new.self.second
+    true _
     (errs c.from_residual.result c.from_residual.ensures.0)
-    (c.in_err-sweep.ensures.fleet s before at.invariant.later (at.invariant.fleet s before h))
+    (c.in_err-sweep.ensures.fleet s played before at.invariant.later (at.invariant.fleet s played before h))
 
 pub returns-in_err-sweep-clause-asked : goal.returns-in_err-sweep-clause-asked
 returns-in_err-sweep-clause-asked g c =
@@ -21,11 +22,12 @@ returns-in_err-sweep-clause-asked g c =
 pub returns-in_err-listen-clause-fleet : goal.returns-in_err-listen-clause-fleet
 returns-in_err-listen-clause-fleet g c =
     let at = c.loop-slice in
-    λ s before h.
-    breaks s before (g.P.Ports.told c.listen.new.ports) c.listen.new.self.slots.items c.listen.new.self.second true _
+    λ s played before h.
+    breaks s played before (g.P.Ports.told c.listen.new.ports) c.listen.new.self.slots.items c.listen.new.self.second
+    true _
     (errs c.from_residual-in_err-listen.result c.from_residual-in_err-listen.ensures.0)
-    (c.in_err-listen.ensures.fleet s before
-    (c.in_ok-sweep.ensures.fleet s before at.invariant.later (at.invariant.fleet s before h)))
+    (c.in_err-listen.ensures.fleet s played before
+    (c.in_ok-sweep.ensures.fleet s played before at.invariant.later (at.invariant.fleet s played before h)))
 
 pub returns-in_err-listen-clause-asked : goal.returns-in_err-listen-clause-asked
 returns-in_err-listen-clause-asked g c =
@@ -44,15 +46,16 @@ loop-slice-preserved g c =
     let later : c.args.self.now.second ≤ c.sweep.new.self.second =
     omega (arith, at.invariant.later, c.sweep.ensures.second) in
     record {
-      fleet = λ s before h. c.in_ok-listen.ensures.fleet s before
-          (c.in_ok-sweep.ensures.fleet s before at.invariant.later (at.invariant.fleet s before h));
-      swept = λ s before h.
+      fleet = λ s played before h. c.in_ok-listen.ensures.fleet s played before
+          (c.in_ok-sweep.ensures.fleet s played before at.invariant.later (at.invariant.fleet s played before h));
+      swept = λ s played before h.
           swept_at _ c.min-to.result _ c.args.self.now.second to
-          (c.in_ok-listen.ensures.swept s before
-          (c.in_ok-sweep.ensures.fleet s before at.invariant.later (at.invariant.fleet s before h)) c.min-to.result
+          (c.in_ok-listen.ensures.swept s played before
+          (c.in_ok-sweep.ensures.fleet s played before at.invariant.later (at.invariant.fleet s played before h))
+          c.min-to.result
           c.args.self.now.second later
-          (c.in_ok-sweep.ensures.swept s before at.invariant.later (at.invariant.fleet s before h) order
-          (swept_at _ _ (at.slice * 64) c.args.self.now.second from (at.invariant.swept s before h))));
+          (c.in_ok-sweep.ensures.swept s played before at.invariant.later (at.invariant.fleet s played before h) order
+          (swept_at _ _ (at.slice * 64) c.args.self.now.second from (at.invariant.swept s played before h))));
       asked = λ read_before asked_before calls h. asked_less read_before _ asked_before _ _ _ _
           (calls + (at.slice + 1))
           (c.in_ok-listen.ensures.heard read_before asked_before (calls + at.slice)
@@ -65,15 +68,15 @@ loop-slice-preserved g c =
 pub returns-clause-swept : goal.returns-clause-swept
 returns-clause-swept g c =
     let at = c.loop-slice in
-    λ s before h.
+    λ s played before h.
     let all : min c.len-devices.result (at.slice * 64) ≡ length at.self.slots.items =
     omega (arith, at.auto.slice-end, at.invariant.count, c.len-devices.ensures, c.args.self.now.slots.ok.0) in
-    swept_at at.self.slots.items _ _ c.args.self.now.second all (at.invariant.swept s before h)
+    swept_at at.self.slots.items _ _ c.args.self.now.second all (at.invariant.swept s played before h)
 
 pub loop-slice-init : goal.loop-slice-init
 loop-slice-init g c = record {
-  fleet = λ s before h. h;
-  swept = λ s before h e slot l. absurd (omega (arith, l));
+  fleet = λ s played before h. h;
+  swept = λ s played before h e slot l. absurd (omega (arith, l));
   asked = λ read_before asked_before calls h. asked_less read_before _ asked_before _ _ _ _ (calls + 0) h (omega arith);
   later = omega arith;
   count = refl;

@@ -1,5 +1,5 @@
 -- All devices are served so far, and those of the slices so far are not due.
-use Rattle.std.proofs.Common.{◌≡◌, ◌+◌, ◌≤◌, ◌*◌, ℕ, List, false, length, min, Option}
+use Rattle.std.proofs.Common.{Bool, ◌≡◌, ◌+◌, ◌≤◌, ◌*◌, ℕ, List, false, length, min, Option}
 use Rattle.scenario_image.specs.Scenario.{Scenario}
 use Rattle.fleet_link.specs.Serving.{AreSwept, IsFleet}
 use Rattle.fleet_link.specs.Timing.{AreAsked}
@@ -8,11 +8,11 @@ use Rattle.fleet_link.proofs.fleet.Fleet.turn.Given as goal
 
 abbrev pub invariant-loop-slice : goal.invariant-loop-slice
 invariant-loop-slice g l = record {
-  fleet : (s : Scenario) (before : ℕ → Option Traffic)
-      → IsFleet s before l.fn.self.slots.items l.fn.self.second false (g.P.Ports.told l.fn.ports)
-      → IsFleet s before l.self.slots.items l.self.second false (g.P.Ports.told l.ports);
-  swept : (s : Scenario) (before : ℕ → Option Traffic)
-      → IsFleet s before l.fn.self.slots.items l.fn.self.second false (g.P.Ports.told l.fn.ports)
+  fleet : (s : Scenario) (played : Bool) (before : ℕ → Option Traffic)
+      → IsFleet s played before l.fn.self.slots.items l.fn.self.second false (g.P.Ports.told l.fn.ports)
+      → IsFleet s played before l.self.slots.items l.self.second false (g.P.Ports.told l.ports);
+  swept : (s : Scenario) (played : Bool) (before : ℕ → Option Traffic)
+      → IsFleet s played before l.fn.self.slots.items l.fn.self.second false (g.P.Ports.told l.fn.ports)
       → AreSwept l.self.slots.items (min l.devices (l.slice * 64)) l.second;
   asked : (read_before asked_before : Option (List ℕ)) (calls : ℕ) → AreAsked read_before
       (g.C.Seconds.read l.fn.clock) asked_before (g.P.Ports.asked l.fn.ports) l.fn.self.began l.fn.self.second calls

@@ -1,23 +1,27 @@
--- The device has been served so far, and nothing but its own traffic has gone through any port.
-use Rattle.std.proofs.Common.{◌≡◌, ◌-◌, ◌≤◌, ℕ, List, [], Option, None}
+-- The device has been served so far, its row is on time, and nothing but its own traffic has gone through any port.
+use Rattle.std.proofs.Common.{◌≡◌, ◌-◌, ◌≤◌, ℕ, List, [], Option, None, length}
 use Rattle.device_machine.specs.State.{Machine}
 use Rattle.live_link.specs.Wire.{AreRead}
+use Rattle.fleet_link.specs.Playing.{changes_of, IsOnTime}
 use Rattle.fleet_link.specs.Serving.{IsServing}
 use Rattle.fleet_link.specs.Traffic.{Carries, Heard, Traffic, no_traffic}
 use Rattle.fleet_link.proofs.slot.Slot.catch_up.Given as goal
 
-abbrev pub invariant-loop-self : goal.invariant-loop-self
-invariant-loop-self g l = record {
+abbrev pub invariant-loop-due : goal.invariant-loop-due
+invariant-loop-due g l = record {
   served : (f : Machine) (before : Option Traffic) (pending : List Heard)
-      → IsServing f before pending None l.fn.self.device l.fn.self.second l.fn.self.recording
-      (g.P.Ports.told l.fn.ports l.place)
-      → IsServing f before pending None l.self.device l.self.second l.self.recording (g.P.Ports.told l.ports l.place);
+      → IsServing f before pending (changes_of l.fn.self.row) None l.fn.self.device l.fn.self.second
+      l.fn.self.recording (g.P.Ports.told l.fn.ports l.place) → IsOnTime l.fn.self.row l.fn.self.second
+      → IsServing f before pending (changes_of l.self.row) None l.self.device l.self.second l.self.recording
+      (g.P.Ports.told l.ports l.place);
+  on_time : IsOnTime l.fn.self.row l.fn.self.second → IsOnTime l.self.row l.self.second;
   others : (e : ℕ) → (e ≡ l.place → ⊥)
       → Carries (g.P.Ports.told l.fn.ports e) (g.P.Ports.told l.ports e) no_traffic;
   asked : AreRead (g.P.Ports.asked l.fn.ports) (g.P.Ports.asked l.ports) [];
   most : (most : ℕ) → l.fn.self.second ≤ most → l.now ≤ most → l.self.second ≤ most;
+  steps : l.self.row.steps ≡ l.fn.self.row.steps;
   ended : l.self.end ≡ l.fn.self.end;
 }
 
-abbrev pub decreases-loop-self : goal.decreases-loop-self
-decreases-loop-self g l = l.now - l.self.second
+abbrev pub decreases-loop-due : goal.decreases-loop-due
+decreases-loop-due g l = length l.self.row.steps.items - l.self.row.place

@@ -8,10 +8,10 @@ use Rattle.fleet_link.proofs.slot.Slot.take_event.Goals as goal
 pub returns-clause-served : goal.returns-clause-served
 returns-clause-served g c =
     let gone = packets_in c.as_slice.result.now in
-    λ f before rest live h.
+    λ f before rest changes live h.
     step_served f before rest c.args.self.now.device c.react.new.self.device c.args.self.now.second
     c.args.self.now.recording c.note.new.self (g.P.Ports.told c.args.ports.now c.args.place)
-    (g.P.Ports.told c.send_all.new.ports c.args.place) c.args.event gone h live c.in_ok-outputs.ensures.shows
+    (g.P.Ports.told c.send_all.new.ports c.args.place) c.args.event gone changes h live c.in_ok-outputs.ensures.shows
     (λ m k. ap packets_in (c.as_slice.ensures ∙ c.in_ok-outputs.ensures.output m k))
     (carries_same _ _ _ _ (c.send_all.ensures.told c.args.place) (at_port_same c.args.place _))
     (λ steps k. c.note.ensures.recorded steps (recorded_on c.args.self.now.recording c.react.new.self.recording steps
@@ -20,10 +20,10 @@ returns-clause-served g c =
 pub returns-in_err-outputs-clause-refused : goal.returns-in_err-outputs-clause-refused
 returns-in_err-outputs-clause-refused g c =
     let end = c.in_err-outputs.field-0.0 in
-    λ f before pending live h.
-    let refused : IsServing f before pending (Some end) c.react.new.self.device c.args.self.now.second
+    λ f before pending changes live h.
+    let refused : IsServing f before pending changes (Some end) c.react.new.self.device c.args.self.now.second
     c.react.new.self.recording (g.P.Ports.told c.args.ports.now c.args.place) =
     step_refused end f before pending c.args.self.now.device c.react.new.self.device c.args.self.now.second
-    c.args.self.now.recording c.react.new.self.recording (g.P.Ports.told c.args.ports.now c.args.place) c.args.event h
-    live c.in_err-outputs.ensures.refused c.react.ensures.recorded c.react.ensures.complete in
+    c.args.self.now.recording c.react.new.self.recording (g.P.Ports.told c.args.ports.now c.args.place) c.args.event
+    changes h live c.in_err-outputs.ensures.refused c.react.ensures.recorded c.react.ensures.complete in
     search (rules, refused)

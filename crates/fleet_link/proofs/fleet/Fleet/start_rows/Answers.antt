@@ -1,15 +1,16 @@
 use Rattle.fleet_link.proofs.Started.{more_first, more_recorded, none_first, none_recorded}
-use Rattle.fleet_link.proofs.fleet.Fleet.start.Goals as goal
+use Rattle.fleet_link.proofs.fleet.Fleet.start_rows.Goals as goal
 
 pub loop-device-init : goal.loop-device-init
 loop-device-init c = record {
-  first = none_first c.args.scenario.now _ c.in_ok-slots.ensures.items;
+  first = none_first c.args.scenario.now c.args.played _ c.in_ok-slots.ensures.items;
   recorded = λ saved. none_recorded _ c.in_ok-slots.ensures.items;
 }
 
 pub loop-device-preserved : goal.loop-device-preserved
 loop-device-preserved c = record {
-  first = more_first c.args.scenario.now c.loop-device.device c.loop-device.slots.items c.push.new.self.items
+  first = more_first c.args.scenario.now c.args.played c.loop-device.device c.loop-device.slots.items
+      c.push.new.self.items
       c.in_ok-slot_of_row.field-0 c.loop-device.invariant.first c.in_ok-push.ensures.items
       c.in_ok-slot_of_row.ensures.served c.in_ok-slot_of_row.ensures.second;
   recorded = λ saved. more_recorded c.loop-device.slots.items c.push.new.self.items c.in_ok-slot_of_row.field-0

@@ -2,10 +2,10 @@
 use Rattle.std.proofs.Common.{◌≡◌, true}
 use Rattle.fleet_link.specs.Serving.{AreRecorded}
 use Rattle.fleet_link.proofs.Started.{AreFirst}
-use Rattle.fleet_link.proofs.fleet.Fleet.start.Given as goal
+use Rattle.fleet_link.proofs.fleet.Fleet.start_rows.Given as goal
 
 abbrev pub invariant-loop-device : goal.invariant-loop-device
 invariant-loop-device l = record {
-  first : AreFirst l.scenario l.device l.slots.items;
+  first : AreFirst l.scenario l.played l.device l.slots.items;
   recorded : l.saved ≡ true → AreRecorded l.slots.items;
 }

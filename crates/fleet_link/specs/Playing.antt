@@ -1,0 +1,113 @@
+-- What the row of a device does by itself as seconds pass: its changes, each at its second.
+use Rattle.std.specs.Prelude.{◌≡◌, ℕ, ◌+◌, ◌^◌, ◌<◌, ◌≤◌, ⊤, Bool, true, false, List, [], ◌∷◌, ◌++◌, filter, take}
+use Rattle.std.specs.Prelude.{slice_get, Option, None, Some, MatchOption}
+use Rattle.device_machine.specs.declared.event.Event.{Event as Happening}
+use Rattle.device_machine.specs.declared.event.Event.TheVariants.{Recv, Put, Firmware, Tick}
+use Rattle.scenario_image.specs.declared.step.Step.{Step}
+use Rattle.scenario_image.specs.declared.step.Step.TheVariants.{Event, Post, Need}
+use Rattle.fleet_link.specs.declared.row.PlayedRow.{PlayedRow}
+use Rattle.fleet_link.specs.declared.row.RowState.{RowState}
+use Rattle.fleet_link.specs.declared.row.RowState.TheVariants.{Due, Stopped, Ended}
+
+-- ---- the seconds of steps
+
+-- the second after a step: a tick alone sets it on
+abbrev pub second_after : ℕ → Step → ℕ
+second_after second (Event (Recv server bytes)) = second
+second_after second (Event (Put path value)) = second
+second_after second (Event (Firmware code)) = second
+second_after second (Event (Tick seconds)) = second + seconds
+second_after second (Post group) = second
+second_after second (Need group count) = second
+
+-- the second after steps, one after another
+abbrev pub second_by : ℕ → List Step → ℕ
+second_by second [] = second
+second_by second (step ∷ steps) = second_by (second_after second step) steps
+
+-- ---- changes
+
+-- at this second a value is put, or a download or an update of the firmware ends
+pub record Change : Type 0 where
+  pub second : ℕ
+  pub event : Happening
+
+-- the change that a step is, if it is one
+abbrev pub change_in : Step → Option Happening
+change_in (Event (Recv server bytes)) = None
+change_in (Event (Put path value)) = Some (Put path value)
+change_in (Event (Firmware code)) = Some (Firmware code)
+change_in (Event (Tick seconds)) = None
+change_in (Post group) = None
+change_in (Need group count) = None
+
+abbrev pub change_at : ℕ → Option Happening → List Change
+change_at second None = []
+change_at second (Some event) = record { second = second; event = event } ∷ []
+
+-- the changes among steps, in order, each with its second
+abbrev pub changes_by : ℕ → List Step → List Change
+changes_by second [] = []
+changes_by second (step ∷ steps) =
+    change_at second (change_in step) ++ changes_by (second_after second step) steps
+
+-- a datagram is received, a change is made, or 1 to 86,400 seconds pass: a device of a fleet has no other steps
+abbrev pub IsFleetStep : Step → Type 0
+IsFleetStep (Event (Recv server bytes)) = ⊤
+IsFleetStep (Event (Put path value)) = ⊤
+IsFleetStep (Event (Firmware code)) = ⊤
+IsFleetStep (Event (Tick seconds)) = (1 ≤ seconds) × (seconds ≤ 86400)
+IsFleetStep (Post group) = ⊥
+IsFleetStep (Need group count) = ⊥
+
+-- ---- a row
+
+-- it is no datagram
+abbrev pub is_own : Step → Bool
+is_own (Event (Recv server bytes)) = false
+is_own (Event (Put path value)) = true
+is_own (Event (Firmware code)) = true
+is_own (Event (Tick seconds)) = true
+is_own (Post group) = true
+is_own (Need group count) = true
+
+-- what is played of the steps of a row: all but its datagrams, where rows are played
+abbrev pub played_steps : Bool → List Step → List Step
+played_steps false steps = []
+played_steps true steps = filter is_own steps
+
+-- the changes that a row has made: those of its first steps, each at the second to which the ticks before it add up
+abbrev pub changes_of : PlayedRow → List Change
+changes_of row = changes_by 0 (take row.place row.steps.items)
+
+-- the second of its next step: that to which the ticks before it add up
+abbrev pub second_of_row : PlayedRow → ℕ
+second_of_row row = second_by 0 (take row.place row.steps.items)
+
+-- how a row goes on of which this is the next step, due at this second
+abbrev pub state_of : Option ℕ → Option Step → RowState
+state_of None next = Ended
+state_of (Some second) None = Ended
+state_of (Some second) (Some (Event event)) = Due second
+state_of (Some second) (Some (Post group)) = Stopped
+state_of (Some second) (Some (Need group count)) = Stopped
+
+abbrev pub row_state : PlayedRow → RowState
+row_state row = state_of row.second (slice_get row.steps.items row.place)
+
+-- no step of the row is due at this second or before: it has ended, or stopped, or its next step is due later
+abbrev pub IsLaterThan : ℕ → RowState → Type 0
+IsLaterThan second (Due due) = second < due
+IsLaterThan second Stopped = ⊤
+IsLaterThan second Ended = ⊤
+
+-- it is not too late for the next step of the row at this second
+abbrev pub IsTimely : ℕ → RowState → Type 0
+IsTimely second (Due due) = second ≤ due
+IsTimely second Stopped = ⊤
+IsTimely second Ended = ⊤
+
+-- the next step of a row is due at its second, if that has 64 bits, and at this second it is not too late for it
+pub record IsOnTime (row : PlayedRow) (second : ℕ) : Type 0 where
+  pub next : MatchOption row.second (2 ^ 64 ≤ second_of_row row) (λ due. due ≡ second_of_row row)
+  pub timely : IsTimely second (row_state row)
