@@ -1,6 +1,6 @@
 -- All devices, where one of them goes on.
 use Rattle.std.proofs.Common.{◌≡◌, ◌⊎◌, inl, inr, ℕ, zero, suc, ◌+◌, ◌≤◌, ◌<◌, Bool, true, false, List, [], ◌∷◌}
-use Rattle.std.proofs.Common.{length, get_or, max, Option, None, Some, slice_get, Result, Ok, Err, OnOk, refl, sym, ap, subst, ◌∙◌, arith}
+use Rattle.std.proofs.Common.{length, take, get_or, max, Option, None, Some, slice_get, Result, Ok, Err, OnOk, refl, sym, ap, subst, ◌∙◌, arith}
 use Rattle.std.proofs.Math.ListN.{length-set}
 use Rattle.std.proofs.lemmas.Bool.{cases_eq}
 use Rattle.std.proofs.lemmas.Option.{slice_get_read, slice_get_within}
@@ -8,14 +8,17 @@ use Rattle.std.specs.List.{slice_set}
 use Rattle.std.specs.Result.{is_err, IsErr}
 use Rattle.device_template.specs.Template.{Template}
 use Rattle.scenario_image.specs.declared.step.Step.{Step}
-use Rattle.scenario_image.specs.Scenario.{Scenario}
+use Rattle.scenario_image.specs.declared.step.Step.TheVariants.{Need}
+use Rattle.scenario_image.specs.Scenario.{Row, Scenario}
 use Rattle.fleet_link.specs.declared.fleet.Fleet.{Fleet}
 use Rattle.fleet_link.specs.declared.ports.Receipt.{Receipt}
 use Rattle.fleet_link.specs.declared.slot.Slot.{Slot}
-use Rattle.fleet_link.specs.Playing.{played_steps, row_state, IsLaterThan}
-use Rattle.fleet_link.specs.Serving.{AreAt, AreSwept, IsFleet, IsRowServed, IsServed, IsSweptAt}
+use Rattle.fleet_link.specs.Playing.{played_steps, posts_in, row_state, second_by, GoesOn, IsLaterThan, IsPassed}
+use Rattle.fleet_link.specs.Serving.{posts_of, AreAt, AreMet, AreSwept, IsFleet, IsRowServed, IsServed, IsSweptAt}
 use Rattle.fleet_link.specs.Traffic.{Carries, Traffic, at_port, failed_once, no_traffic, traffic_of_receipt}
 use Rattle.fleet_link.proofs.Served.{served_on, swept_after}
+use Rattle.fleet_link.proofs.Stepped.{goes_on_same}
+use Rattle.fleet_link.proofs.Passing.{goes_posts, more_met, passed_posts, posts_grow, same_row, still_met}
 use Rattle.fleet_link.proofs.Told.{at_port_other, at_port_same, carries_none, carries_on, carries_same}
 
 -- ---- lists
@@ -64,16 +67,38 @@ served_row : (s : Scenario) (played : Bool) (e : ℕ) (before between after : Op
 served_row s played e before between after slot new broken h f =
     record { class = h.class; steps = h.steps; row = h.row; served = f h.class (played_steps played h.steps) h.served }
 
+-- what holds of needs that were passed holds of them where a row has gone on
+met_set : (s : Scenario) (played : Bool) (slots more : List Slot) (place : ℕ) (slot new : Slot)
+    → AreMet s played slots → slice_get slots place ≡ Some slot → more ≡ slice_set slots place new
+    → ((group until : ℕ) → posts_in slot.row group until ≤ posts_in new.row group until)
+    → ((k group count : ℕ) (row : Row) → slice_get s.rows place ≡ Some row → k < new.row.place
+    → slice_get (played_steps played row.steps) k ≡ Some (Need group count)
+    → count ≤ posts_of more group (second_by 0 (take (k + 1) new.row.steps.items)))
+    → AreMet s played more
+met_set s played slots more place slot new met at is grows here =
+    λ e k group count row x at_row got l need.
+    each_set (λ i y. (k group count : ℕ) (row : Row) → slice_get s.rows i ≡ Some row → k < y.row.place
+    → slice_get (played_steps played row.steps) k ≡ Some (Need group count)
+    → count ≤ posts_of more group (second_by 0 (take (k + 1) y.row.steps.items))) slots more place new is here
+    (λ i y o found j g n r a b c.
+    let before = met i j g n r y a found b c in
+    let grown = more_posts g (second_by 0 (take (j + 1) y.row.steps.items)) in
+    omega (arith, before, grown)) e x got k group count row at_row l need
+  where
+    more_posts : (group until : ℕ) → posts_of slots group until ≤ posts_of more group until
+    more_posts group until =
+        subst (λ l. posts_of slots group until ≤ posts_of l group until) (sym is)
+        (posts_grow slots place slot new group until at (grows group until))
+
 -- one device went on, nothing went through the ports of the others
 pub one_served : (s : Scenario) (played : Bool) (before between after : ℕ → Option Traffic) (slots more : List Slot)
-    (now : ℕ)
-    (broken : Bool) (place : ℕ) (slot new : Slot) → IsFleet s played before slots now false between
+    (now : ℕ) (broken : Bool) (place : ℕ) (slot new : Slot) → IsFleet s played before slots now false between
     → slice_get slots place ≡ Some slot → more ≡ slice_set slots place new
     → ((class : Template) (own : List Step) → IsServed class own (before place) slot false (between place)
     → IsServed class own (before place) new broken (after place))
     → ((e : ℕ) → (e ≡ place → ⊥) → Carries (between e) (after e) no_traffic) → new.second ≤ now
-    → IsFleet s played before more now broken after
-one_served s played before between after slots more now broken place slot new h at is here others early =
+    → GoesOn slot.row new.row → IsFleet s played before more now broken after
+one_served s played before between after slots more now broken place slot new h at is here others early goes =
     record {
       count = ap length is ∙ length-set slots place new ∙ h.count;
       each = each_set (λ e x. IsRowServed s played e (before e) x broken (after e)) slots more place new is
@@ -82,7 +107,107 @@ one_served s played before between after slots more now broken place slot new h 
           (λ e x o got. served_row s played e (before e) (between e) (after e) x x broken (h.each e x got)
           (λ class own k. served_on class own (before e) x broken (between e) (after e) k (others e o)));
       early = each_set (λ e x. x.second ≤ now) slots more place new is early (λ e x o got. h.early e x got);
+      met = met_set s played slots more place slot new h.met at is (goes_posts slot.row new.row goes)
+          (λ k group count row a l need.
+          still_met (played_steps played row.steps) slot.row new.row (posts_of more)
+          (same_row s played place (before place) (between place) slot false row (h.each place slot at) a) goes
+          (λ i g n b c.
+          let before_set = h.met place i g n row slot a at b c in
+          let grown = more_posts g (second_by 0 (take (i + 1) slot.row.steps.items)) in
+          omega (arith, before_set, grown)) k group count l need);
     }
+  where
+    more_posts : (group until : ℕ) → posts_of slots group until ≤ posts_of more group until
+    more_posts group until =
+        subst (λ l. posts_of slots group until ≤ posts_of l group until) (sym is)
+        (posts_grow slots place slot new group until at (goes_posts slot.row new.row goes group until))
+
+-- one device passed a need, or did nothing
+pub one_passed : (s : Scenario) (played : Bool) (before between : ℕ → Option Traffic) (slots : List Slot)
+    (now place name posts : ℕ) (slot new : Slot) → IsFleet s played before slots now false between
+    → slice_get slots place ≡ Some slot
+    → ((class : Template) (own : List Step) (b x : Option Traffic) → IsServed class own b slot false x
+    → slot.second ≤ now → IsServed class own b new false x)
+    → (new.row ≡ slot.row) ⊎ ((slot.end ≡ None) × IsPassed name posts now slot.row new.row)
+    → new.second ≡ slot.second → posts ≤ posts_of slots name now
+    → IsFleet s played before (slice_set slots place new) now false between
+one_passed s played before between slots now place name posts slot new h at served passed second stand =
+    by_case passed
+  where
+    early : slot.second ≤ now
+    early = h.early place slot at
+
+    none : (e : ℕ) → (e ≡ place → ⊥) → Carries (between e) (between e) no_traffic
+    none e o = carries_none (between e)
+
+    here : (class : Template) (own : List Step) → IsServed class own (before place) slot false (between place)
+        → IsServed class own (before place) new false (between place)
+    here class own k = served class own (before place) (between place) k early
+
+    more_posts : IsPassed name posts now slot.row new.row → (group until : ℕ)
+        → posts_of slots group until ≤ posts_of (slice_set slots place new) group until
+    more_posts p group until =
+        posts_grow slots place slot new group until at
+        (passed_posts name posts now slot.row new.row p group until)
+
+    stands : IsPassed name posts now slot.row new.row → posts ≤ posts_of (slice_set slots place new) name now
+    stands p = let grown = more_posts p name now in omega (arith, stand, grown)
+
+    by_case : (new.row ≡ slot.row) ⊎ ((slot.end ≡ None) × IsPassed name posts now slot.row new.row)
+        → IsFleet s played before (slice_set slots place new) now false between
+    by_case (inl same) =
+        one_served s played before between between slots (slice_set slots place new) now false place slot new h at
+        refl here none (omega (arith, early, second)) (goes_on_same slot.row new.row same)
+    by_case (inr (on, p)) =
+        record {
+          count = length-set slots place new ∙ h.count;
+          each = each_set (λ e x. IsRowServed s played e (before e) x false (between e)) slots
+              (slice_set slots place new) place new refl
+              (served_row s played place (before place) (between place) (between place) slot new false
+              (h.each place slot at) here)
+              (λ e x o got. h.each e x got);
+          early = each_set (λ e x. x.second ≤ now) slots (slice_set slots place new) place new refl
+              (omega (arith, early, second)) (λ e x o got. h.early e x got);
+          met = met_set s played slots (slice_set slots place new) place slot new h.met at refl
+              (passed_posts name posts now slot.row new.row p)
+              (λ k group count row a l need.
+              more_met (played_steps played row.steps) name posts now slot.second slot.row new.row
+              (posts_of (slice_set slots place new))
+              (same_row s played place (before place) (between place) slot false row (h.each place slot at) a)
+              ((h.each place slot at).served.on_time on) p (stands p)
+              (λ i g n b c.
+              let before_set = h.met place i g n row slot a at b c in
+              let grown = more_posts p g (second_by 0 (take (i + 1) slot.row.steps.items)) in
+              omega (arith, before_set, grown)) k group count l need);
+        }
+
+-- the same, where the second of the session is known by two names
+pub passed_at : (s : Scenario) (played : Bool) (before between : ℕ → Option Traffic) (slots : List Slot)
+    (then now place name posts : ℕ) (slot new : Slot) → now ≡ then → IsFleet s played before slots then false between
+    → slice_get slots place ≡ Some slot
+    → ((class : Template) (own : List Step) (b x : Option Traffic) → IsServed class own b slot false x
+    → slot.second ≤ now → IsServed class own b new false x)
+    → (new.row ≡ slot.row) ⊎ ((slot.end ≡ None) × IsPassed name posts now slot.row new.row)
+    → new.second ≡ slot.second → posts ≤ posts_of slots name now
+    → IsFleet s played before (slice_set slots place new) then false between
+passed_at s played before between slots then now place name posts slot new same h at served passed second stand =
+    subst (λ n. IsFleet s played before (slice_set slots place new) n false between) same
+    (one_passed s played before between slots now place name posts slot new
+    (subst (λ n. IsFleet s played before slots n false between) (sym same) h) at served passed second stand)
+
+-- posts that stood stand still
+pub stand_still : (slots : List Slot) (place name posts now group until : ℕ) (slot new : Slot)
+    → slice_get slots place ≡ Some slot
+    → (new.row ≡ slot.row) ⊎ ((slot.end ≡ None) × IsPassed name posts now slot.row new.row)
+    → posts_of slots group until ≤ posts_of (slice_set slots place new) group until
+stand_still slots place name posts now group until slot new at passed =
+    posts_grow slots place slot new group until at (by_case passed)
+  where
+    by_case : (new.row ≡ slot.row) ⊎ ((slot.end ≡ None) × IsPassed name posts now slot.row new.row)
+        → posts_in slot.row group until ≤ posts_in new.row group until
+    by_case (inl same) =
+        subst (λ r. posts_in slot.row group until ≤ posts_in r group until) (sym same) (omega arith)
+    by_case (inr (on, p)) = passed_posts name posts now slot.row new.row p group until
 
 -- nothing went through the port of any device
 pub none_served : (s : Scenario) (played : Bool) (before between after : ℕ → Option Traffic) (slots : List Slot)
@@ -97,6 +222,7 @@ none_served s played before between after slots now later broken h none le =
           (λ class own k. served_on class own (before e) x broken (between e) (after e) k
           (none e (slice_get_within slots e x got)));
       early = λ e x got. let k : x.second ≤ now = h.early e x got in omega arith;
+      met = h.met;
     }
 
 -- ---- which are due
@@ -134,14 +260,15 @@ pub failed_at : (s : Scenario) (played : Bool) (before between after : ℕ → O
     → slice_get slots device ≡ Some slot
     → ((class : Template) (own : List Step) (b x y : Option Traffic) → IsServed class own b slot false x
     → Carries x y failed_once
-    → IsServed class own b new false y) → new.second ≡ slot.second
+    → IsServed class own b new false y) → new.second ≡ slot.second → new.row ≡ slot.row
     → IsFleet s played before (slice_set slots device new) now false after
-failed_at s played before between after slots now device slot new h went at served second =
+failed_at s played before between after slots now device slot new h went at served second row =
     let le : slot.second ≤ now = h.early device slot at in
     one_served s played before between after slots (slice_set slots device new) now false device slot new h at refl
     (λ class own k. served class own (before device) (between device) (after device) k
     (carries_same (between device) (after device) _ _ (went device) (at_port_same device failed_once)))
     (λ e o. carries_same (between e) (after e) _ _ (went e) (at_port_other device e failed_once o)) (omega arith)
+    (goes_on_same slot.row new.row row)
 
 -- what went through a port past those of the devices has no part in it
 pub beyond : (s : Scenario) (played : Bool) (before between after : ℕ → Option Traffic) (slots : List Slot)
@@ -167,16 +294,16 @@ pub gone_on : (s : Scenario) (played : Bool) (before between mid after : ℕ →
     → Carries x (mid place) more
     → slot.second ≤ now → IsServed class own b new broken (after place))
     → ((e : ℕ) → (e ≡ place → ⊥) → Carries (mid e) (after e) no_traffic)
-    → ((most : ℕ) → slot.second ≤ most → now ≤ most → new.second ≤ most)
+    → ((most : ℕ) → slot.second ≤ most → now ≤ most → new.second ≤ most) → GoesOn slot.row new.row
     → IsFleet s played before (slice_set slots place new) now broken after
-gone_on s played before between mid after slots now place broken more slot new h went at served others most =
+gone_on s played before between mid after slots now place broken more slot new h went at served others most goes =
     let early : slot.second ≤ now = h.early place slot at in
     one_served s played before between after slots (slice_set slots place new) now broken place slot new h at refl
     (λ class own k. served class own (before place) (between place) k
     (carries_same (between place) (mid place) _ _ (went place) (at_port_same place more)) early)
     (λ e o. carries_on (between e) (mid e) (after e) no_traffic
     (carries_same (between e) (mid e) _ _ (went e) (at_port_other place e more o)) (others e o))
-    (most now early (omega arith))
+    (most now early (omega arith)) goes
 
 -- when it is due then
 pub gone_due : (s : Scenario) (played : Bool) (before between mid after : ℕ → Option Traffic) (slots : List Slot)
@@ -257,10 +384,11 @@ pub next_served : (s : Scenario) (played : Bool) (before between after : ℕ →
     → IsServed class own b new broken (after place))
     → ((e : ℕ) → (e ≡ place → ⊥) → Carries (between e) (after e) no_traffic)
     → ((most : ℕ) → slot.second ≤ most → to ≤ most → new.second ≤ most) → to ≤ now
+    → GoesOn slot.row new.row
     → IsFleet s played before (slice_set slots place new) now broken after
-next_served s played before between after slots now place to broken slot new h at served others most le =
+next_served s played before between after slots now place to broken slot new h at served others most le goes =
     one_served s played before between after slots (slice_set slots place new) now broken place slot new h at refl
-    (λ class own k. served class own (before place) k) others (most now (h.early place slot at) le)
+    (λ class own k. served class own (before place) k) others (most now (h.early place slot at) le) goes
 
 pub next_swept : (s : Scenario) (played : Bool) (before between : ℕ → Option Traffic) (slots : List Slot)
     (now place to : ℕ)

@@ -1,6 +1,7 @@
 pub mod Told
 pub mod Served
 pub mod Stepped
+pub mod Passing
 pub mod Fleets
 pub mod Seconds
 pub mod Started

@@ -20,13 +20,13 @@ use Rattle.live_link.proofs.Served.{sent_push}
 use Rattle.live_link.specs.declared.packet.Packet.{Packet}
 use Rattle.live_link.specs.Live.{packets_in, sent_by}
 use Rattle.fleet_link.specs.declared.row.RowState.{RowState}
-use Rattle.fleet_link.specs.declared.row.RowState.TheVariants.{Due, Ended, Stopped}
+use Rattle.fleet_link.specs.declared.row.RowState.TheVariants.{Due, Ended, Waits}
 use Rattle.fleet_link.specs.declared.recording.Recording.{Recording}
 use Rattle.fleet_link.specs.declared.slot.DeviceEnd.{DeviceEnd}
 use Rattle.fleet_link.specs.declared.slot.DeviceEnd.TheVariants.{Memory, Port, Spent}
 use Rattle.fleet_link.specs.declared.slot.Slot.{Slot}
 use Rattle.fleet_link.specs.Playing.{change_at, change_in, changes_by, changes_of, row_state, second_after, second_by}
-use Rattle.fleet_link.specs.Playing.{Change, IsFleetStep, IsLaterThan, IsOnTime, IsTimely}
+use Rattle.fleet_link.specs.Playing.{Change, IsFleetStep, IsLaterThan, IsOnTime, IsTimely, IsUnderWay}
 use Rattle.fleet_link.specs.Serving.{heard_at, heard_by, IsDue, IsEndOf, IsNearEnd, IsRecorded, IsServed, IsServing}
 use Rattle.fleet_link.specs.Serving.{IsSweptAt}
 use Rattle.fleet_link.specs.Traffic.{Carries, Heard, Traffic, failed_once, handed_at, no_traffic, sent_all, traffic_and}
@@ -229,7 +229,7 @@ later_than f (Some d) second e h = subst (λ n. n < d) e h.later
 pub rests : (class : Template) (own : List Step) (before : Option Traffic) (slot : Slot) (broken : Bool)
     (after : Option Traffic)
     → IsServing (start class) before [] (changes_of slot.row) None slot.device slot.second slot.recording after
-    → slot.end ≡ None → IsDue slot.device slot.due → slot.row.steps.items ≡ own → IsOnTime slot.row slot.second
+    → slot.end ≡ None → IsDue slot.device slot.due → IsUnderWay own slot.row → IsOnTime slot.row slot.second
     → IsServed class own before slot broken after
 rests class own before slot broken after h e due row time =
     record {
@@ -249,7 +249,7 @@ rests class own before slot broken after h e due row time =
 pub is_over : (class : Template) (own : List Step) (before : Option Traffic) (pending : List Heard) (end : DeviceEnd)
     (slot : Slot) (broken : Bool) (after : Option Traffic)
     → IsServing (start class) before pending (changes_of slot.row) (Some end) slot.device slot.second slot.recording
-    after → slot.end ≡ Some end → slot.row.steps.items ≡ own
+    after → slot.end ≡ Some end → IsUnderWay own slot.row
     → (slot.end ≡ Some Memory → broken ≡ true) → IsServed class own before slot broken after
 is_over class own before pending end slot broken after h e row memory =
     record {
@@ -286,7 +286,7 @@ pub settled : {T : Type 0} (class : Template) (own : List Step) (before : Option
     → OnOk taken (IsServing (start class) before [] (changes_of stepped.row) None stepped.device stepped.second
     stepped.recording after) → OnOk taken (IsOnTime stepped.row stepped.second)
     → IfErr taken (λ end. IsServing (start class) before pending (changes_of stepped.row) (Some end) stepped.device
-    stepped.second stepped.recording after) → stepped.row.steps.items ≡ own
+    stepped.second stepped.recording after) → IsUnderWay own stepped.row
     → slot.device ≡ stepped.device → slot.second ≡ stepped.second → slot.row ≡ stepped.row
     → slot.recording ≡ stepped.recording
     → OnOk taken ((slot.end ≡ None) × IsDue slot.device slot.due) → IfErr taken (λ end. slot.end ≡ Some end)
@@ -294,11 +294,11 @@ pub settled : {T : Type 0} (class : Template) (own : List Step) (before : Option
 settled class own before pending (Ok x) broken stepped slot after served time refused row d s w r ok ended memory =
     rests class own before slot broken after
     (serving_as (start class) before [] None stepped slot after d s w r served) ok.0 ok.1
-    (ap (λ y. y.steps.items) w ∙ row) (time_as stepped slot s w time)
+    (subst (IsUnderWay own) (sym w) row) (time_as stepped slot s w time)
 settled class own before pending (Err end) broken stepped slot after served time refused row d s w r ok ended memory =
     is_over class own before pending end slot broken after
     (serving_as (start class) before pending (Some end) stepped slot after d s w r refused) ended
-    (ap (λ y. y.steps.items) w ∙ row) memory
+    (subst (IsUnderWay own) (sym w) row) memory
 
 pub some_over : {X : Type 0} (o : Option X) (x : X) → o ≡ Some x → o ≡ None → ⊥
 some_over o x is none = let e : Some x ≡ None = sym is ∙ none in cc
@@ -316,7 +316,7 @@ due_after class own before slot broken after now second h e at le = later slot.d
 
 later_still : (state : RowState) (now second : ℕ) → second ≤ now → IsLaterThan now state → IsLaterThan second state
 later_still (Due d) now second le h = omega (arith, le, h)
-later_still Stopped now second le h = tt
+later_still (Waits group count) now second le h = tt
 later_still Ended now second le h = tt
 
 -- one that was brought to a second has nothing to do then
@@ -348,7 +348,7 @@ row_reached class own before slot after d now h e due le =
   where
     timely_at : (state : RowState) → state ≡ Due d → IsTimely slot.second state → slot.second ≤ d
     timely_at (Due x) is k = let q : x ≡ d = cc in subst (λ y. slot.second ≤ y) q k
-    timely_at Stopped is k = let q : Stopped ≡ Due d = is in absurd cc
+    timely_at (Waits group count) is k = let q : Waits group count ≡ Due d = is in absurd cc
     timely_at Ended is k = let q : Ended ≡ Due d = is in absurd cc
 
 -- one that was due, and was brought to this second

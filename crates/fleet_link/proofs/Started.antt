@@ -12,7 +12,7 @@ use Rattle.fleet_core.proofs.Valid.{all_at}
 use Rattle.lemmas.proofs.Lists.{item_at}
 use Rattle.fleet_link.specs.declared.row.PlayedRow.{PlayedRow}
 use Rattle.fleet_link.specs.declared.row.RowState.{RowState}
-use Rattle.fleet_link.specs.declared.row.RowState.TheVariants.{Due, Ended, Stopped}
+use Rattle.fleet_link.specs.declared.row.RowState.TheVariants.{Due, Ended, Waits}
 use Rattle.fleet_link.specs.declared.recording.Recording.{Recording}
 use Rattle.fleet_link.specs.declared.slot.Slot.{Slot}
 use Rattle.fleet_link.specs.Playing.{changes_by, played_steps, row_state, second_by, second_of_row, IsTimely}
@@ -44,7 +44,10 @@ slot_starts class own slot told shows second end due none row place first =
       shows = λ e. shows;
       ended = refl;
       recorded = record { rest = []; begins = sym none ∙ nothing slot.recording.steps.items; whole = λ e. refl };
-    }) end due row (record {
+    }) end due (record {
+      happened = λ k said step l s at. absurd (omega (arith, l, place));
+      coming = λ k le. ap (λ l. slice_get l k) row;
+    }) (record {
       next = subst (λ o. MatchOption o (2 ^ 64 ≤ second_of_row slot.row) (λ d. d ≡ second_of_row slot.row)) (sym first)
           (sym (ap (second_by 0) before));
       timely = subst (λ n. IsTimely n (row_state slot.row)) (sym second) (from_start (row_state slot.row));
@@ -55,7 +58,7 @@ slot_starts class own slot told shows second end due none row place first =
 
     from_start : (state : RowState) → IsTimely 0 state
     from_start (Due d) = omega arith
-    from_start Stopped = tt
+    from_start (Waits group count) = tt
     from_start Ended = tt
 
     nothing : {X : Type 0} (xs : List X) → xs ≡ xs ++ []
@@ -92,6 +95,7 @@ pub record AreFirst (s : Scenario) (played : Bool) (n : ℕ) (slots : List Slot)
   pub each : (told : Option Traffic) (e : ℕ) (slot : Slot) → slice_get slots e ≡ Some slot
       → IsRowServed s played e told slot false told
   pub early : (e : ℕ) (slot : Slot) → slice_get slots e ≡ Some slot → slot.second ≤ 0
+  pub first : (e : ℕ) (slot : Slot) → slice_get slots e ≡ Some slot → slot.row.place ≡ 0
 
 pub none_first : (s : Scenario) (played : Bool) (slots : List Slot) → slots ≡ [] → AreFirst s played 0 slots
 none_first s played slots none =
@@ -99,6 +103,7 @@ none_first s played slots none =
       count = refl;
       each = λ told e slot h. absurd (never e slot h);
       early = λ e slot h. absurd (never e slot h);
+      first = λ e slot h. absurd (never e slot h);
     })
   where
     never : (k : ℕ) (x : Slot) → slice_get [] k ≡ Some x → ⊥
@@ -112,13 +117,16 @@ by_place P n e slots x y count here before (inr h) =
 
 pub more_first : (s : Scenario) (played : Bool) (n : ℕ) (slots more : List Slot) (y : Slot) → AreFirst s played n slots
     → more ≡ slots ++ y ∷ [] → ((told : Option Traffic) → IsRowServed s played n told y false told) → y.second ≡ 0
+    → y.row.place ≡ 0
     → AreFirst s played (n + 1) more
-more_first s played n slots more y h is here second =
+more_first s played n slots more y h is here second place =
     record {
       count = omega (arith, h.count, ap length is, length-append slots (y ∷ []));
       each = λ told e x at. by_place (λ k z. IsRowServed s played k told z false told) n e slots x y h.count (here told)
           (h.each told e x) (pushed_cases slots y e x (ap (λ l. slice_get l e) (sym is) ∙ at));
       early = λ e x at. by_place (λ k z. z.second ≤ 0) n e slots x y h.count (omega (arith, second)) (h.early e x)
+          (pushed_cases slots y e x (ap (λ l. slice_get l e) (sym is) ∙ at));
+      first = λ e x at. by_place (λ k z. z.row.place ≡ 0) n e slots x y h.count place (h.first e x)
           (pushed_cases slots y e x (ap (λ l. slice_get l e) (sym is) ∙ at));
     }
 
@@ -130,6 +138,7 @@ all_first s played slots now told h zero =
       count = h.count;
       each = λ e x at. h.each (told e) e x at;
       early = λ e x at. let k : x.second ≤ 0 = h.early e x at in omega arith;
+      met = λ e k group count row x at got l need. absurd (omega (arith, l, h.first e x got));
     }
 
 pub none_recorded : (slots : List Slot) → slots ≡ [] → AreRecorded slots

@@ -1,6 +1,7 @@
 -- A row, one step further.
 use Rattle.std.proofs.Common.{◌≡◌, ℕ, ◌+◌, ◌^◌, ◌<◌, ◌≤◌, List, [], ◌++◌, Option, None, Some, take, length, slice_get}
-use Rattle.std.proofs.Common.{Result, Ok, Err, OnOk, IfErr, refl, sym, ap, subst, ◌∙◌, append-nil, arith}
+use Rattle.std.proofs.Common.{◌⊎◌, inl, inr, true, false, Result, Ok, Err, OnOk, IfErr, refl, sym, ap, subst, ◌∙◌, append-nil, arith}
+use Rattle.std.proofs.lemmas.Bool.{cases_lt}
 use Rattle.std.proofs.lemmas.Option.{slice_get_within}
 use Rattle.std.specs.Option.{MatchOption}
 use Rattle.lemmas.proofs.Lists.{item_at, take_one_more}
@@ -11,13 +12,14 @@ use Rattle.scenario_image.specs.declared.step.Step.{Step}
 use Rattle.scenario_image.specs.declared.step.Step.TheVariants.{Event, Post, Need}
 use Rattle.fleet_link.specs.declared.row.PlayedRow.{PlayedRow}
 use Rattle.fleet_link.specs.declared.row.RowState.{RowState}
-use Rattle.fleet_link.specs.declared.row.RowState.TheVariants.{Due, Ended, Stopped}
+use Rattle.fleet_link.specs.declared.row.RowState.TheVariants.{Due, Ended, Waits}
 use Rattle.fleet_link.specs.declared.recording.Recording.{Recording}
 use Rattle.fleet_link.specs.declared.slot.DeviceEnd.{DeviceEnd}
 use Rattle.fleet_link.specs.declared.slot.DeviceEnd.TheVariants.{Memory}
 use Rattle.fleet_link.specs.declared.slot.Slot.{Slot}
 use Rattle.fleet_link.specs.Playing.{change_at, change_in, changes_by, changes_of, row_state, second_after, second_by}
 use Rattle.fleet_link.specs.Playing.{second_of_row, state_of, Change, IsFleetStep, IsLaterThan, IsOnTime, IsTimely}
+use Rattle.fleet_link.specs.Playing.{is_need, ComesTo, GoesOn, IsUnderWay}
 use Rattle.fleet_link.specs.Serving.{heard_at, IsServing}
 use Rattle.fleet_link.specs.Traffic.{Heard, Traffic}
 use Rattle.fleet_link.proofs.Served.{changes_push, second_push}
@@ -28,8 +30,8 @@ due_second : (o : Option ℕ) (next : Option Step) (due : ℕ) → state_of o ne
 due_second None next due h = let e : Ended ≡ Due due = h in absurd cc
 due_second (Some n) None due h = let e : Ended ≡ Due due = h in absurd cc
 due_second (Some n) (Some (Event event)) due h = let e : Due n ≡ Due due = h in cc
-due_second (Some n) (Some (Post group)) due h = let e : Stopped ≡ Due due = h in absurd cc
-due_second (Some n) (Some (Need group count)) due h = let e : Stopped ≡ Due due = h in absurd cc
+due_second (Some n) (Some (Post group)) due h = let e : Due n ≡ Due due = h in cc
+due_second (Some n) (Some (Need group count)) due h = let e : Waits group count ≡ Due due = h in absurd cc
 
 due_step : (o : Option ℕ) (next : Option Step) (due : ℕ) → state_of o next ≡ Due due → (step : Step) ×
     (next ≡ Some step)
@@ -47,7 +49,7 @@ due_timely row second due is h = at (row_state row) is h.timely
   where
     at : (state : RowState) → state ≡ Due due → IsTimely second state → second ≤ due
     at (Due x) is k = let q : x ≡ due = cc in subst (λ y. second ≤ y) q k
-    at Stopped is k = let q : Stopped ≡ Due due = is in absurd cc
+    at (Waits group count) is k = let q : Waits group count ≡ Due due = is in absurd cc
     at Ended is k = let q : Ended ≡ Due due = is in absurd cc
 
 due_is : (row : PlayedRow) (second due : ℕ) → row_state row ≡ Due due → IsOnTime row second → due ≡ second_of_row row
@@ -105,7 +107,7 @@ advanced_on_time old new seconds same next passes later second due is h =
     timely None step k le = tt
     timely (Some n) None k le = tt
     timely (Some n) (Some (Event event)) k le = omega (arith, k, le)
-    timely (Some n) (Some (Post group)) k le = tt
+    timely (Some n) (Some (Post group)) k le = omega (arith, k, le)
     timely (Some n) (Some (Need group count)) k le = tt
 
 -- ---- a device whose row makes a step
@@ -305,7 +307,7 @@ on_time_then old new was second now h later same most =
   where
     at : (state : RowState) → IsTimely was state → IsLaterThan now state → IsTimely second state
     at (Due due) k l = most due k (omega (arith, l))
-    at Stopped k l = tt
+    at (Waits group count) k l = tt
     at Ended k l = tt
 
 pub time_same : (old new : PlayedRow) (was now : ℕ) → new ≡ old → now ≡ was → IsOnTime old was → IsOnTime new now
@@ -318,3 +320,71 @@ pub later_settled : {T : Type 0} (taken : Result T DeviceEnd) (stepped slot : Sl
     → slot.row ≡ stepped.row → slot.end ≡ None → IsLaterThan now (row_state slot.row)
 later_settled (Ok x) stepped slot now later ended same on = subst (λ r. IsLaterThan now (row_state r)) (sym same) later
 later_settled (Err end) stepped slot now later ended same on = let e : Some end ≡ None = sym ended ∙ on in absurd cc
+
+-- ---- a row that goes on
+
+pub goes_on_same : (old new : PlayedRow) → new ≡ old → GoesOn old new
+goes_on_same old new same =
+    subst (GoesOn old) (sym same) (record {
+      steps = refl;
+      later = omega arith;
+      free = λ k step a b at. absurd (omega (arith, a, b));
+    })
+
+pub goes_then : (first old new : PlayedRow) → GoesOn first old → new ≡ old → GoesOn first new
+goes_then first old new h same = subst (GoesOn first) (sym same) h
+
+pub goes_both : (a b c : PlayedRow) → GoesOn a b → GoesOn b c → GoesOn a c
+goes_both a b c h k =
+    record {
+      steps = k.steps ∙ h.steps;
+      later = omega (arith, h.later, k.later);
+      free = λ i step x y at. by_place i step x y at (cases_lt i b.place);
+    }
+  where
+    by_place : (i : ℕ) (step : Step) → a.place ≤ i → i < c.place → slice_get a.steps.items i ≡ Some step
+        → (i < b.place) ⊎ (b.place ≤ i) → is_need step ≡ false
+    by_place i step x y at (inl l) = h.free i step x l at
+    by_place i step x y at (inr le) = k.free i step le y (ap (λ v. slice_get v.items i) h.steps ∙ at)
+
+due_free : (o : Option ℕ) (step : Step) (due : ℕ) → state_of o (Some step) ≡ Due due → is_need step ≡ false
+due_free None step due h = let e : Ended ≡ Due due = h in absurd cc
+due_free (Some n) (Event event) due h = refl
+due_free (Some n) (Post group) due h = refl
+due_free (Some n) (Need group count) due h = let e : Waits group count ≡ Due due = h in absurd cc
+
+-- its next step, which is due, has happened
+pub due_goes_on : (old mid new : PlayedRow) (due : ℕ) → row_state old ≡ Due due → mid ≡ old → new.steps ≡ mid.steps
+    → new.place ≡ mid.place + 1 → GoesOn old new
+due_goes_on old mid new due is same steps place =
+    record {
+      steps = steps ∙ ap (λ r. r.steps) same;
+      later = omega (arith, place, ap (λ r. r.place) same);
+      free = λ k step a b at.
+          let here : k ≡ old.place = omega (arith, a, b, place, ap (λ r. r.place) same) in
+          due_free old.second step due
+          (ap (state_of old.second) (sym at ∙ ap (slice_get old.steps.items) here) ∙ is);
+    }
+
+comes_same : (said : Step) → is_need said ≡ false → ComesTo said said
+comes_same (Event event) h = refl
+comes_same (Post group) h = refl
+comes_same (Need group count) h = let e : true ≡ false = h in absurd cc
+
+pub still_under_way : (own : List Step) (old new : PlayedRow) → IsUnderWay own old → GoesOn old new
+    → IsUnderWay own new
+still_under_way own old new h g =
+    record {
+      happened = λ k said step l s at. by_place k said step l s
+          (ap (λ v. slice_get v.items k) (sym g.steps) ∙ at) (cases_lt k old.place);
+      coming = λ k le. ap (λ v. slice_get v.items k) g.steps ∙ h.coming k (omega (arith, g.later, le));
+    }
+  where
+    by_place : (k : ℕ) (said step : Step) → k < new.place → slice_get own k ≡ Some said
+        → slice_get old.steps.items k ≡ Some step → (k < old.place) ⊎ (old.place ≤ k) → ComesTo said step
+    by_place k said step l s at (inl before) = h.happened k said step before s at
+    by_place k said step l s at (inr le) =
+        let there : slice_get old.steps.items k ≡ Some said = h.coming k le ∙ s in
+        let e : Some said ≡ Some step = sym there ∙ at in
+        let same : said ≡ step = cc in
+        subst (ComesTo said) same (comes_same said (g.free k said le l there))

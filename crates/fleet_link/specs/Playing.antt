@@ -1,13 +1,14 @@
 -- What the row of a device does by itself as seconds pass: its changes, each at its second.
-use Rattle.std.specs.Prelude.{◌≡◌, ℕ, ◌+◌, ◌^◌, ◌<◌, ◌≤◌, ⊤, Bool, true, false, List, [], ◌∷◌, ◌++◌, filter, take}
-use Rattle.std.specs.Prelude.{slice_get, Option, None, Some, MatchOption}
+use Rattle.std.specs.Prelude.{◌≡◌, ℕ, ◌+◌, ◌-◌, ◌^◌, ◌&&◌, ◌<◌, ◌≤◌, ⊤, Bool, true, false, List, [], ◌∷◌, ◌++◌, filter, take}
+use Rattle.std.specs.Prelude.{slice_get, slice_set, nat_le, Option, None, Some, MatchOption, if◌then◌else◌}
 use Rattle.device_machine.specs.declared.event.Event.{Event as Happening}
 use Rattle.device_machine.specs.declared.event.Event.TheVariants.{Recv, Put, Firmware, Tick}
+use Rattle.fleet_core.specs.Run.{posts_to}
 use Rattle.scenario_image.specs.declared.step.Step.{Step}
 use Rattle.scenario_image.specs.declared.step.Step.TheVariants.{Event, Post, Need}
 use Rattle.fleet_link.specs.declared.row.PlayedRow.{PlayedRow}
 use Rattle.fleet_link.specs.declared.row.RowState.{RowState}
-use Rattle.fleet_link.specs.declared.row.RowState.TheVariants.{Due, Stopped, Ended}
+use Rattle.fleet_link.specs.declared.row.RowState.TheVariants.{Due, Waits, Ended}
 
 -- ---- the seconds of steps
 
@@ -76,7 +77,26 @@ abbrev pub played_steps : Bool → List Step → List Step
 played_steps false steps = []
 played_steps true steps = filter is_own steps
 
--- the changes that a row has made: those of its first steps, each at the second to which the ticks before it add up
+-- a need
+abbrev pub is_need : Step → Bool
+is_need (Event event) = false
+is_need (Post group) = false
+is_need (Need group count) = true
+
+-- what a step of a row comes to: itself; a need that is passed, to the seconds for which it held the row up
+abbrev pub ComesTo : Step → Step → Type 0
+ComesTo (Event event) step = step ≡ Event event
+ComesTo (Post group) step = step ≡ Post group
+ComesTo (Need group count) step = (seconds : ℕ) × (step ≡ Event (Tick seconds))
+
+-- of these steps of a row those before its place have happened, and the others are to come
+pub record IsUnderWay (own : List Step) (row : PlayedRow) : Type 0 where
+  pub happened : (k : ℕ) (said step : Step) → k < row.place → slice_get own k ≡ Some said
+      → slice_get row.steps.items k ≡ Some step → ComesTo said step
+  pub coming : (k : ℕ) → row.place ≤ k → slice_get row.steps.items k ≡ slice_get own k
+
+-- the changes that a row has made: those of its first steps, each at the second to which the ticks before it add up,
+-- and the seconds for which needs held it up
 abbrev pub changes_of : PlayedRow → List Change
 changes_of row = changes_by 0 (take row.place row.steps.items)
 
@@ -89,25 +109,57 @@ abbrev pub state_of : Option ℕ → Option Step → RowState
 state_of None next = Ended
 state_of (Some second) None = Ended
 state_of (Some second) (Some (Event event)) = Due second
-state_of (Some second) (Some (Post group)) = Stopped
-state_of (Some second) (Some (Need group count)) = Stopped
+state_of (Some second) (Some (Post group)) = Due second
+state_of (Some second) (Some (Need group count)) = Waits group count
 
 abbrev pub row_state : PlayedRow → RowState
 row_state row = state_of row.second (slice_get row.steps.items row.place)
 
--- no step of the row is due at this second or before: it has ended, or stopped, or its next step is due later
+-- no step of the row is due at this second or before: it has ended, or waits at a need, or its next step is due later
 abbrev pub IsLaterThan : ℕ → RowState → Type 0
 IsLaterThan second (Due due) = second < due
-IsLaterThan second Stopped = ⊤
+IsLaterThan second (Waits group count) = ⊤
 IsLaterThan second Ended = ⊤
 
 -- it is not too late for the next step of the row at this second
 abbrev pub IsTimely : ℕ → RowState → Type 0
 IsTimely second (Due due) = second ≤ due
-IsTimely second Stopped = ⊤
+IsTimely second (Waits group count) = ⊤
 IsTimely second Ended = ⊤
 
 -- the next step of a row is due at its second, if that has 64 bits, and at this second it is not too late for it
 pub record IsOnTime (row : PlayedRow) (second : ℕ) : Type 0 where
   pub next : MatchOption row.second (2 ^ 64 ≤ second_of_row row) (λ due. due ≡ second_of_row row)
   pub timely : IsTimely second (row_state row)
+
+-- a row has gone on, and has passed no need
+pub record GoesOn (old new : PlayedRow) : Type 0 where
+  pub steps : new.steps ≡ old.steps
+  pub later : old.place ≤ new.place
+  pub free : (k : ℕ) (step : Step) → old.place ≤ k → k < new.place → slice_get old.steps.items k ≡ Some step
+      → is_need step ≡ false
+
+-- ---- posts and needs
+
+-- how many posts to a group there are among steps, up to this second
+abbrev pub posts_by : ℕ → ℕ → ℕ → List Step → ℕ
+posts_by group until second [] = 0
+posts_by group until second (step ∷ steps) =
+    (if posts_to group step && nat_le second until then 1 else 0)
+    + posts_by group until (second_after second step) steps
+
+-- how many of them a row has made
+abbrev pub posts_in : PlayedRow → ℕ → ℕ → ℕ
+posts_in row group until = posts_by group until 0 (take row.place row.steps.items)
+
+-- the need that is the next step of a row was passed at this second, where so many posts to its group stood
+pub record IsPassed (group posts now : ℕ) (old new : PlayedRow) : Type 0 where
+  pub count : ℕ
+  pub need : slice_get old.steps.items old.place ≡ Some (Need group count)
+  pub met : count ≤ posts
+  pub second : ℕ
+  pub second_is : old.second ≡ Some second
+  pub reached : second ≤ now
+  pub steps : new.steps.items ≡ slice_set old.steps.items old.place (Event (Tick (now - second)))
+  pub place : new.place ≡ old.place + 1
+  pub resumed : new.second ≡ Some now

@@ -1,7 +1,7 @@
 -- A fleet that is served: what each of its devices is, of what its port handed out and took in.
-use Rattle.std.specs.Prelude.{◌≡◌, ℕ, ◌≤◌, ◌<◌, Bool, true, List, [], ◌∷◌, ◌++◌, length, slice_get, Option, None}
+use Rattle.std.specs.Prelude.{◌≡◌, ℕ, ◌+◌, ◌≤◌, ◌<◌, Bool, true, take, List, [], ◌∷◌, ◌++◌, length, slice_get, Option, None}
 use Rattle.std.specs.Prelude.{Some, IfSome, MatchOption}
-use Rattle.std.specs.List.{AllByRecursion}
+use Rattle.std.specs.List.{sum_by, AllByRecursion}
 use Rattle.device_machine.specs.declared.event.Event.TheVariants.{Recv, Put, Firmware, Tick}
 use Rattle.device_machine.specs.Held.{IsNextSending, IsSilent}
 use Rattle.device_machine.specs.Reactions.{passes_end}
@@ -11,13 +11,13 @@ use Rattle.live_link.specs.Live.{sent_by}
 use Rattle.scenario_image.specs.declared.step.Step.{Step}
 use Rattle.scenario_image.specs.declared.step.Step.TheVariants.{Event, Post, Need}
 use Rattle.scenario_image.specs.Play.{start, state_after, IsRowOf}
-use Rattle.scenario_image.specs.Scenario.{Scenario}
+use Rattle.scenario_image.specs.Scenario.{Row, Scenario}
 use Rattle.fleet_link.specs.declared.recording.Recording.{Recording}
 use Rattle.fleet_link.specs.declared.slot.DeviceEnd.{DeviceEnd}
 use Rattle.fleet_link.specs.declared.slot.DeviceEnd.TheVariants.{Memory, Port, Spent}
 use Rattle.fleet_link.specs.declared.slot.Slot.{Slot}
-use Rattle.fleet_link.specs.Playing.{changes_by, changes_of, played_steps, row_state, second_after, second_by, Change}
-use Rattle.fleet_link.specs.Playing.{IsFleetStep, IsLaterThan, IsOnTime}
+use Rattle.fleet_link.specs.Playing.{changes_by, changes_of, played_steps, posts_in, row_state, second_after, second_by, Change}
+use Rattle.fleet_link.specs.Playing.{IsFleetStep, IsLaterThan, IsOnTime, IsUnderWay}
 use Rattle.fleet_link.specs.Traffic.{Carries, Heard, Traffic}
 
 -- ---- what steps receive
@@ -89,7 +89,7 @@ pub record IsServed (class : Template) (row : List Step) (before : Option Traffi
   pub unheard : List Heard
   pub serving : IsServing (start class) before unheard (changes_of slot.row) slot.end slot.device slot.second
       slot.recording after
-  pub row_is : slot.row.steps.items ≡ row
+  pub row_is : IsUnderWay row slot.row
   pub on_time : slot.end ≡ None → IsOnTime slot.row slot.second
   pub heard : slot.end ≡ None → unheard ≡ []
   pub due : slot.end ≡ None → IsDue slot.device slot.due
@@ -106,6 +106,17 @@ pub record IsRowServed (s : Scenario) (played : Bool) (e : ℕ) (before : Option
   pub row : IsRowOf s e class steps
   pub served : IsServed class (played_steps played steps) before slot broken after
 
+-- how many posts to a group the rows of all devices have made, up to this second
+abbrev pub posts_of : List Slot → ℕ → ℕ → ℕ
+posts_of slots group until = sum_by (λ slot. posts_in slot.row group until) slots
+
+-- each need that a row has passed had its posts by the second to which it held the row up
+abbrev pub AreMet : Scenario → Bool → List Slot → Type 0
+AreMet s played slots =
+    (e k group count : ℕ) (row : Row) (slot : Slot) → slice_get s.rows e ≡ Some row → slice_get slots e ≡ Some slot
+    → k < slot.row.place → slice_get (played_steps played row.steps) k ≡ Some (Need group count)
+    → count ≤ posts_of slots group (second_by 0 (take (k + 1) slot.row.steps.items))
+
 -- the devices of a scenario are served, each on its port, and at most to this second; their rows are played, or are
 -- not. One of them ended for want of memory only if the session is broken off
 pub record IsFleet (s : Scenario) (played : Bool) (before : ℕ → Option Traffic) (slots : List Slot) (now : ℕ)
@@ -114,8 +125,10 @@ pub record IsFleet (s : Scenario) (played : Bool) (before : ℕ → Option Traff
   pub each : (e : ℕ) (slot : Slot) → slice_get slots e ≡ Some slot
       → IsRowServed s played e (before e) slot broken (after e)
   pub early : (e : ℕ) (slot : Slot) → slice_get slots e ≡ Some slot → slot.second ≤ now
+  pub met : AreMet s played slots
 
--- nothing is to be done by a device at this second or before: it sends nothing by itself, and no step of its row is due
+-- nothing is to be done by a device at this second or before: it sends nothing by itself, and no step of its row is
+-- due, unless it waits at a need
 pub record IsSweptAt (slot : Slot) (second : ℕ) : Type 0 where
   pub due : IfSome slot.due (λ d. second < d)
   pub row : IsLaterThan second (row_state slot.row)

@@ -48,6 +48,7 @@ fn slot_of_row(
     ensures served { IfOk result (λ slot. (told : Option Traffic)
         → IsRowServed scenario.now played device told slot false told) }
     ensures second { IfOk result (λ slot. slot.second ≡ 0) }
+    ensures place { IfOk result (λ slot. slot.row.place ≡ 0) }
     ensures recorded { IfOk result (λ slot. saved ≡ true → slot.recording.complete ≡ true) }
 {
     let rows = scenario.rows();

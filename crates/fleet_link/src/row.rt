@@ -1,24 +1,31 @@
 //! The row of a device, which happens as seconds pass.
-ghost use Rattle.std.specs.Prelude.{◌≡◌, ◌+◌, ◌<◌, ◌≤◌, ◌∷◌, ◌++◌, [], ℕ, List, Option, Some, None, filter, length};
-ghost use Rattle.std.specs.Prelude.{◌^◌, slice_get, IfOk, IfSome, MatchOption, OnOk};
+ghost use Rattle.std.specs.Prelude.{◌≡◌, ◌+◌, ◌-◌, ◌<◌, ◌≤◌, ◌∷◌, ◌++◌, [], ℕ, List, Option, Some, None, filter, length};
+ghost use Rattle.std.specs.Prelude.{◌^◌, ◌&&◌, ◌⊎◌, slice_get, slice_set, nat_le, take, if◌then◌else◌, IfOk, IfSome, MatchOption, OnOk};
 ghost use Rattle.device_template.specs.Template.{Template};
 ghost use Rattle.scenario_image.specs.declared.step.Step.{Step};
 ghost use Rattle.scenario_image.specs.Play.{IsRowOf};
+ghost use Rattle.device_machine.specs.declared.event.Event.TheVariants as events;
+ghost use Rattle.fleet_core.specs.Run.{posts_to};
+ghost use Rattle.scenario_image.specs.declared.step.Step.TheVariants.{Event as event_step};
 ghost use Rattle.fleet_link.specs.declared.row.RowState.TheVariants as states;
 ghost use Rattle.fleet_link.specs.Playing.{change_at, change_in, changes_of, is_own, played_steps, row_state};
-ghost use Rattle.fleet_link.specs.Playing.{second_after, second_of_row, state_of, IsLaterThan, IsOnTime};
+ghost use Rattle.fleet_link.specs.Playing.{posts_in, second_after, second_of_row, state_of, IsLaterThan, IsOnTime};
+ghost use Rattle.fleet_link.specs.Playing.{IsPassed};
 
 use device_machine::Event;
 use scenario_image::{Scenario, Step};
 use std::alloc::{AllocError, Global};
+
+/// For how many seconds a need holds a row up at most; it is not passed after that.
+const LONGEST_WAIT: u64 = 4_294_967_295;
 
 /// How the row of a device goes on.
 #[derive(Clone, Copy, Debug, PartialEq, Eq)]
 pub enum RowState {
     /// Its next step is due at this second of the session.
     Due(u64),
-    /// It has stopped at a post or a need.
-    Stopped,
+    /// It waits for so many posts to a group.
+    Waits(u8, u32),
     /// It has no further step, or none in 2^64 seconds.
     Ended,
 }
@@ -26,7 +33,8 @@ pub enum RowState {
 /// The steps of a device's row, which happen as seconds pass.
 #[derive(Drop)]
 pub struct PlayedRow {
-    /// The steps but for datagrams; none where rows are not played.
+    /// The steps but for datagrams; none where rows are not played. A need that was passed is the seconds for which it
+    /// held the row up.
     steps: Vec<Step>,
     /// How many of them have happened.
     place: usize,
@@ -79,6 +87,56 @@ fn later(second: Option<u64>, seconds: u32) -> Option<u64>
     second.checked_add(u64::from(seconds))
 }
 
+/// The first of these steps.
+fn first_of(steps: &[Step], count: usize) -> &[Step]
+    ensures { result.now ≡ take count steps.now }
+{
+    if count >= steps.len() {
+        return steps;
+    }
+    &steps[..count]
+}
+
+/// How many seconds pass in a step.
+fn seconds_of(step: &Step) -> u32
+    ensures { (second : ℕ) → second_after second step.now ≡ second + result }
+{
+    match step {
+        Step::Event(Event::Tick(seconds)) => *seconds,
+        Step::Event(Event::Recv { .. } | Event::Put { .. } | Event::Firmware(_))
+        | Step::Post(_)
+        | Step::Need(_, _) => 0,
+    }
+}
+
+/// Whether this second has come.
+fn has_come(second: Option<u64>, until: u64) -> bool
+    ensures { (n : ℕ) → MatchOption second (2 ^ 64 ≤ n) (λ due. due ≡ n) → result ≡ nat_le n until }
+{
+    match second {
+        None => false,
+        Some(second) => second <= until,
+    }
+}
+
+/// 1 where the step is a post to this group, and its second has come.
+fn post_of(step: &Step, group: u8, second: Option<u64>, until: u64) -> u64
+    ensures one { (n : ℕ) → MatchOption second (2 ^ 64 ≤ n) (λ due. due ≡ n)
+        → result ≡ (if posts_to group step.now && nat_le n until then 1 else 0) }
+    ensures few { result ≤ 1 }
+{
+    match step {
+        Step::Event(_) | Step::Need(_, _) => 0,
+        Step::Post(other) => {
+            if *other == group && has_come(second, until) {
+                1
+            } else {
+                0
+            }
+        }
+    }
+}
+
 impl PlayedRow {
     /// These steps, before the first of them.
     pub(crate) fn new(steps: Vec<Step>) -> PlayedRow
@@ -123,8 +181,8 @@ impl PlayedRow {
         };
         match self.steps.get(self.place) {
             None => RowState::Ended,
-            Some(Step::Event(_)) => RowState::Due(second),
-            Some(Step::Post(_) | Step::Need(_, _)) => RowState::Stopped,
+            Some(Step::Event(_) | Step::Post(_)) => RowState::Due(second),
+            Some(Step::Need(group, count)) => RowState::Waits(*group, *count),
         }
     }
 
@@ -136,7 +194,7 @@ impl PlayedRow {
         ensures later { result ≡ None → IsLaterThan now (row_state self.now) }
     {
         match self.state() {
-            RowState::Stopped | RowState::Ended => None,
+            RowState::Waits(_, _) | RowState::Ended => None,
             RowState::Due(due) => {
                 if now < due {
                     return None;
@@ -170,12 +228,7 @@ impl PlayedRow {
         ensures { (step : Step) (second : ℕ) → slice_get self.now.steps.items self.now.place ≡ Some step
             → second_after second step ≡ second + result }
     {
-        match &self.steps[self.place] {
-            Step::Event(Event::Tick(seconds)) => *seconds,
-            Step::Event(Event::Recv { .. } | Event::Put { .. } | Event::Firmware(_))
-            | Step::Post(_)
-            | Step::Need(_, _) => 0,
-        }
+        seconds_of(&self.steps[self.place])
     }
 
     /// Notes that its next step has happened.
@@ -192,5 +245,63 @@ impl PlayedRow {
         let seconds = self.next_seconds();
         self.second = later(self.second, seconds);
         self.place += 1;
+    }
+
+    /// How many posts to this group it has made, up to this second.
+    pub(crate) fn posts(&self, group: u8, until: u64) -> u64
+        ensures { result ≡ posts_in self.now group until }
+    {
+        let mut posts = 0u64;
+        let mut second = Some(0u64);
+        for step in first_of(self.steps.as_slice(), self.place) {
+            posts += post_of(step, group, second, until);
+            second = later(second, seconds_of(step));
+        }
+        posts
+    }
+
+    /// Passes the need that is its next step, at this second, if it is one to this group, and so many posts to it
+    /// stand. It is not passed where it has held the row up for 2^32 seconds.
+    pub(crate) fn pass_need(&mut self, group: u8, posts: u64, now: u64)
+        ensures passed { (self.new ≡ self.old) ⊎ IsPassed group posts now self.old self.new }
+        ensures left { (count second : ℕ) → self.new ≡ self.old → row_state self.old ≡ states.Waits group count
+            → self.old.second ≡ Some second → second ≤ now → now < second + 2 ^ 32 → posts < count }
+    {
+        let RowState::Waits(other, count) = self.state() else {
+            return;
+        };
+        let Some(second) = self.second else {
+            return;
+        };
+        if other != group {
+            return;
+        }
+        if posts < u64::from(count) {
+            return;
+        }
+        if now < second {
+            return;
+        }
+        if now - second > LONGEST_WAIT {
+            return;
+        }
+        self.pass(second, now);
+    }
+
+    /// Notes that its next step has held it up from one second to another.
+    fn pass(&mut self, second: u64, now: u64)
+        requires within { self.old.place < length self.old.steps.items }
+        requires order { second ≤ now }
+        requires few { now < second + 2 ^ 32 }
+        ensures steps { self.new.steps.items
+            ≡ slice_set self.old.steps.items self.old.place (event_step (events.Tick (now - second))) }
+        ensures place { self.new.place ≡ self.old.place + 1 }
+        ensures second { self.new.second ≡ Some now }
+    {
+        let seconds = (now - second) as u32;
+        let place = self.place;
+        self.steps[place] = Step::Event(Event::Tick(seconds));
+        self.place = place + 1;
+        self.second = Some(now);
     }
 }

@@ -1,16 +1,17 @@
 //! All devices of a fleet are served: what arrives at their ports is what they receive, and the seconds of a clock are
 //! their ticks.
 ghost use Rattle.std.specs.Prelude.{◌≡◌, ◌+◌, ◌-◌, ◌≤◌, ◌⊎◌, [], ℕ, Bool, List, Option, Some, Ok};
-ghost use Rattle.std.specs.Prelude.{OnOk, is_err, false, length, max, unwrap_or};
+ghost use Rattle.std.specs.Prelude.{◌^◌, OnOk, is_err, false, length, max, min, unwrap_or};
 ghost use Rattle.live_link.specs.Wire.{AreRead};
 ghost use Rattle.scenario_image.specs.Scenario.{Scenario};
 ghost use Rattle.fleet_link.specs.Traffic.{Traffic, Carries, at_port, failed_once, handed_at, traffic_of_receipt};
 ghost use Rattle.fleet_link.specs.Timing.{AreAsked};
-ghost use Rattle.fleet_link.specs.Serving.{AreAt, AreSwept, IsFleet};
+ghost use Rattle.fleet_link.specs.Serving.{posts_of, AreAt, AreSwept, IsFleet};
 
 use crate::fault::FleetFault;
 use crate::fleet::Fleet;
 use crate::ports::{Arrival, Ports, Receipt};
+use crate::slot::Slot;
 use live_link::Seconds;
 use std::alloc::AllocError;
 
@@ -32,7 +33,64 @@ fn wait_of(slices: usize) -> u32 {
     (MILLIS / slices).min(LONGEST_WAIT) as u32
 }
 
+/// How many posts to this group the rows of all devices have made, up to this second.
+fn posts_of(slots: &[Slot], group: u8, until: u64) -> u64
+    ensures { result ≡ min (posts_of slots.now group until) (2 ^ 64 - 1) }
+{
+    let mut posts = 0u64;
+    for slot in slots {
+        posts = posts.saturating_add(slot.posts(group, until));
+    }
+    posts
+}
+
+/// Whether a row waits at a need.
+fn has_waiting(slots: &[Slot]) -> bool {
+    slots.iter().any(|slot| slot.waits())
+}
+
+/// Whether a row waits for posts to this group.
+fn is_awaited(slots: &[Slot], group: u8) -> bool {
+    slots.iter().any(|slot| slot.is_waiting(group))
+}
+
 impl Fleet {
+    /// Passes the needs of posts to this group at which rows wait, if they stand.
+    fn pass_group(&mut self, group: u8)
+        ensures fleet { (s : Scenario) (played : Bool) (before told : ℕ → Option Traffic)
+            → IsFleet s played before self.old.slots.items self.old.second false told
+            → IsFleet s played before self.new.slots.items self.new.second false told }
+        ensures second { self.new.second ≡ self.old.second }
+        ensures began { self.new.began ≡ self.old.began }
+        ensures count { length self.new.slots.items ≡ length self.old.slots.items }
+    {
+        let now = self.second;
+        if !is_awaited(self.slots.as_slice(), group) {
+            return;
+        }
+        let posts = posts_of(self.slots.as_slice(), group, now);
+        for place in 0..self.slots.len() {
+            self.slots[place].pass_need(group, posts, now);
+        }
+    }
+
+    /// Passes each need at which a row waits, if its posts stand. The row goes on from the second of the session.
+    fn pass_needs(&mut self)
+        ensures fleet { (s : Scenario) (played : Bool) (before told : ℕ → Option Traffic)
+            → IsFleet s played before self.old.slots.items self.old.second false told
+            → IsFleet s played before self.new.slots.items self.new.second false told }
+        ensures second { self.new.second ≡ self.old.second }
+        ensures began { self.new.began ≡ self.old.began }
+        ensures count { length self.new.slots.items ≡ length self.old.slots.items }
+    {
+        if !has_waiting(self.slots.as_slice()) {
+            return;
+        }
+        for group in 0..256usize {
+            self.pass_group(group as u8);
+        }
+    }
+
     /// Lets the device receive a datagram that has arrived at its port. There may be no such device.
     fn take_arrival<P: Ports>(&mut self, ports: &mut P, arrival: Arrival) -> Result<(), AllocError>
         ensures fleet { (s : Scenario) (played : Bool) (before between : ℕ → Option Traffic)
@@ -235,9 +293,9 @@ impl Fleet {
         Ok(())
     }
 
-    /// Makes a turn: each device that is due is brought to the second at which the turn begins, slice by slice, and
-    /// after each slice arrivals are served, each at the second of its own.
-    pub fn turn<P: Ports, C: Seconds>(
+    /// Brings each device that is due to this second of the session, slice by slice. After each slice arrivals are
+    /// served, each at the second of its own.
+    fn sweep_slices<P: Ports, C: Seconds>(
         &mut self,
         ports: &mut P,
         clock: &mut C,
@@ -272,6 +330,36 @@ impl Fleet {
             self.listen(ports, clock, millis)?;
         }
         Ok(())
+    }
+
+    /// Makes a turn: needs whose posts stand are passed, each device that is due is brought to the second at which the
+    /// turn begins, slice by slice, and after each slice arrivals are served, each at the second of its own.
+    pub fn turn<P: Ports, C: Seconds>(
+        &mut self,
+        ports: &mut P,
+        clock: &mut C,
+    ) -> Result<(), FleetFault>
+        ensures fleet { (s : Scenario) (played : Bool) (before : ℕ → Option Traffic)
+            → IsFleet s played before self.old.slots.items self.old.second false (P.told ports.old)
+            → IsFleet s played before self.new.slots.items self.new.second (is_err result) (P.told ports.new) }
+        ensures swept { (s : Scenario) (played : Bool) (before : ℕ → Option Traffic)
+            → IsFleet s played before self.old.slots.items self.old.second false (P.told ports.old)
+            → OnOk result (AreSwept self.new.slots.items (length self.new.slots.items) self.old.second) }
+        ensures asked { (read_before asked_before : Option (List ℕ)) (calls : ℕ)
+            → AreAsked read_before (C.read clock.old) asked_before (P.asked ports.old) self.old.began
+            self.old.second calls
+            → AreAsked read_before (C.read clock.new) asked_before (P.asked ports.new) self.new.began
+            self.new.second calls }
+        ensures heard { (read_before asked_before : Option (List ℕ)) (calls : ℕ)
+            → AreAsked read_before (C.read clock.old) asked_before (P.asked ports.old) self.old.began
+            self.old.second calls
+            → OnOk result (AreAsked read_before (C.read clock.new) asked_before (P.asked ports.new) self.new.began
+            self.new.second (calls + 1)) }
+        ensures later { self.old.second ≤ self.new.second }
+        ensures count { length self.new.slots.items ≡ length self.old.slots.items }
+    {
+        self.pass_needs();
+        self.sweep_slices(ports, clock)
     }
 
     /// Brings each device to the second of the session.

@@ -8,8 +8,8 @@ ghost use Rattle.device_template.specs.Template.{Template};
 ghost use Rattle.live_link.specs.Wire.{AreRead};
 ghost use Rattle.scenario_image.specs.declared.step.Step.{Step};
 ghost use Rattle.scenario_image.specs.declared.step.Step.TheVariants.{Event as event_step};
-ghost use Rattle.fleet_link.specs.Playing.{change_at, change_in, changes_of, row_state, second_after, Change};
-ghost use Rattle.fleet_link.specs.Playing.{IsFleetStep, IsLaterThan, IsOnTime};
+ghost use Rattle.fleet_link.specs.Playing.{change_at, change_in, changes_of, posts_in, row_state, second_after};
+ghost use Rattle.fleet_link.specs.Playing.{Change, GoesOn, IsFleetStep, IsLaterThan, IsOnTime, IsPassed};
 ghost use Rattle.fleet_link.specs.Traffic.{Carries, Heard, Traffic, failed_once, handed_at, no_traffic};
 ghost use Rattle.fleet_link.specs.Serving.{heard_at, IsDue, IsRecorded, IsServed, IsServing, IsSweptAt};
 
@@ -292,6 +292,7 @@ impl Slot {
         ensures asked { AreRead (P.asked ports.old) (P.asked ports.new) [] }
         ensures most { (most : ℕ) → self.old.second ≤ most → due ≤ most → self.new.second ≤ most }
         ensures steps { self.new.row.steps ≡ self.old.row.steps }
+        ensures goes_on { GoesOn self.old.row self.new.row }
         ensures next { OnOk result (self.new.row.place ≡ self.old.row.place + 1) }
         ensures end { self.new.end ≡ self.old.end }
     {
@@ -322,6 +323,7 @@ impl Slot {
         ensures second { self.old.second ≤ now → OnOk result (self.new.second ≡ now) }
         ensures most { (most : ℕ) → self.old.second ≤ most → now ≤ most → self.new.second ≤ most }
         ensures steps { self.new.row.steps ≡ self.old.row.steps }
+        ensures goes_on { GoesOn self.old.row self.new.row }
         ensures later { OnOk result (IsLaterThan now (row_state self.new.row)) }
         ensures end { self.new.end ≡ self.old.end }
     {
@@ -358,6 +360,7 @@ impl Slot {
         ensures second { self.old.second ≤ now → OnOk result (self.new.second ≡ now) }
         ensures most { (most : ℕ) → self.old.second ≤ most → now ≤ most → self.new.second ≤ most }
         ensures steps { self.new.row.steps ≡ self.old.row.steps }
+        ensures goes_on { GoesOn self.old.row self.new.row }
         ensures later { OnOk result (IsLaterThan now (row_state self.new.row)) }
         ensures end { self.new.end ≡ self.old.end }
     {
@@ -415,6 +418,7 @@ impl Slot {
         ensures asked { AreRead (P.asked ports.old) (P.asked ports.new) [] }
         ensures second { self.old.second ≤ now → self.new.end ≡ None → self.new.second ≡ now }
         ensures later { self.new.end ≡ None → IsLaterThan now (row_state self.new.row) }
+        ensures goes_on { GoesOn self.old.row self.new.row }
         ensures most { (most : ℕ) → self.old.second ≤ most → now ≤ most → self.new.second ≤ most }
     {
         match self.end {
@@ -441,6 +445,7 @@ impl Slot {
         ensures second { self.old.second ≤ now → self.new.end ≡ None → self.new.second ≡ now }
         ensures later { self.new.end ≡ None → IsLaterThan now (row_state self.new.row) }
         ensures over { self.old.end ≢ None → self.new ≡ self.old }
+        ensures goes_on { GoesOn self.old.row self.new.row }
         ensures most { (most : ℕ) → self.old.second ≤ most → now ≤ most → self.new.second ≤ most }
     {
         match self.end {
@@ -480,6 +485,7 @@ impl Slot {
             → IsServed class row before self.new (is_err result) (P.told ports.new place) }
         ensures others { (e : ℕ) → e ≢ place → Carries (P.told ports.old e) (P.told ports.new e) no_traffic }
         ensures asked { AreRead (P.asked ports.old) (P.asked ports.new) [] }
+        ensures goes_on { GoesOn self.old.row self.new.row }
         ensures most { (most : ℕ) → self.old.second ≤ most → now ≤ most → self.new.second ≤ most }
         ensures swept { (class : Template) (row : List Step) (before : Option Traffic)
             → IsServed class row before self.old false (P.told ports.old place)
@@ -497,10 +503,50 @@ impl Slot {
             → IsServed class row before self.old false between → Carries between after failed_once
             → IsServed class row before self.new false after }
         ensures second { self.new.second ≡ self.old.second }
+        ensures row { self.new.row ≡ self.old.row }
         ensures ended { self.new.end ≢ None }
     {
         match self.end {
             None => self.end = Some(DeviceEnd::Port),
+            Some(_) => {}
+        }
+    }
+
+    /// Whether its row waits at a need.
+    pub(crate) fn waits(&self) -> bool {
+        match self.row.state() {
+            RowState::Waits(_, _) => true,
+            RowState::Due(_) | RowState::Ended => false,
+        }
+    }
+
+    /// Whether its row waits for posts to this group.
+    pub(crate) fn is_waiting(&self, group: u8) -> bool {
+        match self.row.state() {
+            RowState::Waits(other, _) => other == group,
+            RowState::Due(_) | RowState::Ended => false,
+        }
+    }
+
+    /// How many posts to this group its row has made, up to this second.
+    pub(crate) fn posts(&self, group: u8, until: u64) -> u64
+        ensures { result ≡ posts_in self.now.row group until }
+    {
+        self.row.posts(group, until)
+    }
+
+    /// Passes the need at which its row waits, if it is one to this group, and so many posts to it stand.
+    pub(crate) fn pass_need(&mut self, group: u8, posts: u64, now: u64)
+        ensures served { (class : Template) (row : List Step) (before after : Option Traffic)
+            → IsServed class row before self.old false after → self.old.second ≤ now
+            → IsServed class row before self.new false after }
+        ensures passed { (self.new.row ≡ self.old.row) ⊎ ((self.old.end ≡ None)
+            × IsPassed group posts now self.old.row self.new.row) }
+        ensures second { self.new.second ≡ self.old.second }
+        ensures end { self.new.end ≡ self.old.end }
+    {
+        match self.end {
+            None => self.row.pass_need(group, posts, now),
             Some(_) => {}
         }
     }

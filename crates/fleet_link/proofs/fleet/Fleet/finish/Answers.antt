@@ -17,7 +17,7 @@ returns-in_err-reach-clause-fleet g c =
     (next_served s played before (g.P.Ports.told at.ports) (g.P.Ports.told c.reach.new.ports) slots.items at.self.second
     at.place c.args.self.now.second true c.index_mut.result.now c.reach.new.self (at.invariant.fleet s played before h)
     (read_at slots.items at.place c.index_mut.result.now within c.index_mut.ensures.value)
-    c.in_err-reach.ensures.served c.reach.ensures.others c.reach.ensures.most to)
+    c.in_err-reach.ensures.served c.reach.ensures.others c.reach.ensures.most to c.reach.ensures.goes_on)
 
 pub loop-place-preserved : goal.loop-place-preserved
 loop-place-preserved g c =
@@ -33,7 +33,7 @@ loop-place-preserved g c =
           at.self.second
           at.place c.args.self.now.second false c.index_mut.result.now c.reach.new.self
           (at.invariant.fleet s played before h) got c.in_ok-reach.ensures.served c.reach.ensures.others
-          c.reach.ensures.most to;
+          c.reach.ensures.most to c.reach.ensures.goes_on;
       finished = λ s played before h.
           next_at s played before (g.P.Ports.told at.ports) slots.items at.self.second at.place c.index_mut.result.now
           c.reach.new.self (at.invariant.fleet s played before h) got

@@ -12,7 +12,7 @@ loop-device-preserved c = record {
   first = more_first c.args.scenario.now c.args.played c.loop-device.device c.loop-device.slots.items
       c.push.new.self.items
       c.in_ok-slot_of_row.field-0 c.loop-device.invariant.first c.in_ok-push.ensures.items
-      c.in_ok-slot_of_row.ensures.served c.in_ok-slot_of_row.ensures.second;
+      c.in_ok-slot_of_row.ensures.served c.in_ok-slot_of_row.ensures.second c.in_ok-slot_of_row.ensures.place;
   recorded = λ saved. more_recorded c.loop-device.slots.items c.push.new.self.items c.in_ok-slot_of_row.field-0
       (c.loop-device.invariant.recorded saved) c.in_ok-push.ensures.items
       (c.in_ok-slot_of_row.ensures.recorded saved);

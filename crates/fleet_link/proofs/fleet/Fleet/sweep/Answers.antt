@@ -16,7 +16,7 @@ returns-in_err-sweep-clause-fleet g c =
     (next_served s played before (g.P.Ports.told at.ports) (g.P.Ports.told c.sweep.new.ports) slots.items at.self.second
     at.place c.args.second true c.index_mut.result.now c.sweep.new.self (at.invariant.fleet s played before le h)
     (read_at slots.items at.place c.index_mut.result.now within c.index_mut.ensures.value)
-    c.in_err-sweep.ensures.served c.sweep.ensures.others c.sweep.ensures.most to)
+    c.in_err-sweep.ensures.served c.sweep.ensures.others c.sweep.ensures.most to c.sweep.ensures.goes_on)
 
 pub loop-place-preserved : goal.loop-place-preserved
 loop-place-preserved g c =
@@ -31,7 +31,7 @@ loop-place-preserved g c =
           at.self.second
           at.place c.args.second false c.index_mut.result.now c.sweep.new.self (at.invariant.fleet s played before le
           h) got
-          c.in_ok-sweep.ensures.served c.sweep.ensures.others c.sweep.ensures.most to;
+          c.in_ok-sweep.ensures.served c.sweep.ensures.others c.sweep.ensures.most to c.sweep.ensures.goes_on;
       swept = λ s played before le h k.
           next_swept s played before (g.P.Ports.told at.ports) slots.items at.self.second at.place c.args.second
           c.index_mut.result.now c.sweep.new.self (at.invariant.fleet s played before le h) got c.sweep.ensures.swept

@@ -23,7 +23,7 @@ returns-clause-fleet g c =
     c.args.self.now.second place (is_err c.hear.result)
     (handed_at c.args.self.now.second c.args.arrival.packet) c.index_mut.result.now c.hear.new.self h went
     (read_at slots.items place c.index_mut.result.now within c.index_mut.ensures.value) c.hear.ensures.served
-    c.hear.ensures.others c.hear.ensures.most
+    c.hear.ensures.others c.hear.ensures.most c.hear.ensures.goes_on
 
 pub returns-clause-swept : goal.returns-clause-swept
 returns-clause-swept g c =

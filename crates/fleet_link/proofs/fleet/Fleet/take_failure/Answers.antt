@@ -10,7 +10,7 @@ returns-then-device-len-clause-fleet c =
     λ s played before between after h went.
     failed_at s played before between after slots.items c.args.self.now.second c.args.device c.index_mut.result.now
     c.fail.new.self h went (read_at slots.items c.args.device c.index_mut.result.now within c.index_mut.ensures.value)
-    c.fail.ensures.served c.fail.ensures.second
+    c.fail.ensures.served c.fail.ensures.second c.fail.ensures.row
 
 pub returns-then-device-len-clause-swept : goal.returns-then-device-len-clause-swept
 returns-then-device-len-clause-swept c =

@@ -2,7 +2,7 @@
 use Rattle.std.proofs.Common.{◌≡◌, ◌-◌, ◌≤◌, ℕ, List, [], Option, None, length}
 use Rattle.device_machine.specs.State.{Machine}
 use Rattle.live_link.specs.Wire.{AreRead}
-use Rattle.fleet_link.specs.Playing.{changes_of, IsOnTime}
+use Rattle.fleet_link.specs.Playing.{changes_of, GoesOn, IsOnTime}
 use Rattle.fleet_link.specs.Serving.{IsServing}
 use Rattle.fleet_link.specs.Traffic.{Carries, Heard, Traffic, no_traffic}
 use Rattle.fleet_link.proofs.slot.Slot.catch_up.Given as goal
@@ -19,6 +19,7 @@ invariant-loop-due g l = record {
       → Carries (g.P.Ports.told l.fn.ports e) (g.P.Ports.told l.ports e) no_traffic;
   asked : AreRead (g.P.Ports.asked l.fn.ports) (g.P.Ports.asked l.ports) [];
   most : (most : ℕ) → l.fn.self.second ≤ most → l.now ≤ most → l.self.second ≤ most;
+  goes_on : GoesOn l.fn.self.row l.self.row;
   steps : l.self.row.steps ≡ l.fn.self.row.steps;
   ended : l.self.end ≡ l.fn.self.end;
 }

@@ -1,7 +1,7 @@
-use Rattle.std.proofs.Common.{Some, rules, subst, sym}
+use Rattle.std.proofs.Common.{refl, Some, rules, subst, sym}
 use Rattle.fleet_link.specs.Playing.{changes_of}
 use Rattle.fleet_link.specs.Serving.{IsServing}
-use Rattle.fleet_link.proofs.Stepped.{due_timely, on_time_after, step_changed, step_is_change, step_passed}
+use Rattle.fleet_link.proofs.Stepped.{due_goes_on, due_timely, goes_on_same, on_time_after, step_changed, step_is_change, step_passed}
 use Rattle.fleet_link.proofs.slot.Slot.make_step.Goals as goal
 
 pub returns-in_default-clause-served : goal.returns-in_default-clause-served
@@ -49,3 +49,20 @@ returns-clause-on_time g c =
     (c.in_ok-change.ensures.second
     (due_timely c.args.self.now.row c.args.self.now.second c.args.due c.requires.due time))
     c.advance-2.ensures.on_time
+
+pub returns-in_err-event-clause-goes_on : goal.returns-in_err-event-clause-goes_on
+returns-in_err-event-clause-goes_on g c = goes_on_same c.args.self.now.row c.args.self.now.row refl
+
+pub returns-in_default-clause-goes_on : goal.returns-in_default-clause-goes_on
+returns-in_default-clause-goes_on g c =
+    due_goes_on c.args.self.now.row c.args.self.now.row c.advance.new.self c.args.due c.requires.due refl
+    c.advance.ensures.steps c.advance.ensures.place
+
+pub returns-in_err-change-clause-goes_on : goal.returns-in_err-change-clause-goes_on
+returns-in_err-change-clause-goes_on g c =
+    goes_on_same c.args.self.now.row c.change.new.self.row c.change.ensures.row
+
+pub returns-clause-goes_on : goal.returns-clause-goes_on
+returns-clause-goes_on g c =
+    due_goes_on c.args.self.now.row c.change.new.self.row c.advance-2.new.self c.args.due c.requires.due
+    c.change.ensures.row c.advance-2.ensures.steps c.advance-2.ensures.place

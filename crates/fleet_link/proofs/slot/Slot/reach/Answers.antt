@@ -1,8 +1,8 @@
-use Rattle.std.proofs.Common.{[], ap, ◌∙◌}
+use Rattle.std.proofs.Common.{refl, []}
 use Rattle.std.specs.Result.{is_err}
 use Rattle.scenario_image.specs.Play.{start}
 use Rattle.fleet_link.proofs.Served.{goes_on, settled}
-use Rattle.fleet_link.proofs.Stepped.{later_settled}
+use Rattle.fleet_link.proofs.Stepped.{goes_on_same, goes_then, later_settled, still_under_way}
 use Rattle.fleet_link.proofs.slot.Slot.reach.Goals as goal
 
 pub returns-in-None-clause-served : goal.returns-in-None-clause-served
@@ -14,7 +14,8 @@ returns-in-None-clause-served g c =
     settled class own before [] stepped.result (is_err c.settle.result) stepped.new.self c.settle.new.self
     (g.P.Ports.told stepped.new.ports c.args.place)
     (stepped.ensures.served (start class) before [] on time) (stepped.ensures.on_time time)
-    (stepped.ensures.refused (start class) before [] on time) (ap (λ v. v.items) stepped.ensures.steps ∙ h.row_is)
+    (stepped.ensures.refused (start class) before [] on time)
+    (still_under_way own c.args.self.now.row stepped.new.self.row h.row_is stepped.ensures.goes_on)
     c.settle.ensures.device c.settle.ensures.second c.settle.ensures.row c.settle.ensures.recording c.settle.ensures.ok
     c.settle.ensures.ended c.settle.ensures.memory
 
@@ -23,3 +24,11 @@ returns-in-None-clause-later g c =
     later_settled c.catch_up-taken.result c.catch_up-taken.new.self c.settle.new.self c.args.now
     c.catch_up-taken.ensures.later
     c.settle.ensures.ended c.settle.ensures.row
+
+pub returns-in-None-clause-goes_on : goal.returns-in-None-clause-goes_on
+returns-in-None-clause-goes_on g c =
+    goes_then c.args.self.now.row c.catch_up-taken.new.self.row c.settle.new.self.row c.catch_up-taken.ensures.goes_on
+    c.settle.ensures.row
+
+pub returns-in-Some-clause-goes_on : goal.returns-in-Some-clause-goes_on
+returns-in-Some-clause-goes_on g c = goes_on_same c.args.self.now.row c.args.self.now.row refl

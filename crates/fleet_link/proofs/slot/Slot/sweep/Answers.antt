@@ -1,3 +1,5 @@
+use Rattle.std.proofs.Common.{refl}
+use Rattle.fleet_link.proofs.Stepped.{goes_on_same}
 use Rattle.std.specs.Result.{is_err}
 use Rattle.fleet_link.proofs.Served.{swept_by}
 use Rattle.fleet_link.proofs.slot.Slot.sweep.Goals as goal
@@ -10,3 +12,6 @@ returns-clause-swept g c =
     (λ e. c.is_due.ensures.due class own before (g.P.Ports.told c.args.ports.now c.args.place) h e
     c.if-not-is_due.false)
     c.reach.ensures.second c.reach.ensures.later c.reach.ensures.over
+
+pub returns-then-not-is_due-clause-goes_on : goal.returns-then-not-is_due-clause-goes_on
+returns-then-not-is_due-clause-goes_on g c = goes_on_same c.args.self.now.row c.args.self.now.row refl

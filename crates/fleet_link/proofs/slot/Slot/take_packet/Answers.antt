@@ -1,7 +1,7 @@
 use Rattle.std.proofs.Common.{◌∷◌, [], None, refl, subst, sym}
 use Rattle.fleet_link.specs.Playing.{changes_of}
 use Rattle.fleet_link.specs.Serving.{IsServing}
-use Rattle.fleet_link.proofs.Stepped.{heard_on}
+use Rattle.fleet_link.proofs.Stepped.{goes_then, heard_on}
 use Rattle.fleet_link.proofs.slot.Slot.take_packet.Goals as goal
 
 pub returns-clause-served : goal.returns-clause-served
@@ -16,3 +16,8 @@ returns-clause-served g c =
     (subst (λ n. IsServing f before (record { second = n; packet = c.args.packet } ∷ []) (changes_of mid.row) None
     mid.device mid.second mid.recording told) (sym (c.in_ok-catch_up.ensures.second le))
     (c.in_ok-catch_up.ensures.served f before (record { second = c.args.now; packet = c.args.packet } ∷ []) h time)))
+
+pub returns-clause-goes_on : goal.returns-clause-goes_on
+returns-clause-goes_on g c =
+    goes_then c.args.self.now.row c.catch_up.new.self.row c.take_event.new.self.row c.catch_up.ensures.goes_on
+    c.take_event.ensures.row

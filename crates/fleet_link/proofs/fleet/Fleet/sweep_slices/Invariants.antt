@@ -4,7 +4,7 @@ use Rattle.scenario_image.specs.Scenario.{Scenario}
 use Rattle.fleet_link.specs.Serving.{AreSwept, IsFleet}
 use Rattle.fleet_link.specs.Timing.{AreAsked}
 use Rattle.fleet_link.specs.Traffic.{Traffic}
-use Rattle.fleet_link.proofs.fleet.Fleet.turn.Given as goal
+use Rattle.fleet_link.proofs.fleet.Fleet.sweep_slices.Given as goal
 
 abbrev pub invariant-loop-slice : goal.invariant-loop-slice
 invariant-loop-slice g l = record {
