@@ -3,6 +3,7 @@ use Rattle.std.proofs.Common.{◌≡◌, ◌⊎◌, inl, inr, ℕ, zero, suc, �
 use Rattle.std.proofs.Common.{◌&&◌, cond, get_or, min, nat_le, Option, None, Some, take, length, slice_get, refl, sym, ap, subst, ◌∙◌, append-nil, arith}
 use Rattle.std.specs.List.{slice_set, sum_by}
 use Rattle.std.specs.Option.{MatchOption}
+use Rattle.std.proofs.Math.ListN.{length-set}
 use Rattle.std.proofs.Math.Seq.{take-suc-set}
 use Rattle.std.proofs.lemmas.Bool.{cases_lt}
 use Rattle.std.proofs.lemmas.Grind.{take_at_read}
@@ -150,6 +151,7 @@ passed_under_way own name posts now old new u h =
       coming = λ k le.
           passed_before name posts now old new h k (λ e. absurd (omega (arith, e, le, h.place)))
           ∙ u.coming k (omega (arith, le, h.place));
+      count = ap length h.steps ∙ length-set old.steps.items old.place (Event (Tick (now - h.second))) ∙ u.count;
     }
   where
     by_place : (k : ℕ) (said step : Step) → k < new.place → slice_get own k ≡ Some said

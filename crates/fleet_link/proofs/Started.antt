@@ -47,6 +47,7 @@ slot_starts class own slot told shows second end due none row place first =
     }) end due (record {
       happened = λ k said step l s at. absurd (omega (arith, l, place));
       coming = λ k le. ap (λ l. slice_get l k) row;
+      count = ap length row;
     }) (record {
       next = subst (λ o. MatchOption o (2 ^ 64 ≤ second_of_row slot.row) (λ d. d ≡ second_of_row slot.row)) (sym first)
           (sym (ap (second_by 0) before));

@@ -378,6 +378,7 @@ still_under_way own old new h g =
       happened = λ k said step l s at. by_place k said step l s
           (ap (λ v. slice_get v.items k) (sym g.steps) ∙ at) (cases_lt k old.place);
       coming = λ k le. ap (λ v. slice_get v.items k) g.steps ∙ h.coming k (omega (arith, g.later, le));
+      count = ap (λ v. length v.items) g.steps ∙ h.count;
     }
   where
     by_place : (k : ℕ) (said step : Step) → k < new.place → slice_get own k ≡ Some said

@@ -1,5 +1,5 @@
 -- What the row of a device does by itself as seconds pass: its changes, each at its second.
-use Rattle.std.specs.Prelude.{◌≡◌, ℕ, ◌+◌, ◌-◌, ◌^◌, ◌&&◌, ◌<◌, ◌≤◌, ⊤, Bool, true, false, List, [], ◌∷◌, ◌++◌, filter, take}
+use Rattle.std.specs.Prelude.{◌≡◌, ℕ, ◌+◌, ◌-◌, ◌^◌, ◌&&◌, ◌<◌, ◌≤◌, ⊤, Bool, true, false, List, [], ◌∷◌, ◌++◌, filter, length, take}
 use Rattle.std.specs.Prelude.{slice_get, slice_set, nat_le, Option, None, Some, MatchOption, if◌then◌else◌}
 use Rattle.device_machine.specs.declared.event.Event.{Event as Happening}
 use Rattle.device_machine.specs.declared.event.Event.TheVariants.{Recv, Put, Firmware, Tick}
@@ -94,6 +94,7 @@ pub record IsUnderWay (own : List Step) (row : PlayedRow) : Type 0 where
   pub happened : (k : ℕ) (said step : Step) → k < row.place → slice_get own k ≡ Some said
       → slice_get row.steps.items k ≡ Some step → ComesTo said step
   pub coming : (k : ℕ) → row.place ≤ k → slice_get row.steps.items k ≡ slice_get own k
+  pub count : length row.steps.items ≡ length own
 
 -- the changes that a row has made: those of its first steps, each at the second to which the ticks before it add up,
 -- and the seconds for which needs held it up
