@@ -1,7 +1,7 @@
 #!/bin/sh
 # Runs the scenario fleet.txt, whole and broken, and compares what the program prints with README.md, and what its
 # debugger answers with the session of docs/use/debugger.md; and makes the files of reader.txt again, which have to be
-# those that stand beside it, and shows them as README.md at the top of the repository has it.
+# those that stand beside it, and plays the text as README.md at the top of the repository has it.
 # A word, where there is one, is the program to run; else it is lwbench at the root of the repository.
 # Status 0: all as README.md says. 1: not so, and a line for each difference.
 
@@ -46,9 +46,9 @@ says 0 'ok 1 classes 1 devices 1 steps' asm "$here/reader.txt" "$work/reader.ima
 cmp -s "$work/reader.image" "$here/reader.image" || differs "asm: another image than reader.image"
 says 0 'done 1' run "$here/reader.image" --workers 1 --trace "$work/reader.trace"
 cmp -s "$work/reader.trace" "$here/reader.trace" || differs "run: another trace than reader.trace"
-sed -n '/^    0 worker 1 /,/^$/ s/^    //p' "$here/../README.md" >"$work/lines.txt"
-"$program" show "$here/reader.image" "$here/reader.trace" >"$work/printed.txt" || differs "show: status $?"
-diff "$work/lines.txt" "$work/printed.txt" || differs "show: not the lines of README.md at the top"
+sed -n '/^    0 worker 0 /,/^$/ s/^    //p' "$here/../README.md" >"$work/lines.txt"
+"$program" play "$here/reader.txt" >"$work/printed.txt" || differs "play: status $?"
+diff "$work/lines.txt" "$work/printed.txt" || differs "play: not the lines of README.md at the top"
 
 # The first cells of the session's table are the lines, the second ones the answers.
 session='/^## A session/,/^## / s/^| '
