@@ -14,7 +14,7 @@ pub trait Counted {
 }
 
 impl Counted for UdpPorts {
-    ghost counted = { λ ports. ports.counts };
+    ghost counted = { λ ports. ports.tally.counts };
 
     fn counted(&self) -> Counts {
         self.counts()
