@@ -1,5 +1,5 @@
 -- Devices on UDP: what their session came to, put together from its parts.
-use Rattle.std.proofs.Common.{ℕ, Bool, Bor, ◌≡◌, ◌⊎◌, ◌≤◌, arith, List, [], ◌∷◌, length, map, Option, None, inl, inr}
+use Rattle.std.proofs.Common.{ℕ, Bool, Bor, ◌≡◌, ◌⊎◌, ◌≤◌, arith, List, [], ◌∷◌, length, map, Option, None, Some, inl, inr}
 use Rattle.std.proofs.Common.{IfErr, IfOk, Result, Ok, Err, option_map, false, refl, sym, subst, ap, ◌∙◌}
 use Rattle.std.specs.Io.KnownBytes.{Appends}
 use Rattle.std.specs.declared.net.socket_addr.SocketAddr.{SocketAddr}
@@ -10,11 +10,12 @@ use Rattle.scenario_image.specs.Image.{IsImageIn}
 use Rattle.scenario_image.specs.Scenario.{Scenario}
 use Rattle.fleet_link.specs.declared.directory.FixedServer.{FixedServer}
 use Rattle.fleet_link.specs.declared.slot.Slot.{Slot}
+use Rattle.fleet_link.specs.Counting.{AreCountsOf}
 use Rattle.fleet_link.specs.Saved.{IsSaved}
 use Rattle.fleet_link.specs.Serving.{AreAt, IsFleet}
 use Rattle.fleet_link.specs.Timing.{AreAsked}
 use Rattle.fleet_link.proofs.Told.{read_none}
-use Rattle.fleet_link.specs.Traffic.{Traffic}
+use Rattle.fleet_link.specs.Traffic.{Traffic, no_traffic}
 use Rattle.command_files.specs.Fault.{session_fault, IsReadingFault, IsWritingFault}
 use Rattle.command_files.specs.Files.{Grows, Made}
 use Rattle.command_files.specs.Loading.{IsHeld}
@@ -227,9 +228,16 @@ pub served : (s : Scenario) (played : Bool) (seconds : ℕ) (session : Session) 
     → IsFleet s played before session.slots session.second false after
     → AreAt session.slots (length session.slots) session.second
     → (seconds ≤ session.second) ⊎ AreAsked rb ra ab aa first session.second 18446744073709551615
-    → IsServed s played seconds session
-served s played seconds session before after rb ra ab aa first fleet finished ended =
-    record { before = before; after = after; fleet = fleet; finished = finished; ended = so ended }
+    → ((e : ℕ) → before e ≡ Some no_traffic) → AreCountsOf after session.counts → IsServed s played seconds session
+served s played seconds session before after rb ra ab aa first fleet finished ended new counted = record {
+  before = before;
+  new = new;
+  after = after;
+  counted = counted;
+  fleet = fleet;
+  finished = finished;
+  ended = so ended;
+}
   where
     so : (seconds ≤ session.second) ⊎ AreAsked rb ra ab aa first session.second 18446744073709551615
         → (seconds ≤ session.second) ⊎ IsEndless session.second

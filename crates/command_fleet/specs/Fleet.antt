@@ -14,10 +14,11 @@ use Rattle.scenario_image.specs.Scenario.{Scenario}
 use Rattle.fleet_link.specs.declared.directory.FixedServer.{FixedServer}
 use Rattle.fleet_link.specs.declared.slot.Slot.{Slot}
 use Rattle.fleet_link.specs.declared.udp.Counts.{Counts}
+use Rattle.fleet_link.specs.Counting.{AreCountsOf}
 use Rattle.fleet_link.specs.Saved.{IsSaved}
 use Rattle.fleet_link.specs.Serving.{AreAt, IsFleet}
 use Rattle.fleet_link.specs.Timing.{second_of}
-use Rattle.fleet_link.specs.Traffic.{Traffic}
+use Rattle.fleet_link.specs.Traffic.{Traffic, no_traffic}
 use Rattle.scenario_words.specs.Words.{ended_line}
 use Rattle.command_files.specs.Fault.{IsReadingFault, IsWritingFault}
 use Rattle.command_files.specs.Files.{Grows, Made}
@@ -51,10 +52,12 @@ pub record IsEndless (second : ℕ) : Type 0 where
   pub second_is : second ≡ second_of readings
 
 -- the devices of a scenario were served, each from the start of its class to the end of the session, which has at least
--- these seconds, at ports of which nothing else is known; their rows were played, or were not
+-- these seconds, at ports that were new, and whose datagrams were counted; their rows were played, or were not
 pub record IsServed (s : Scenario) (played : Bool) (seconds : ℕ) (session : Session) : Type 0 where
   pub before : ℕ → Option Traffic
+  pub new : (e : ℕ) → before e ≡ Some no_traffic
   pub after : ℕ → Option Traffic
+  pub counted : AreCountsOf after session.counts
   pub fleet : IsFleet s played before session.slots session.second false after
   pub finished : AreAt session.slots (length session.slots) session.second
   pub ended : (seconds ≤ session.second) ⊎ IsEndless session.second

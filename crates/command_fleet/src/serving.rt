@@ -11,7 +11,7 @@ use crate::counted::Counted;
 use crate::telling::{Telling, tell_second};
 use command_files::{Fault, Output, Refusal};
 use command_line::AskedFleet;
-use fleet_link::{Fleet, FleetFault, Ports};
+use fleet_link::{Fleet, FleetFault};
 use live_link::Seconds;
 use scenario_image::Scenario;
 use std::alloc::{AllocError, Global};
@@ -42,7 +42,7 @@ fn start(alloc: Global, part: &Scenario, played: bool, saved: bool) -> Result<Fl
 }
 
 /// Makes a turn of all devices, and tells the second that it comes to, if it is a later one.
-fn turn<'a, P: Ports + Counted, C: Seconds, O: Output, E: Output>(
+fn turn<'a, P: Counted, C: Seconds, O: Output, E: Output>(
     alloc: Global,
     telling: Telling,
     fleet: &mut Fleet,
@@ -108,7 +108,7 @@ fn tell_if_later<'a, P: Counted, O: Output, E: Output>(
 }
 
 /// Makes turns until this second of the session, at most so many, and tells each second that comes.
-fn go_on<'a, P: Ports + Counted, C: Seconds, O: Output, E: Output>(
+fn go_on<'a, P: Counted, C: Seconds, O: Output, E: Output>(
     alloc: Global,
     telling: Telling,
     fleet: &mut Fleet,
@@ -151,7 +151,7 @@ fn go_on<'a, P: Ports + Counted, C: Seconds, O: Output, E: Output>(
 /// All devices of a scenario are served on these ports, for so many seconds of this clock as are asked for, and each
 /// second is told. Their rows are played, and their steps recorded, if that is asked for.
 #[tactic(auto, using(crate::proofs::Told::cut_at_start))]
-pub fn serve_part<'a, P: Ports + Counted, C: Seconds, O: Output, E: Output>(
+pub fn serve_part<'a, P: Counted, C: Seconds, O: Output, E: Output>(
     alloc: Global,
     asked: &AskedFleet<'a>,
     part: &Scenario,

@@ -1,5 +1,6 @@
 //! `fleet FILE PORT ..`: devices on UDP.
-ghost use Rattle.std.specs.Prelude.{◌≡◌, None, IfErr, OnErr, IfOk};
+ghost use Rattle.std.specs.Prelude.{ℕ, ◌≡◌, None, Some, IfErr, OnErr, IfOk};
+ghost use Rattle.fleet_link.specs.Traffic.{no_traffic};
 ghost use Rattle.command_fleet.specs.Fleet.{IsFleetDone, IsFleetFault, IsSessionDone, IsSessionFault};
 
 use crate::concluding::conclude_session;
@@ -13,7 +14,6 @@ use command_files::files::Files;
 use command_files::{Fault, Output, Refusal, Status, Why};
 use command_line::AskedFleet;
 use command_sources::load_source;
-use fleet_link::Ports;
 use live_link::{MachineClock, Seconds};
 use scenario_image::Scenario;
 use std::alloc::Global;
@@ -74,9 +74,9 @@ pub fn fleet<'a, R: Net + Clock, F: Files, O: Output, E: Output>(
     )
 }
 
-/// The session of devices on these ports, by this clock: it is told that they are there, they are served, and the
-/// session is concluded.
-fn hold_session<'a, P: Ports + Counted, C: Seconds, F: Files, O: Output, E: Output>(
+/// The session of devices on these ports, which are new, by this clock: it is told that they are there, they are
+/// served, and the session is concluded.
+fn hold_session<'a, P: Counted, C: Seconds, F: Files, O: Output, E: Output>(
     alloc: Global,
     asked: &AskedFleet<'a>,
     terminal: bool,
@@ -88,6 +88,7 @@ fn hold_session<'a, P: Ports + Counted, C: Seconds, F: Files, O: Output, E: Outp
     output: &mut O,
     errors: &mut E,
 ) -> Result<Status, Refusal<'a>>
+    requires { (e : ℕ) → P.told ports.old e ≡ Some no_traffic }
     ensures done { IfOk result (IsSessionDone
         (record {
           made = F.made files.old;

@@ -40,7 +40,8 @@ returns-clause-done g c =
       counts = c.counted.result;
     } in
     let were = served part asked.play asked.seconds session _ _ _ _ _ _ c.in_ok-fleet.fleet.began
-    c.in_ok-fleet.ensures.fleet c.in_ok-fleet.ensures.finished c.in_ok-fleet.ensures.ended in
+    c.in_ok-fleet.ensures.fleet c.in_ok-fleet.ensures.finished c.in_ok-fleet.ensures.ended c.requires
+    c.counted.ensures.told in
     done_if (record { made = g.F.Files.made c.args.files.now; streams = before })
     (record { made = g.F.Files.made c.conclude_session.new.files; streams = after }) asked c.args.terminal part
     c.args.place session c.telling_of-telling.result first last c.conclude_session.result opened were is
@@ -90,7 +91,8 @@ returns-clause-refused g c =
       counts = c.counted.result;
     } in
     let were = served part asked.play asked.seconds session _ _ _ _ _ _ c.in_ok-fleet.fleet.began
-    c.in_ok-fleet.ensures.fleet c.in_ok-fleet.ensures.finished c.in_ok-fleet.ensures.ended in
+    c.in_ok-fleet.ensures.fleet c.in_ok-fleet.ensures.finished c.in_ok-fleet.ensures.ended c.requires
+    c.counted.ensures.told in
     lost_if files faults before after asked c.args.terminal part c.args.place session c.telling_of-telling.result first
     last c.conclude_session.result opened were is c.in_ok-fleet.ensures.told refl c.conclude_session.ensures.refused
 
