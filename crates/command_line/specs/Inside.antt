@@ -5,8 +5,8 @@ use Rattle.clap.specs.Words.{with_subcommand}
 use Rattle.command_line.specs.declared.words.Asked.{Asked}
 use Rattle.command_line.specs.declared.words.Asked.TheVariants as asked
 use Rattle.command_line.specs.Words.{AsksFor, AsksForFleet, AsksForLog, AsksToLive, IsNoNumber, MayAskFor, flag, is_set}
-use Rattle.command_line.specs.Words.{needed, needed_number, number, number_from, optional_number, several, text_option}
-use Rattle.command_line.specs.Words.{text_options, text_or, with_settings}
+use Rattle.command_line.specs.Words.{needed, needed_number, number, number_from, optional_from, optional_number, several}
+use Rattle.command_line.specs.Words.{text_option, text_options, text_or, with_settings}
 
 -- `[--json] [--why]`
 abbrev pub with_trace_forms : App → App
@@ -112,19 +112,27 @@ abbrev pub with_service : App → App
 with_service a =
     with_rule (with_rule (with_rule a (needed (codes "FILE"))) (needed_number (codes "PORT") 1 65535)) seconds
 
--- `[--devices A-B] [--bind ADDRESS] [--server S=ADDRESS[:PORT]] ..`
+-- `--copies N`
+abbrev pub copies : Rule
+copies = optional_from (codes "copies") 1 16384
+
+-- `[--devices A-B] [--copies N] [--play]`
+abbrev pub with_rows : App → App
+with_rows a = with_rule (with_rule (with_rule a (text_option (codes "devices"))) copies) (flag (codes "play"))
+
+-- `[--bind ADDRESS] [--server S=ADDRESS[:PORT]] ..`
 abbrev pub with_places : App → App
-with_places a =
-    with_rule (with_rule (with_rule a (text_option (codes "devices"))) bind) (text_options (codes "server"))
+with_places a = with_rule (with_rule a bind) (text_options (codes "server"))
 
--- `[--save FILE] [--strict]`
+-- `[--save FILE] [--strict] [--json]`
 abbrev pub with_ends : App → App
-with_ends a = with_rule (with_rule a (text_option (codes "save"))) (flag (codes "strict"))
+with_ends a =
+    with_rule (with_rule (with_rule a (text_option (codes "save"))) (flag (codes "strict"))) (flag (codes "json"))
 
--- `fleet FILE PORT [--seconds N] [--devices A-B] [--bind ADDRESS] [--server S=ADDRESS[:PORT]] .. [--save FILE]
--- [--strict]`
+-- `fleet FILE PORT [--seconds N] [--devices A-B] [--copies N] [--play] [--bind ADDRESS] [--server S=ADDRESS[:PORT]] ..
+-- [--save FILE] [--strict] [--json]`
 abbrev pub fleet_app : App
-fleet_app = with_ends (with_places (with_service (new_app (codes "fleet"))))
+fleet_app = with_ends (with_places (with_rows (with_service (new_app (codes "fleet")))))
 
 -- `FILE .. [--only WORDS]`
 abbrev pub with_cases : App → App

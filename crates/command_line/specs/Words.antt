@@ -42,10 +42,14 @@ text_options name = record (text_option name) { action = Some Append }
 abbrev pub needed_number : Word → ℕ → ℕ → Rule
 needed_number name least most = record (needed name) { parser = Some (parsers.Signed (pos least) (pos most)) }
 
+-- `--NAME N`, a number from `least` to `most`
+abbrev pub optional_from : Word → ℕ → ℕ → Rule
+optional_from name least most =
+    record (new_rule name) { long = Some name; value_names = 1; parser = Some (parsers.Signed (pos least) (pos most)) }
+
 -- `--NAME N`, a number from 0 to `most`
 abbrev pub optional_number : Word → ℕ → Rule
-optional_number name most =
-    record (new_rule name) { long = Some name; value_names = 1; parser = Some (parsers.Signed (pos 0) (pos most)) }
+optional_number name most = optional_from name 0 most
 
 -- `--NAME`
 abbrev pub flag : Word → Rule
@@ -105,12 +109,12 @@ commands =
     ∷ command (codes "live") (needed (codes "IMAGE") ∷ needed_number (codes "DEVICE") 0 65535
     ∷ needed_number (codes "PORT") 0 65535 ∷ needed_number (codes "TURNS") 1 100000 ∷ text_option (codes "save")
     ∷ flag (codes "show") ∷ [])
-    -- `fleet FILE PORT [--seconds N] [--devices A-B] [--bind ADDRESS] [--server S=ADDRESS[:PORT]] .. [--save FILE]
-    -- [--strict]`
+    -- `fleet FILE PORT [--seconds N] [--devices A-B] [--copies N] [--play] [--bind ADDRESS]
+    -- [--server S=ADDRESS[:PORT]] .. [--save FILE] [--strict] [--json]`
     ∷ command (codes "fleet") (needed (codes "FILE") ∷ needed_number (codes "PORT") 1 65535
     ∷ number_from (codes "seconds") 1 4294967295 (codes "86400") ∷ text_option (codes "devices")
-    ∷ text_or (codes "bind") (codes "127.0.0.1") ∷ text_options (codes "server") ∷ text_option (codes "save")
-    ∷ flag (codes "strict") ∷ [])
+    ∷ optional_from (codes "copies") 1 16384 ∷ flag (codes "play") ∷ text_or (codes "bind") (codes "127.0.0.1")
+    ∷ text_options (codes "server") ∷ text_option (codes "save") ∷ flag (codes "strict") ∷ flag (codes "json") ∷ [])
     -- `test FILE .. [--only WORDS] [--list] [--tap] [--json] [--junit FILE]`
     ∷ command (codes "test") (several (codes "FILE") ∷ text_option (codes "only") ∷ flag (codes "list")
     ∷ flag (codes "tap") ∷ flag (codes "json") ∷ text_option (codes "junit") ∷ []) ∷ []
@@ -233,10 +237,11 @@ AsksForFleet found fleet =
     × IsNumber 16 (one_of (codes "PORT") found.1) fleet.port
     × IsNumber 32 (one_of (codes "seconds") found.1) fleet.seconds
     × (first_of (codes "devices") found.1 ≡ option_map (λ w. w.now) fleet.devices)
+    × IsOptionalNumber 16 (one_of (codes "copies") found.1) fleet.copies × (is_set (codes "play") found.1 ≡ fleet.play)
     × IsText found (codes "bind") fleet.bind.now
     × (unwrap_or (all_of (codes "server") found.1) [] ≡ map (λ w. w.now) fleet.servers.items)
     × (first_of (codes "save") found.1 ≡ option_map (λ p. p.now) fleet.save)
-    × (is_set (codes "strict") found.1 ≡ fleet.strict)
+    × (is_set (codes "strict") found.1 ≡ fleet.strict) × (is_set (codes "json") found.1 ≡ fleet.json)
 
 -- a subcommand with its values asks what the log says that standard input has: HEX is `-`
 abbrev pub AsksForLog : Word × List Row → ℕ → Type 0

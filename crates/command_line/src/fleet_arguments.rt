@@ -2,7 +2,8 @@
 ghost use Rattle.std.specs.Prelude.{◌≡◌, codes, false, IfOk};
 ghost use Rattle.clap.specs.Words.{app_of, rule_of};
 ghost use Rattle.command_line.specs.Words.{needed_number, text_options};
-ghost use Rattle.command_line.specs.Inside.{bind, fleet_app, seconds, with_ends, with_places, with_service};
+ghost use Rattle.command_line.specs.Inside.{bind, copies, fleet_app, seconds, with_ends, with_places, with_rows};
+ghost use Rattle.command_line.specs.Inside.{with_service};
 
 use crate::help;
 use crate::subcommands::{described, flag, needed, text_option};
@@ -14,10 +15,11 @@ pub(crate) fn fleet_command<'a>(alloc: Global) -> Result<Command<'a>, AllocError
 {
     let about = "Lets all devices of a scenario answer, each at a UDP port of its own";
     let service = with_service(alloc, described(alloc, "fleet", about, help::FLEET))?;
-    with_ends(alloc, with_places(alloc, service)?)
+    let rows = with_rows(alloc, service)?;
+    with_ends(alloc, with_places(alloc, rows)?)
 }
 
-/// Adds the words for what is left of the devices, and for the status.
+/// Adds the words for what is left of the devices, for the status, and for the form of what is told.
 fn with_ends<'a>(alloc: Global, command: Command<'a>) -> Result<Command<'a>, AllocError>
     ensures { IfOk result (λ c. app_of c ≡ with_ends (app_of command.entry)) }
 {
@@ -25,7 +27,8 @@ fn with_ends<'a>(alloc: Global, command: Command<'a>) -> Result<Command<'a>, All
     let strict = flag(alloc, "strict").help(
         "Ends with status 3 where a datagram was dropped or lost",
     );
-    command.arg(save)?.arg(strict)
+    let json = flag(alloc, "json").help("Prints JSON Lines, for scripts");
+    command.arg(save)?.arg(strict)?.arg(json)
 }
 
 /// Adds the words for the devices of a scenario, the first of their ports, and how long they go on.
@@ -38,14 +41,22 @@ fn with_service<'a>(alloc: Global, command: Command<'a>) -> Result<Command<'a>, 
         .arg(seconds(alloc))
 }
 
-/// Adds the words for which devices there are, and for where their ports and servers are.
+/// Adds the words for which devices there are, and for whether the steps of their rows happen.
+fn with_rows<'a>(alloc: Global, command: Command<'a>) -> Result<Command<'a>, AllocError>
+    ensures { IfOk result (λ c. app_of c ≡ with_rows (app_of command.entry)) }
+{
+    let play = flag(alloc, "play").help("Lets the steps of the rows happen as seconds pass");
+    command
+        .arg(text_option(alloc, "devices", "A-B").help("Only the devices from A to B"))?
+        .arg(copies(alloc))?
+        .arg(play)
+}
+
+/// Adds the words for where the ports of the devices and their servers are.
 fn with_places<'a>(alloc: Global, command: Command<'a>) -> Result<Command<'a>, AllocError>
     ensures { IfOk result (λ c. app_of c ≡ with_places (app_of command.entry)) }
 {
-    command
-        .arg(text_option(alloc, "devices", "A-B").help("Only the devices from A to B"))?
-        .arg(bind(alloc))?
-        .arg(servers(alloc))
+    command.arg(bind(alloc))?.arg(servers(alloc))
 }
 
 fn port<'a>(alloc: Global) -> Arg<'a>
@@ -68,6 +79,17 @@ fn seconds<'a>(alloc: Global) -> Arg<'a>
         .value_parser(value_parser!(u32).range(1..=4_294_967_295))
         .default_value("86400")
         .help("For how many seconds they go on, 1 to 4294967295")
+}
+
+fn copies<'a>(alloc: Global) -> Arg<'a>
+    ensures rule { rule_of result ≡ copies }
+    ensures local { result.global ≡ false }
+{
+    Arg::new(alloc, "copies")
+        .long("copies")
+        .value_name("N")
+        .value_parser(value_parser!(u16).range(1..=16_384))
+        .help("How many devices there are, 1 to 16384: the rows over and over")
 }
 
 fn bind<'a>(alloc: Global) -> Arg<'a>

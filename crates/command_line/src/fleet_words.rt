@@ -19,6 +19,10 @@ pub struct AskedFleet<'a> {
     pub seconds: u32,
     /// Which rows have a device, as `A-B`; where it is not given, all have.
     pub devices: Option<&'a str>,
+    /// How many devices there are, 1 to 16,384: the rows over and over; where it is not given, each row is one.
+    pub copies: Option<u16>,
+    /// Whether the steps of the rows happen as seconds pass.
+    pub play: bool,
     /// The IP address of the ports.
     pub bind: &'a str,
     /// Where servers are, each as `S=ADDRESS` or `S=ADDRESS:PORT`.
@@ -27,6 +31,8 @@ pub struct AskedFleet<'a> {
     pub save: Option<&'a str>,
     /// Whether the status tells that a datagram was dropped or lost.
     pub strict: bool,
+    /// Whether what happened is told as JSON Lines.
+    pub json: bool,
 }
 
 /// The values of an argument that may stand several times, and need not stand at all.
@@ -55,10 +61,13 @@ fn fleet_with<'a>(found: &ArgMatches<'a>, servers: Vec<&'a str>) -> Option<Asked
         port: small_number(found, "PORT")?,
         seconds: number(found, "seconds")?,
         devices: value_of(found, "devices"),
+        copies: small_number(found, "copies"),
+        play: flag(found, "play"),
         bind: value_of(found, "bind")?,
         servers,
         save: value_of(found, "save"),
         strict: flag(found, "strict"),
+        json: flag(found, "json"),
     })
 }
 
