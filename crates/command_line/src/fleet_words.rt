@@ -4,7 +4,7 @@ ghost use Rattle.clap.specs.Words.{all_of, found_of, rows_of};
 ghost use Rattle.command_line.specs.Words.{AsksForFleet};
 ghost use Rattle.command_line.specs.Inside.{LacksFleet};
 
-use crate::words::{flag, number, small_number, value_of, values_of};
+use crate::values::{flag, number, small_number, value_of, values_of};
 use clap::ArgMatches;
 use std::alloc::{AllocError, Global};
 

@@ -179,15 +179,18 @@ pub const FLEET: &str =
     "Reads FILE: what begins with LWSC is a scenario's image, any other file its text. Starts the devices of it,
 without the steps of their rows, and lets each answer the datagrams that arrive at a UDP port of its own:
 device d at PORT + d of the address of `--bind`, or, with `--devices`, only devices A to B, device A at
-PORT. With `--server` the server S of all devices is at that address, at any port of it or at this one; an
-IPv6 address with a port is in brackets. Once all ports are there, prints on standard error
+PORT. With `--copies` there are N devices, 1 to 16384: the rows over and over. With `--play` the steps of
+the rows happen as seconds pass. With `--server` the server S of all devices is at that address, at any
+port of it or at this one; an IPv6 address with a port is in brackets. Once all ports are there, prints on
+standard error
   lwbench: ready N at ADDRESS:PORT
 After so many seconds as `--seconds` says, a day if it is not given, it ends. Writes the image of what
 happened to the FILE of `--save`, which is replaced where it exists, and no file without it: the steps of
 each device, at most 4096. At the end prints
   done seconds S devices N received N sent N dropped N lost N
 A datagram is dropped that comes from no account of its device, or is longer than 1500 bytes; one is lost
-that the system did not take. With `--strict` the status is 3 where one was dropped or lost.
+that the system did not take. With `--strict` the status is 3 where one was dropped or lost. With `--json`
+prints JSON Lines in place of this line: when all ports are there, each second, and at the end.
 
 Example:
   lwbench fleet reader.txt 20000 --seconds 60";

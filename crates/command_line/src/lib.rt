@@ -4,7 +4,9 @@
 mod fleet_arguments;
 mod fleet_words;
 mod help;
+mod jobs;
 mod subcommands;
+mod values;
 mod words;
 
 pub use fleet_words::AskedFleet;

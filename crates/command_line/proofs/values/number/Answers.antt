@@ -2,7 +2,7 @@ use Rattle.std.proofs.Common.{◌∙◌}
 use Rattle.clap.proofs.WalkLemmas.{one_text-rows}
 use Rattle.clap.specs.Words.{found_of, one_of, rows_of}
 use Rattle.command_line.proofs.Numbers.{optional_number, reads}
-use Rattle.command_line.proofs.words.number.Goals as goal
+use Rattle.command_line.proofs.values.number.Goals as goal
 
 pub returns : goal.returns
 returns c =

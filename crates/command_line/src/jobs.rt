@@ -1,0 +1,212 @@
+//! The jobs that the words ask for, one by one.
+ghost use Rattle.std.specs.Prelude.{◌≡◌, ◌≢◌, ◌⊎◌, None, Some, codes, map, IfNone, IfOk, IfSome};
+ghost use Rattle.clap.specs.Words.{all_of, first_of, found_of, rows_of};
+ghost use Rattle.command_line.specs.declared.words.Job.{Job as JobData};
+ghost use Rattle.command_line.specs.Words.{AsksFor, AsksForCaseForm, AsksForForm};
+ghost use Rattle.command_line.specs.Inside.{ExcludesInTest, LacksOne, LacksPlay, LacksRun, LacksShow, LacksTest};
+ghost use Rattle.command_line.specs.Inside.{WantsTwoCaseForms, WantsTwoForms};
+
+use crate::values::{flag, number, small_number, value_of, values_of};
+use crate::words::{CaseForm, Job, TraceForm};
+use clap::ArgMatches;
+use std::alloc::{AllocError, Global};
+
+#[tactic(auto, using(crate::proofs::Asking::no_one, crate::proofs::Asking::no_spell, crate::proofs::Asking::no_play, crate::proofs::Asking::no_asm, crate::proofs::Asking::no_dis, crate::proofs::Asking::no_run, crate::proofs::Asking::no_check, crate::proofs::Asking::no_show, crate::proofs::Asking::no_pcap, crate::proofs::Asking::no_debug, crate::proofs::Asking::no_test))]
+pub(crate) fn job_in<'a>(
+    alloc: Global,
+    name: &str,
+    found: &ArgMatches<'a>,
+) -> Result<Option<Job<'a>>, AllocError>
+    requires { name.now ≢ codes "say" }
+    ensures some { IfOk result (λ o. IfSome o (AsksFor (name.now, rows_of (found_of found.now)))) }
+    ensures none { IfOk result (λ o. IfNone o ((job : JobData) → AsksFor (name.now, rows_of (found_of found.now)) job
+        → ⊥)) }
+{
+    match name {
+        "one" => Ok(one_job(found)),
+        "spell" => spell_job(alloc, found),
+        "play" => Ok(play_job(found)),
+        "asm" => Ok(asm_job(found)),
+        "dis" => Ok(dis_job(found)),
+        "run" => Ok(run_job(found)),
+        "check" => Ok(check_job(found)),
+        "show" => Ok(show_job(found)),
+        "pcap" => Ok(pcap_job(found)),
+        "debug" => Ok(debug_job(found)),
+        "test" => test_job(alloc, found),
+        _ => Ok(None),
+    }
+}
+
+fn one_job<'a>(found: &ArgMatches<'a>) -> Option<Job<'a>>
+    ensures some { IfSome result (AsksFor (codes "one", rows_of (found_of found.now))) }
+    ensures none { IfNone result (LacksOne (rows_of (found_of found.now))) }
+{
+    let hex = value_of(found, "HEX")?;
+    let form = form_of(found)?;
+    Some(Job::One { hex, form })
+}
+
+fn spell_job<'a>(alloc: Global, found: &ArgMatches<'a>) -> Result<Option<Job<'a>>, AllocError>
+    ensures some { IfOk result (λ o. IfSome o (AsksFor (codes "spell", rows_of (found_of found.now)))) }
+    ensures none { IfOk result (λ o. IfNone o (all_of (codes "STATEMENT") (rows_of (found_of found.now)) ≡ None)) }
+{
+    match values_of(alloc, found, "STATEMENT")? {
+        Some(statement) => Ok(Some(Job::Spell { statement })),
+        None => Ok(None),
+    }
+}
+
+fn play_job<'a>(found: &ArgMatches<'a>) -> Option<Job<'a>>
+    ensures some { IfSome result (AsksFor (codes "play", rows_of (found_of found.now))) }
+    ensures none { IfNone result (LacksPlay (rows_of (found_of found.now))) }
+{
+    Some(Job::Play {
+        file: value_of(found, "FILE")?,
+        device: small_number(found, "device"),
+        from: number(found, "from"),
+        to: number(found, "to"),
+        form: form_of(found)?,
+    })
+}
+
+fn asm_job<'a>(found: &ArgMatches<'a>) -> Option<Job<'a>>
+    ensures some { IfSome result (AsksFor (codes "asm", rows_of (found_of found.now))) }
+    ensures none { IfNone result ((first_of (codes "IN") (rows_of (found_of found.now)) ≡ None)
+        ⊎ (first_of (codes "OUT") (rows_of (found_of found.now)) ≡ None)) }
+{
+    Some(Job::Asm {
+        input: value_of(found, "IN")?,
+        output: value_of(found, "OUT")?,
+    })
+}
+
+fn dis_job<'a>(found: &ArgMatches<'a>) -> Option<Job<'a>>
+    ensures some { IfSome result (AsksFor (codes "dis", rows_of (found_of found.now))) }
+    ensures none { IfNone result (first_of (codes "IN") (rows_of (found_of found.now)) ≡ None) }
+{
+    Some(Job::Dis {
+        input: value_of(found, "IN")?,
+    })
+}
+
+fn run_job<'a>(found: &ArgMatches<'a>) -> Option<Job<'a>>
+    ensures some { IfSome result (AsksFor (codes "run", rows_of (found_of found.now))) }
+    ensures none { IfNone result (LacksRun (rows_of (found_of found.now))) }
+{
+    Some(Job::Run {
+        image: value_of(found, "IMAGE")?,
+        workers: small_number(found, "workers")?,
+        batch: number(found, "batch")?,
+        trace: value_of(found, "trace"),
+    })
+}
+
+fn check_job<'a>(found: &ArgMatches<'a>) -> Option<Job<'a>>
+    ensures some { IfSome result (AsksFor (codes "check", rows_of (found_of found.now))) }
+    ensures none { IfNone result ((first_of (codes "IMAGE") (rows_of (found_of found.now)) ≡ None)
+        ⊎ (first_of (codes "TRACE") (rows_of (found_of found.now)) ≡ None)) }
+{
+    Some(Job::Check {
+        image: value_of(found, "IMAGE")?,
+        trace: value_of(found, "TRACE")?,
+        json: flag(found, "json"),
+    })
+}
+
+fn show_job<'a>(found: &ArgMatches<'a>) -> Option<Job<'a>>
+    ensures some { IfSome result (AsksFor (codes "show", rows_of (found_of found.now))) }
+    ensures none { IfNone result (LacksShow (rows_of (found_of found.now))) }
+{
+    Some(Job::Show {
+        image: value_of(found, "IMAGE")?,
+        trace: value_of(found, "TRACE")?,
+        device: small_number(found, "device"),
+        from: number(found, "from"),
+        to: number(found, "to"),
+        form: form_of(found)?,
+    })
+}
+
+/// In which form the words of `show`, `play` and `one` ask for an answer; none where they ask for two.
+fn form_of(found: &ArgMatches) -> Option<TraceForm>
+    ensures some { IfSome result (AsksForForm (rows_of (found_of found.now))) }
+    ensures none { IfNone result (WantsTwoForms (rows_of (found_of found.now))) }
+{
+    match (flag(found, "json"), flag(found, "why")) {
+        (false, false) => Some(TraceForm::Text),
+        (false, true) => Some(TraceForm::Reasons),
+        (true, false) => Some(TraceForm::JsonLines),
+        (true, true) => None,
+    }
+}
+
+fn pcap_job<'a>(found: &ArgMatches<'a>) -> Option<Job<'a>>
+    ensures some { IfSome result (AsksFor (codes "pcap", rows_of (found_of found.now))) }
+    ensures none { IfNone result ((first_of (codes "IMAGE") (rows_of (found_of found.now)) ≡ None)
+        ⊎ ((first_of (codes "TRACE") (rows_of (found_of found.now)) ≡ None)
+        ⊎ (first_of (codes "OUT") (rows_of (found_of found.now)) ≡ None))) }
+{
+    Some(Job::Pcap {
+        image: value_of(found, "IMAGE")?,
+        trace: value_of(found, "TRACE")?,
+        output: value_of(found, "OUT")?,
+    })
+}
+
+fn debug_job<'a>(found: &ArgMatches<'a>) -> Option<Job<'a>>
+    ensures some { IfSome result (AsksFor (codes "debug", rows_of (found_of found.now))) }
+    ensures none { IfNone result ((first_of (codes "IMAGE") (rows_of (found_of found.now)) ≡ None)
+        ⊎ (first_of (codes "TRACE") (rows_of (found_of found.now)) ≡ None)) }
+{
+    Some(Job::Debug {
+        image: value_of(found, "IMAGE")?,
+        trace: value_of(found, "TRACE")?,
+    })
+}
+
+fn test_job<'a>(alloc: Global, found: &ArgMatches<'a>) -> Result<Option<Job<'a>>, AllocError>
+    ensures some { IfOk result (λ o. IfSome o (AsksFor (codes "test", rows_of (found_of found.now)))) }
+    ensures none { IfOk result (λ o. IfNone o (LacksTest (rows_of (found_of found.now)))) }
+{
+    match values_of(alloc, found, "FILE")? {
+        Some(files) => Ok(cases_job(found, files)),
+        None => Ok(None),
+    }
+}
+
+/// What is asked of these files of cases: their titles, or which of them differ.
+fn cases_job<'a>(found: &ArgMatches<'a>, files: Vec<&'a str>) -> Option<Job<'a>>
+    requires { all_of (codes "FILE") (rows_of (found_of found.now)) ≡ Some (map (λ p. p.now) files.items) }
+    ensures some { IfSome result (AsksFor (codes "test", rows_of (found_of found.now))) }
+    ensures none { IfNone result (ExcludesInTest (rows_of (found_of found.now))) }
+{
+    let only = value_of(found, "only");
+    let form = case_form_of(found)?;
+    let junit = value_of(found, "junit");
+    if !flag(found, "list") {
+        return Some(Job::Test {
+            files,
+            only,
+            form,
+            junit,
+        });
+    }
+    match (form, junit) {
+        (CaseForm::Text, None) => Some(Job::Titles { files, only }),
+        _ => None,
+    }
+}
+
+/// In which form the words of `test` ask for what came of cases; none where they ask for two.
+fn case_form_of(found: &ArgMatches) -> Option<CaseForm>
+    ensures some { IfSome result (AsksForCaseForm (rows_of (found_of found.now))) }
+    ensures none { IfNone result (WantsTwoCaseForms (rows_of (found_of found.now))) }
+{
+    match (flag(found, "tap"), flag(found, "json")) {
+        (false, false) => Some(CaseForm::Text),
+        (true, false) => Some(CaseForm::Tap),
+        (false, true) => Some(CaseForm::JsonLines),
+        (true, true) => None,
+    }
+}
