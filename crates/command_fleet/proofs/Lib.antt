@@ -1,3 +1,5 @@
 pub mod Fixed
+pub mod Objects
 pub mod Parts
 pub mod Sessions
+pub mod Told

@@ -1,30 +1,76 @@
--- The devices of `A-B`, and a row more of a part of a scenario.
-use Rattle.std.proofs.Common.{ℕ, ◌≡◌, ◌≤◌, ◌==◌, ◌⊎◌, ◌+◌, zero, suc, List, [], ◌∷◌, ◌++◌, map, take, drop, slice_get}
-use Rattle.std.proofs.Common.{Option, IfNone, None, Some, arith, ap, subst, sym, ◌∙◌, refl, inl, inr}
+-- The devices of `A-B`, the rows of a part of a scenario, and the end of a session.
+use Rattle.std.proofs.Common.{ℕ, ◌≡◌, ◌≤◌, ◌<◌, ◌==◌, ◌⊎◌, ◌+◌, ◌-◌, ◌%◌, zero, suc, Bool, List, [], ◌∷◌, ◌++◌, length}
+use Rattle.std.proofs.Common.{filter, take, get_or, slice_get, Option, IfNone, None, Some, option_map, arith, ap, subst}
+use Rattle.std.proofs.Common.{sym, ◌∙◌, refl, inl, inr}
+use Rattle.std.proofs.lemmas.Grind.{take_at_read}
+use Rattle.std.proofs.lemmas.List.Elements.{filter-append}
 use Rattle.std.specs.List.{after_first, before_first}
 use Rattle.command_line.specs.Words.{SpellsNumber}
-use Rattle.lemmas.proofs.Lists.{take_one_more}
+use Rattle.live_link.specs.Wire.{AreRead}
+use Rattle.fleet_link.specs.Playing.{is_own}
+use Rattle.fleet_link.specs.Timing.{AreAsked}
+use Rattle.fleet_link.proofs.Seconds.{asked_on}
+use Rattle.lemmas.proofs.Lists.{item_pushed, length_pushed}
+use Rattle.scenario_image.specs.declared.step.Step.{Step}
 use Rattle.scenario_image.specs.Scenario.{Row}
 use Rattle.command_fleet.specs.declared.devices.Devices.{Devices}
-use Rattle.command_fleet.specs.Devices.{IsRange, unstarted}
+use Rattle.command_fleet.specs.Devices.{IsRange, row_to_play}
 
--- what stands at a place of what is left of a list
-at_rest : {X : Type 0} (xs : List X) (first k : ℕ) → slice_get (drop first xs) k ≡ slice_get xs (first + k)
-at_rest xs zero k = let e : k ≡ 0 + k = omega arith in ap (λ n. slice_get xs n) e
-at_rest [] (suc first) k = refl
-at_rest (x ∷ xs) (suc first) k =
-    let e : suc (first + k) ≡ suc first + k = omega arith in at_rest xs first k ∙ ap (λ n. slice_get (x ∷ xs) n) e
+-- ---- the rows of a part
 
-map_push : {X Y : Type 0} (f : X → Y) (xs : List X) (x : X) → map f (xs ++ x ∷ []) ≡ map f xs ++ f x ∷ []
-map_push f [] x = refl
-map_push f (y ∷ ys) x = ap (λ l. f y ∷ l) (map_push f ys x)
+-- the steps so far that are played, and one more
+pub own_more : (steps own more : List Step) (i : ℕ) (x : Step) → own ≡ filter is_own (take i steps)
+    → more ≡ own ++ filter is_own (x ∷ []) → i < length steps → x ≡ get_or steps i x
+    → more ≡ filter is_own (take (i + 1) steps)
+own_more steps own more i x so_far is l e =
+    let taken : take (i + 1) steps ≡ take i steps ++ x ∷ [] =
+    (take_at_read steps i x l).1 ∙ ap (λ y. take i steps ++ y ∷ []) (sym e) in
+    is ∙ ap (λ xs. xs ++ filter is_own (x ∷ [])) so_far ∙ sym (filter-append is_own (take i steps) (x ∷ []))
+    ∙ ap (filter is_own) (sym taken)
 
-pub rows_more : (rows : List Row) (first k : ℕ) (row : Row) (before after : List Row)
-    → Some row ≡ slice_get rows (first + k) → before ≡ map unstarted (take k (drop first rows))
-    → after ≡ before ++ unstarted row ∷ [] → after ≡ map unstarted (take (k + 1) (drop first rows))
-rows_more rows first k row before after here so_far more =
-    more ∙ ap (λ l. l ++ unstarted row ∷ []) so_far ∙ sym (map_push unstarted (take k (drop first rows)) row)
-    ∙ ap (map unstarted) (sym (take_one_more (drop first rows) k row (at_rest rows first k ∙ sym here)))
+-- each of the first rows of a part is that of its device
+abbrev pub AreRows : List Row → Devices → ℕ → Bool → ℕ → List Row → Type 0
+AreRows rows devices count played n part =
+    (k : ℕ) → k < n
+    → slice_get part k ≡ option_map (row_to_play played) (slice_get rows (devices.first + k % count))
+
+front : {X : Type 0} (xs : List X) (x : X) (k : ℕ) → k < length xs → slice_get (xs ++ x ∷ []) k ≡ slice_get xs k
+front [] x k h = absurd (omega (arith, h))
+front (y ∷ ys) x zero h = refl
+front (y ∷ ys) x (suc k) h = front ys x k (omega (arith, h))
+
+last_or_before : (k n : ℕ) → k < n + 1 → (k < n) ⊎ (k ≡ n)
+last_or_before zero zero h = inr refl
+last_or_before zero (suc n) h = inl (omega arith)
+last_or_before (suc k) zero h = absurd (omega (arith, h))
+last_or_before (suc k) (suc n) h = one (last_or_before k n (omega (arith, h)))
+  where
+    one : (k < n) ⊎ (k ≡ n) → (suc k < suc n) ⊎ (suc k ≡ suc n)
+    one (inl l) = inl (omega (arith, l))
+    one (inr e) = inr (ap suc e)
+
+pub rows_more : (rows : List Row) (devices : Devices) (count : ℕ) (played : Bool) (n : ℕ) (row : Row)
+    (before after : List Row) → length before ≡ n
+    → Some row ≡ slice_get rows (devices.first + n % count) → AreRows rows devices count played n before
+    → after ≡ before ++ row_to_play played row ∷ [] → AreRows rows devices count played (n + 1) after
+rows_more rows devices count played n row before after long here so_far more k below =
+    ap (λ l. slice_get l k) more ∙ of (last_or_before k n below)
+  where
+    of : (k < n) ⊎ (k ≡ n) → slice_get (before ++ row_to_play played row ∷ []) k
+        ≡ option_map (row_to_play played) (slice_get rows (devices.first + k % count))
+    of (inl l) = front before (row_to_play played row) k (omega (arith, l, long)) ∙ so_far k l
+    of (inr e) =
+        ap (slice_get (before ++ row_to_play played row ∷ [])) (e ∙ sym long)
+        ∙ item_pushed before (row_to_play played row)
+        ∙ ap (option_map (row_to_play played)) here
+        ∙ ap (λ j. option_map (row_to_play played) (slice_get rows (devices.first + j % count))) (sym e)
+
+pub length_more : (before after : List Row) (row : Row) (n : ℕ) → length before ≡ n → after ≡ before ++ row ∷ []
+    → length after ≡ n + 1
+length_more before after row n long more =
+    ap length more ∙ length_pushed before row ∙ ap suc long ∙ omega arith
+
+-- ---- words
 
 -- words whose parts are no two numbers are no range
 pub no_range : (text first last : List ℕ) (r : Option Devices) → first ≡ before_first (λ b. b == 45) text
@@ -36,8 +82,13 @@ no_range text first last None before behind none =
     λ devices is. none devices (subst (λ t. SpellsNumber 16 t devices.first) (sym before) is.first)
     (subst (λ t. SpellsNumber 16 t devices.last) (sym behind) is.last)
 
--- a session ended at its last second, or otherwise
-pub ended_at : (given seconds second : ℕ) (otherwise : Type 0) → given ≡ seconds
-    → (given ≤ second) ⊎ otherwise → (seconds ≤ second) ⊎ otherwise
-ended_at given seconds second otherwise same (inl h) = inl (subst (λ n. n ≤ second) same h)
-ended_at given seconds second otherwise same (inr h) = inr h
+-- ---- the end
+
+-- a session ended at its last second, or otherwise, and then its devices were brought to it
+pub ended_on : (seconds until now then : ℕ) (rb ra ab aa az : Option (List ℕ)) (first next : Option ℕ) (calls : ℕ)
+    → until ≡ seconds → then ≡ now → next ≡ first → AreRead aa az []
+    → (until ≤ now) ⊎ AreAsked rb ra ab aa first now calls → (seconds ≤ then) ⊎ AreAsked rb ra ab az next then calls
+ended_on seconds until now then rb ra ab aa az first next calls same at is none (inl h) =
+    inl (omega (arith, h, same, at))
+ended_on seconds until now then rb ra ab aa az first next calls same at is none (inr h) =
+    inr (asked_on rb ra ab aa az first next now then calls h none is at)

@@ -1,6 +1,6 @@
 -- Devices on UDP: what their session came to, put together from its parts.
-use Rattle.std.proofs.Common.{ℕ, Bor, ◌≡◌, ◌⊎◌, ◌≤◌, arith, List, [], ◌∷◌, length, map, Option, None, inl, inr, refl, sym, subst}
-use Rattle.std.proofs.Common.{IfErr, IfOk, Result, Ok, Err, option_map, false}
+use Rattle.std.proofs.Common.{ℕ, Bool, Bor, ◌≡◌, ◌⊎◌, ◌≤◌, arith, List, [], ◌∷◌, length, map, Option, None, inl, inr}
+use Rattle.std.proofs.Common.{IfErr, IfOk, Result, Ok, Err, option_map, false, refl, sym, subst, ap, ◌∙◌}
 use Rattle.std.specs.Io.KnownBytes.{Appends}
 use Rattle.std.specs.declared.net.socket_addr.SocketAddr.{SocketAddr}
 use Rattle.command_line.specs.declared.fleet_words.AskedFleet.{AskedFleet}
@@ -25,11 +25,15 @@ use Rattle.command_files.specs.declared.refusal.Refusal.{Refusal}
 use Rattle.command_files.specs.declared.status.Status.{Status}
 use Rattle.command_sources.specs.Sources.{IsNoScenario, IsScenarioOf}
 use Rattle.command_fleet.specs.declared.devices.Devices.{Devices}
-use Rattle.command_fleet.specs.Devices.{AreChosen, part_of}
+use Rattle.command_fleet.specs.declared.telling.Telling.{Telling}
+use Rattle.command_fleet.specs.Devices.{AreChosen, IsPart}
 use Rattle.command_fleet.specs.Servers.{AreServers, IsServersFault}
-use Rattle.command_fleet.specs.Fleet.{AreMissing, AreReady, IsConcluded, IsFleetDone, IsFleetFault, IsPlace, IsSavedAt}
-use Rattle.command_fleet.specs.Fleet.{IsEndless, IsSaveFault, IsSavedIf, IsServed, IsUnconcluded, IsUnfit, IsUnsaved, IsUnstarted}
-use Rattle.command_fleet.specs.Fleet.{Session, line_of, ready_line, status_of}
+use Rattle.command_fleet.specs.Fleet.{AreMissing, AreReady, IsConcluded, IsEndless, IsFleetDone, IsFleetFault, IsPlace}
+use Rattle.command_fleet.specs.Fleet.{IsReadyTold, IsSaveFault, IsSavedAt, IsSavedIf, IsServed, IsSessionCut}
+use Rattle.command_fleet.specs.Fleet.{IsSessionDone, IsSessionFault, IsUnconcluded, IsUnfit, IsUnsaved, IsUnstarted}
+use Rattle.command_fleet.specs.Fleet.{IsUntold, Session, cut_of, line_of, ready_line, ready_text, status_of}
+use Rattle.command_fleet.specs.Fleet.{telling_for}
+use Rattle.command_fleet.specs.Telling.{AreTold, IsCut, telling_of}
 
 -- ---- the scenario of a session
 
@@ -64,38 +68,51 @@ not_made refuses path at fault same h = inr (subst (λ p. IsWritingFault (refuse
 -- ---- its conclusion
 
 pub concluded : (before after : World) (asked : AskedFleet) (part : Scenario) (session : Session) (status : Status)
-    → Appends before.streams.output after.streams.output (line_of session)
+    (cut : ℕ) → cut ≡ cut_of (option_map (λ p. p.now) asked.save) session.slots
+    → Appends before.streams.output after.streams.output (line_of asked.json cut session)
     → IsSavedIf before.made after.made (option_map (λ p. p.now) asked.save) part session.slots
     → status ≡ status_of asked.strict session.counts → IsConcluded before after asked part session status
-concluded before after asked part session status printed saved ended =
-    record { printed = printed; saved = saved; ended = ended }
+concluded before after asked part session status cut is printed saved ended = record {
+  printed = subst (λ n. Appends before.streams.output after.streams.output (line_of asked.json n session)) is printed;
+  saved = saved;
+  ended = ended;
+}
 
 pub line_unprinted : (files : FilesKnown) (faults : StreamFaults) (before after : Streams) (asked : AskedFleet)
-    (session : Session) (fault : Fault) → IsWritingFault (faults.output_refuses (line_of session)) fault
+    (session : Session) (fault : Fault) (cut : ℕ)
+    → cut ≡ cut_of (option_map (λ p. p.now) asked.save) session.slots
+    → IsWritingFault (faults.output_refuses (line_of asked.json cut session)) fault
     → IsUnconcluded files faults before after asked session fault
-line_unprinted files faults before after asked session fault h = inl h
+line_unprinted files faults before after asked session fault cut is h =
+    inl (subst (λ n. IsWritingFault (faults.output_refuses (line_of asked.json n session)) fault) is h)
 
 pub steps_unsaved : (files : FilesKnown) (faults : StreamFaults) (before after : Streams) (asked : AskedFleet)
-    (session : Session) (fault : Fault) → Appends before.output after.output (line_of session)
+    (session : Session) (fault : Fault) (cut : ℕ)
+    → cut ≡ cut_of (option_map (λ p. p.now) asked.save) session.slots
+    → Appends before.output after.output (line_of asked.json cut session)
     → IsUnsaved files.refuses (option_map (λ p. p.now) asked.save) fault
     → IsUnconcluded files faults before after asked session fault
-steps_unsaved files faults before after asked session fault printed h = inr (printed, h)
+steps_unsaved files faults before after asked session fault cut is printed h =
+    inr (subst (λ n. Appends before.output after.output (line_of asked.json n session)) is printed, h)
 
 -- ---- there is no session
 
 pub source_refused : (files : FilesKnown) (faults : StreamFaults) (before after : Streams) (asked : AskedFleet)
+    (terminal : Bool)
     (fault : Fault)
     → IsReadingFault (files.fails asked.file.now) fault
     ⊎ IsHeld files.holds asked.file.now (λ bytes. IsNoScenario bytes fault)
-    → after.output ≡ before.output → after.errors ≡ before.errors → IsFleetFault files faults before after asked fault
-source_refused files faults before after asked fault why silent untold =
+    → after.output ≡ before.output → after.errors ≡ before.errors
+    → IsFleetFault files faults before after asked terminal fault
+source_refused files faults before after asked terminal fault why silent untold =
     inl (record { why = inl why; silent = silent; untold = untold })
 
-unstarted : (files : FilesKnown) (streams : StreamFaults) (before after : Streams) (asked : AskedFleet) (s : Scenario)
+unstarted : (files : FilesKnown) (streams : StreamFaults) (before after : Streams) (asked : AskedFleet)
+    (terminal : Bool) (s : Scenario)
     (fault : Fault) → IsHeld files.holds asked.file.now (λ bytes. IsScenarioOf bytes s) → IsUnstarted asked s fault
     → after.output ≡ before.output → after.errors ≡ before.errors
-    → IsFleetFault files streams before after asked fault
-unstarted files streams before after asked s fault found why silent untold =
+    → IsFleetFault files streams before after asked terminal fault
+unstarted files streams before after asked terminal s fault found why silent untold =
     inl (record {
       why = inr (record { scenario = s; found = found; so = why });
       silent = silent;
@@ -103,18 +120,21 @@ unstarted files streams before after asked s fault found why silent untold =
     })
 
 pub devices_missing : (files : FilesKnown) (streams : StreamFaults) (before after : Streams) (asked : AskedFleet)
+    (terminal : Bool)
     (s : Scenario) → IsHeld files.holds asked.file.now (λ bytes. IsScenarioOf bytes s) → AreMissing asked s
     → after.output ≡ before.output → after.errors ≡ before.errors
-    → IsFleetFault files streams before after asked faults.NoDevice
-devices_missing files streams before after asked s found missing silent untold =
-    unstarted files streams before after asked s faults.NoDevice found missing silent untold
+    → IsFleetFault files streams before after asked terminal faults.NoDevice
+devices_missing files streams before after asked terminal s found missing silent untold =
+    unstarted files streams before after asked terminal s faults.NoDevice found missing silent untold
 
 pub part_refused : (files : FilesKnown) (streams : StreamFaults) (before after : Streams) (asked : AskedFleet)
+    (terminal : Bool)
     (s : Scenario) (fault : Fault) → IsHeld files.holds asked.file.now (λ bytes. IsScenarioOf bytes s)
     → fault ≡ faults.Memory → after.output ≡ before.output → after.errors ≡ before.errors
-    → IsFleetFault files streams before after asked fault
-part_refused files streams before after asked s fault found memory silent untold =
-    unstarted files streams before after asked s fault found (subst (IsUnstarted asked s) (sym memory) tt) silent untold
+    → IsFleetFault files streams before after asked terminal fault
+part_refused files streams before after asked terminal s fault found memory silent untold =
+    unstarted files streams before after asked terminal s fault found
+    (subst (IsUnstarted asked s) (sym memory) tt) silent untold
 
 why_unbound : (asked : AskedFleet) (s : Scenario) (devices : Devices) (fault : Fault)
     → AreChosen s (option_map (λ w. w.now) asked.devices) devices → (fault ≡ faults.Memory) ⊎ (fault ≡ faults.Bind)
@@ -123,32 +143,36 @@ why_unbound asked s devices fault chosen (inl h) = subst (IsUnstarted asked s) (
 why_unbound asked s devices fault chosen (inr h) = subst (IsUnstarted asked s) (sym h) (devices, chosen)
 
 pub ports_refused : (files : FilesKnown) (streams : StreamFaults) (before after : Streams) (asked : AskedFleet)
+    (terminal : Bool)
     (s : Scenario) (devices : Devices) (fault : Fault)
     → IsHeld files.holds asked.file.now (λ bytes. IsScenarioOf bytes s)
     → AreChosen s (option_map (λ w. w.now) asked.devices) devices → (fault ≡ faults.Memory) ⊎ (fault ≡ faults.Bind)
     → after.output ≡ before.output → after.errors ≡ before.errors
-    → IsFleetFault files streams before after asked fault
-ports_refused files streams before after asked s devices fault found chosen why silent untold =
-    unstarted files streams before after asked s fault found (why_unbound asked s devices fault chosen why) silent
+    → IsFleetFault files streams before after asked terminal fault
+ports_refused files streams before after asked terminal s devices fault found chosen why silent untold =
+    unstarted files streams before after asked terminal s fault found
+    (why_unbound asked s devices fault chosen why) silent
     untold
 
 pub place_refused : (files : FilesKnown) (streams : StreamFaults) (before after : Streams) (asked : AskedFleet)
+    (terminal : Bool)
     (s : Scenario) (devices : Devices) (fault : Fault)
     → IsHeld files.holds asked.file.now (λ bytes. IsScenarioOf bytes s)
     → AreChosen s (option_map (λ w. w.now) asked.devices) devices → fault ≡ faults.Bind
     → after.output ≡ before.output → after.errors ≡ before.errors
-    → IsFleetFault files streams before after asked fault
-place_refused files streams before after asked s devices fault found chosen why silent untold =
-    ports_refused files streams before after asked s devices fault found chosen (inr why) silent untold
+    → IsFleetFault files streams before after asked terminal fault
+place_refused files streams before after asked terminal s devices fault found chosen why silent untold =
+    ports_refused files streams before after asked terminal s devices fault found chosen (inr why) silent untold
 
 pub servers_refused : (files : FilesKnown) (streams : StreamFaults) (before after : Streams) (asked : AskedFleet)
+    (terminal : Bool)
     (s : Scenario) (devices : Devices) (words : List (List ℕ)) (about : Option (List ℕ)) (fault : Fault)
     → IsHeld files.holds asked.file.now (λ bytes. IsScenarioOf bytes s)
     → AreChosen s (option_map (λ w. w.now) asked.devices) devices → IsServersFault s words about fault
     → after.output ≡ before.output → after.errors ≡ before.errors
-    → IsFleetFault files streams before after asked fault
-servers_refused files streams before after asked s devices words about fault found chosen why silent untold =
-    ports_refused files streams before after asked s devices fault found chosen (of why) silent untold
+    → IsFleetFault files streams before after asked terminal fault
+servers_refused files streams before after asked terminal s devices words about fault found chosen why silent untold =
+    ports_refused files streams before after asked terminal s devices fault found chosen (of why) silent untold
   where
     of : IsServersFault s words about fault → (fault ≡ faults.Memory) ⊎ (fault ≡ faults.Bind)
     of (inl memory) = inl memory
@@ -161,42 +185,19 @@ pub fixed_as : (s : Scenario) (given words : List (Bor (List ℕ))) (servers : L
     → AreServers s (map (λ w. w.now) given) servers → AreServers s (map (λ w. w.now) words) servers
 fixed_as s given words servers same are = subst (λ ws. AreServers s (map (λ w. w.now) ws) servers) same are
 
-pub ready_untold : (files : FilesKnown) (faults : StreamFaults) (before after : Streams) (asked : AskedFleet)
-    (s part : Scenario) (devices : Devices) (servers : List FixedServer) (place : SocketAddr) (count : ℕ)
-    (fault : Fault) → IsHeld files.holds asked.file.now (λ bytes. IsScenarioOf bytes s)
-    → AreChosen s (option_map (λ w. w.now) asked.devices) devices
-    → AreServers s (map (λ w. w.now) asked.servers.items) servers → part ≡ part_of s devices
-    → IsPlace asked.bind.now asked.port place → count ≡ length part.rows
-    → IsWritingFault (faults.errors_refuse (ready_line count place)) fault → after.output ≡ before.output
-    → IsFleetFault files faults before after asked fault
-ready_untold files faults before after asked s part devices servers place count fault found chosen fixed is there same
-    why silent =
-    inr (inl (record {
-      scenario = s;
-      devices = devices;
-      asked_for = record { found = found; chosen = chosen; servers = servers; fixed = fixed };
-      place = place;
-      place_is = there;
-      why = subst (λ p. IsWritingFault (faults.errors_refuse (ready_line (length p.rows) place)) fault) is
-          (subst (λ n. IsWritingFault (faults.errors_refuse (ready_line n place)) fault) same why);
-      silent = silent;
-    }))
-
-pub ready : (files : FilesKnown) (before after : Option (List ℕ)) (asked : AskedFleet) (s part : Scenario)
-    (devices : Devices) (servers : List FixedServer) (place : SocketAddr) (count : ℕ)
+pub ready : (files : FilesKnown) (asked : AskedFleet) (s part : Scenario) (devices : Devices)
+    (servers : List FixedServer) (place : SocketAddr)
     → IsHeld files.holds asked.file.now (λ bytes. IsScenarioOf bytes s)
     → AreChosen s (option_map (λ w. w.now) asked.devices) devices
-    → AreServers s (map (λ w. w.now) asked.servers.items) servers → part ≡ part_of s devices
-    → IsPlace asked.bind.now asked.port place → count ≡ length part.rows
-    → Appends before after (ready_line count place) → AreReady files before after asked part
-ready files before after asked s part devices servers place count found chosen fixed is there same told = record {
+    → AreServers s (map (λ w. w.now) asked.servers.items) servers
+    → IsPart s devices asked.copies asked.play part → IsPlace asked.bind.now asked.port place
+    → AreReady files asked part place
+ready files asked s part devices servers place found chosen fixed is there = record {
   scenario = s;
   devices = devices;
   asked_for = record { found = found; chosen = chosen; servers = servers; fixed = fixed };
   part_is = is;
-  place = place;
   place_is = there;
-  told = subst (λ n. Appends before after (ready_line n place)) same told;
 }
 
 -- nothing was read yet, and nothing asked
@@ -221,12 +222,13 @@ endless rb ra ab aa first now h = record {
   second_is = h.now_is;
 }
 
-pub served : (s : Scenario) (seconds : ℕ) (session : Session) (before after : ℕ → Option Traffic)
-    (rb ra ab aa : Option (List ℕ)) (first : Option ℕ) → IsFleet s false before session.slots session.second false after
+pub served : (s : Scenario) (played : Bool) (seconds : ℕ) (session : Session) (before after : ℕ → Option Traffic)
+    (rb ra ab aa : Option (List ℕ)) (first : Option ℕ)
+    → IsFleet s played before session.slots session.second false after
     → AreAt session.slots (length session.slots) session.second
     → (seconds ≤ session.second) ⊎ AreAsked rb ra ab aa first session.second 18446744073709551615
-    → IsServed s seconds session
-served s seconds session before after rb ra ab aa first fleet finished ended =
+    → IsServed s played seconds session
+served s played seconds session before after rb ra ab aa first fleet finished ended =
     record { before = before; after = after; fleet = fleet; finished = finished; ended = so ended }
   where
     so : (seconds ≤ session.second) ⊎ AreAsked rb ra ab aa first session.second 18446744073709551615
@@ -234,46 +236,112 @@ served s seconds session before after rb ra ab aa first fleet finished ended =
     so (inl h) = inl h
     so (inr h) = inr (endless rb ra ab aa first session.second h)
 
-pub session_cut : (files : FilesKnown) (streams : StreamFaults) (before after : Streams) (asked : AskedFleet)
-    (part : Scenario) (fault : Fault) → AreReady files before.errors after.errors asked part
-    → (fault ≡ faults.Memory) ⊎ (fault ≡ faults.Bind) → after.output ≡ before.output
-    → IsFleetFault files streams before after asked fault
-session_cut files streams before after asked part fault were_ready why silent =
-    inr (inr (inl (record { part = part; ready = were_ready; why = why; silent = silent })))
+-- that the devices are there, told of as many as there are rows
+pub ready_told : (json : Bool) (rows devices : ℕ) (place : SocketAddr) (before after : Streams) → devices ≡ rows
+    → Appends before.errors after.errors (ready_line devices place)
+    → Appends before.output after.output (ready_text json devices place)
+    → IsReadyTold json rows place before after
+ready_told json rows devices place before after same shown printed =
+    subst (λ n. IsReadyTold json n place before after) same (record { shown = shown; printed = printed })
+
+pub line_refused : (streams : StreamFaults) (before after : Streams) (asked : AskedFleet) (part : Scenario)
+    (place : SocketAddr) (devices : ℕ) (fault : Fault) → devices ≡ length part.rows
+    → IsWritingFault (streams.errors_refuse (ready_line devices place)) fault → after.output ≡ before.output
+    → IsUntold streams before after asked part place fault
+line_refused streams before after asked part place devices fault same why silent =
+    inl (subst (λ n. IsWritingFault (streams.errors_refuse (ready_line n place)) fault) same why, silent)
+
+pub object_refused : (streams : StreamFaults) (before after : Streams) (asked : AskedFleet) (part : Scenario)
+    (place : SocketAddr) (devices : ℕ) (fault : Fault) → devices ≡ length part.rows
+    → Appends before.errors after.errors (ready_line devices place)
+    → IsWritingFault (streams.output_refuses (ready_text asked.json devices place)) fault
+    → IsUntold streams before after asked part place fault
+object_refused streams before after asked part place devices fault same told why =
+    inr (
+      subst (λ n. Appends before.errors after.errors (ready_line n place)) same told,
+      subst (λ n. IsWritingFault (streams.output_refuses (ready_text asked.json n place)) fault) same why,
+    )
+
+-- how the seconds are told, of as many devices as there are rows
+pub telling_is : (asked : AskedFleet) (terminal : Bool) (part : Scenario) (devices : ℕ) (telling : Telling)
+    → devices ≡ length part.rows → telling ≡ telling_of asked.json terminal devices
+    → telling ≡ telling_for asked terminal part
+telling_is asked terminal part devices telling same is = is ∙ ap (telling_of asked.json terminal) same
+
+-- what a conclusion sees, which has neither an input nor standard error
+abbrev pub without_errors : Streams → Streams
+without_errors streams = record { input = None; output = streams.output; errors = None }
+
+pub done_if : (before after : World) (asked : AskedFleet) (terminal : Bool) (part : Scenario) (place : SocketAddr)
+    (session : Session) (telling : Telling) (first last : Streams) (r : Result Status Refusal)
+    → IsReadyTold asked.json (length part.rows) place before.streams first
+    → IsServed part asked.play asked.seconds session → telling ≡ telling_for asked terminal part
+    → AreTold telling session.second first last → after.streams.errors ≡ last.errors
+    → IfOk r (IsConcluded (record { made = before.made; streams = without_errors last })
+    (record { made = after.made; streams = without_errors after.streams }) asked part session)
+    → IfOk r (IsSessionDone before after asked terminal part place)
+done_if before after asked terminal part place session telling first last (Err e) opened were is told quiet done = tt
+done_if before after asked terminal part place session telling first last (Ok status) opened were is told quiet done =
+    record {
+      first = first;
+      ready_told = opened;
+      session = session;
+      served = were;
+      last = last;
+      told = subst (λ t. AreTold t session.second first last) is told;
+      concluded = record { printed = done.printed; saved = done.saved; ended = done.ended };
+      quiet = quiet;
+    }
+
+pub cut_if : (streams : StreamFaults) (before after : Streams) (asked : AskedFleet) (terminal : Bool) (part : Scenario)
+    (place : SocketAddr) (telling : Telling) (first : Streams) (fault : Fault)
+    → IsReadyTold asked.json (length part.rows) place before first → telling ≡ telling_for asked terminal part
+    → IsCut telling streams first after fault
+    → IsSessionCut streams before after asked terminal part place fault
+cut_if streams before after asked terminal part place telling first fault opened is cut = record {
+  first = first;
+  ready_told = opened;
+  cut = subst (λ t. IsCut t streams first after fault) is cut;
+}
+
+pub lost_if : (files : FilesKnown) (streams : StreamFaults) (before after : Streams) (asked : AskedFleet)
+    (terminal : Bool) (part : Scenario) (place : SocketAddr) (session : Session) (telling : Telling)
+    (first last : Streams) (r : Result Status Refusal)
+    → IsReadyTold asked.json (length part.rows) place before first
+    → IsServed part asked.play asked.seconds session → telling ≡ telling_for asked terminal part
+    → AreTold telling session.second first last → after.errors ≡ last.errors
+    → IfErr r (λ e. IsUnconcluded files streams (without_errors last) (without_errors after) asked session e.fault)
+    → IfErr r (λ e. IsSessionFault files streams before after asked terminal part place e.fault)
+lost_if files streams before after asked terminal part place session telling first last (Ok status) opened were is told
+    quiet why = tt
+lost_if files streams before after asked terminal part place session telling first last (Err e) opened were is told
+    quiet why =
+    inr (inr (record {
+      first = first;
+      ready_told = opened;
+      session = session;
+      served = were;
+      last = last;
+      told = subst (λ t. AreTold t session.second first last) is told;
+      why = why;
+      quiet = quiet;
+    }))
 
 -- ---- the command
 
--- what a conclusion sees, which has neither an input nor standard error
-abbrev pub aside : World → World
-aside world = record {
-  made = world.made;
-  streams = record { input = None; output = world.streams.output; errors = None };
-}
+pub fleet_done : (files : FilesKnown) (before after : World) (asked : AskedFleet) (terminal : Bool) (part : Scenario)
+    (place : SocketAddr) (r : Result Status Refusal) → AreReady files asked part place
+    → IfOk r (IsSessionDone before after asked terminal part place)
+    → IfOk r (IsFleetDone files before after asked terminal)
+fleet_done files before after asked terminal part place (Err e) there done = tt
+fleet_done files before after asked terminal part place (Ok status) there done =
+    record { part = part; place = place; ready = there; done = done }
 
-pub done_if : (files : FilesKnown) (before after : World) (asked : AskedFleet) (part : Scenario) (session : Session)
-    (r : Result Status Refusal) → AreReady files before.streams.errors after.streams.errors asked part
-    → IsServed part asked.seconds session → IfOk r (IsConcluded (aside before) (aside after) asked part session)
-    → IfOk r (IsFleetDone files before after asked)
-done_if files before after asked part session (Err e) were_ready were_served done = tt
-done_if files before after asked part session (Ok status) were_ready were_served done = record {
-  part = part;
-  ready = were_ready;
-  session = session;
-  served = were_served;
-  concluded = record { printed = done.printed; saved = done.saved; ended = done.ended };
-}
-
-pub session_lost_if : (files : FilesKnown) (faults : StreamFaults) (before after : Streams) (asked : AskedFleet)
-    (part : Scenario) (session : Session) (r : Result Status Refusal)
-    → AreReady files before.errors after.errors asked part → IsServed part asked.seconds session
-    → IfErr r (λ e. IsUnconcluded files faults before after asked session e.fault)
-    → IfErr r (λ e. IsFleetFault files faults before after asked e.fault)
-session_lost_if files faults before after asked part session (Ok status) were_ready were_served why = tt
-session_lost_if files faults before after asked part session (Err e) were_ready were_served why =
-    inr (inr (inr (record {
-      part = part;
-      ready = were_ready;
-      session = session;
-      served = were_served;
-      why = why;
-    })))
+pub fleet_broken : (files : FilesKnown) (streams : StreamFaults) (before after : Streams) (asked : AskedFleet)
+    (terminal : Bool) (part : Scenario) (place : SocketAddr) (r : Result Status Refusal)
+    → AreReady files asked part place
+    → IfErr r (λ e. IsSessionFault files streams before after asked terminal part place e.fault)
+    → IfErr r (λ e. IsFleetFault files streams before after asked terminal e.fault)
+fleet_broken files streams before after asked terminal part place (Ok status) there why = tt
+fleet_broken files streams before after asked terminal part place (Err e) there why =
+    inr (record { part = part; place = place; ready = there; why = why })

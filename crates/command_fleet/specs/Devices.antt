@@ -1,7 +1,9 @@
 -- Which devices of a scenario are put on ports.
-use Rattle.std.specs.Prelude.{ℕ, ◌≡◌, ◌+◌, ◌-◌, ◌<◌, ◌≤◌, ◌==◌, List, [], length, map, take, drop, Option, None, Some}
+use Rattle.std.specs.Prelude.{ℕ, ◌≡◌, ◌+◌, ◌-◌, ◌%◌, ◌<◌, ◌≤◌, ◌==◌, Bool, List, length, Option, None, Some}
+use Rattle.std.specs.Prelude.{option_map, slice_get, unwrap_or}
 use Rattle.std.specs.List.{after_first, before_first}
 use Rattle.command_line.specs.Words.{SpellsNumber}
+use Rattle.fleet_link.specs.Playing.{played_steps}
 use Rattle.scenario_image.specs.Scenario.{Row, Scenario}
 use Rattle.command_fleet.specs.declared.devices.Devices.{Devices}
 
@@ -26,13 +28,19 @@ pub record AreChosen (s : Scenario) (text : Option (List ℕ)) (devices : Device
   pub some : devices.first ≤ devices.last
   pub there : devices.last < length s.rows
 
--- a row without its steps
-abbrev pub unstarted : Row → Row
-unstarted row = record row { steps = [] }
+-- how many they are
+abbrev pub count_of : Devices → ℕ
+count_of devices = devices.last + 1 - devices.first
 
--- the scenario that has the rows of these devices alone, without their steps
-abbrev pub part_of : Scenario → Devices → Scenario
-part_of s devices = record {
-  classes = s.classes;
-  rows = map unstarted (take (devices.last + 1 - devices.first) (drop devices.first s.rows));
-}
+-- a row with the steps that are played: all but its datagrams, or none
+abbrev pub row_to_play : Bool → Row → Row
+row_to_play played row = record row { steps = played_steps played row.steps }
+
+-- a scenario has the classes of another and the rows of these devices, one after another; with `--copies` so many, over
+-- and over
+pub record IsPart (s : Scenario) (devices : Devices) (copies : Option ℕ) (played : Bool) (part : Scenario) : Type 0
+  where
+    pub classes : part.classes ≡ s.classes
+    pub count : length part.rows ≡ unwrap_or copies (count_of devices)
+    pub each : (k : ℕ) → k < length part.rows → slice_get part.rows k
+        ≡ option_map (row_to_play played) (slice_get s.rows (devices.first + k % count_of devices))

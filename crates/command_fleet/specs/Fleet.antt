@@ -1,8 +1,7 @@
--- What `fleet FILE PORT ..` comes to: devices of a scenario are served for a session, then its line is printed, and
--- then their steps are saved as a scenario.
-use Rattle.std.specs.Prelude.{⊤, ℕ, ◌≡◌, ◌⊎◌, ◌≤◌, ◌==◌, ◌&&◌, Bool, false, not, List, [], ◌∷◌, ◌++◌, length, map}
-use Rattle.std.specs.Prelude.{Option}
-use Rattle.std.specs.Prelude.{None, Some, codes, option_map, if◌then◌else◌}
+-- What `fleet FILE PORT ..` comes to: devices of a scenario are served for a session, whose seconds are told; then its
+-- line is printed, and then their steps are saved as a scenario.
+use Rattle.std.specs.Prelude.{⊤, ℕ, ◌≡◌, ◌⊎◌, ◌≤◌, ◌==◌, ◌&&◌, Bool, true, false, not, List, [], ◌∷◌, ◌++◌, length}
+use Rattle.std.specs.Prelude.{map, count_by, Option, None, Some, codes, option_map, if◌then◌else◌}
 use Rattle.std.specs.Fmt.{decimal}
 use Rattle.std.specs.Io.KnownBytes.{Appends}
 use Rattle.std.specs.Net.Grammar.{IsIpText}
@@ -30,10 +29,14 @@ use Rattle.command_files.specs.declared.status.Status.{Status}
 use Rattle.command_files.specs.declared.status.Status.TheVariants as ends
 use Rattle.command_sources.specs.Sources.{IsNoScenario, IsScenarioOf}
 use Rattle.command_fleet.specs.declared.devices.Devices.{Devices}
-use Rattle.command_fleet.specs.Devices.{AreChosen, part_of}
+use Rattle.command_fleet.specs.declared.telling.Telling.{Telling}
+use Rattle.command_fleet.specs.Devices.{AreChosen, IsPart}
+use Rattle.command_fleet.specs.InJson.{done_json, ready_json}
 use Rattle.command_fleet.specs.Servers.{AreServers}
+use Rattle.command_fleet.specs.Telling.{AreTold, IsCut, telling_of}
+use Rattle.trace_json.specs.Writing.{json_line}
 
--- ---- the session
+-- ---- devices that are served
 
 -- what came of a session: the devices, the second at its end, and how many datagrams went through the ports
 pub record Session : Type 0 where
@@ -48,11 +51,11 @@ pub record IsEndless (second : ℕ) : Type 0 where
   pub second_is : second ≡ second_of readings
 
 -- the devices of a scenario were served, each from the start of its class to the end of the session, which has at least
--- these seconds, at ports of which nothing else is known
-pub record IsServed (s : Scenario) (seconds : ℕ) (session : Session) : Type 0 where
+-- these seconds, at ports of which nothing else is known; their rows were played, or were not
+pub record IsServed (s : Scenario) (played : Bool) (seconds : ℕ) (session : Session) : Type 0 where
   pub before : ℕ → Option Traffic
   pub after : ℕ → Option Traffic
-  pub fleet : IsFleet s false before session.slots session.second false after
+  pub fleet : IsFleet s played before session.slots session.second false after
   pub finished : AreAt session.slots (length session.slots) session.second
   pub ended : (seconds ≤ session.second) ⊎ IsEndless session.second
 
@@ -79,16 +82,23 @@ abbrev pub ready_line : ℕ → SocketAddr → List ℕ
 ready_line devices place =
     ended_line (codes "lwbench: ready " ++ decimal devices ++ codes " at " ++ socket_text place)
 
--- the devices that are asked for are there, the first of them at this place, and that was told
-pub record AreReady (files : FilesKnown) (before after : Option (List ℕ)) (asked : AskedFleet) (part : Scenario)
-    : Type 0 where
+-- its object, if JSON is asked for
+abbrev pub ready_text : Bool → ℕ → SocketAddr → List ℕ
+ready_text false devices place = []
+ready_text true devices place = json_line (ready_json devices place)
+
+-- the devices that are asked for are there, with the steps that are to be played, the first of them at this place
+pub record AreReady (files : FilesKnown) (asked : AskedFleet) (part : Scenario) (place : SocketAddr) : Type 0 where
   pub scenario : Scenario
   pub devices : Devices
   pub asked_for : AreAskedFor files asked scenario devices
-  pub part_is : part ≡ part_of scenario devices
-  pub place : SocketAddr
+  pub part_is : IsPart scenario devices asked.copies asked.play part
   pub place_is : IsPlace asked.bind.now asked.port place
-  pub told : Appends before after (ready_line (length part.rows) place)
+
+-- it was told that so many devices are there, the first of them at this place
+pub record IsReadyTold (json : Bool) (devices : ℕ) (place : SocketAddr) (before after : Streams) : Type 0 where
+  pub shown : Appends before.errors after.errors (ready_line devices place)
+  pub printed : Appends before.output after.output (ready_text json devices place)
 
 -- ---- its line
 
@@ -98,17 +108,33 @@ counts_words counts =
     codes "received " ++ decimal counts.received ++ codes " sent " ++ decimal counts.sent ++ codes " dropped "
     ++ decimal counts.dropped ++ codes " lost " ++ decimal counts.lost
 
-abbrev pub counted_line : ℕ → ℕ → List ℕ → List ℕ
-counted_line seconds devices counted =
+-- ` cut N`, where a row of what is saved is cut
+abbrev pub cut_words : ℕ → List ℕ
+cut_words cut = if cut == 0 then [] else codes " cut " ++ decimal cut
+
+abbrev pub counted_line : ℕ → ℕ → List ℕ → List ℕ → List ℕ
+counted_line seconds devices counted cut =
     ended_line (codes "done seconds " ++ decimal seconds ++ codes " devices " ++ decimal devices ++ codes " "
-    ++ counted)
+    ++ counted ++ cut)
 
--- `done seconds S devices N received N sent N dropped N lost N`
-abbrev pub done_line : ℕ → ℕ → Counts → List ℕ
-done_line seconds devices counts = counted_line seconds devices (counts_words counts)
+-- `done seconds S devices N received N sent N dropped N lost N`, and how many rows are cut
+abbrev pub done_line : ℕ → ℕ → Counts → ℕ → List ℕ
+done_line seconds devices counts cut = counted_line seconds devices (counts_words counts) (cut_words cut)
 
-abbrev pub line_of : Session → List ℕ
-line_of session = done_line session.second (length session.slots) session.counts
+-- how many rows of what is saved end before the session did
+abbrev pub cut_of : Option (List ℕ) → List Slot → ℕ
+cut_of None slots = 0
+cut_of (Some path) slots = count_by (λ (slot : Slot). not slot.recording.complete) slots
+
+-- the line of a session of which so many rows are cut, or its object
+abbrev pub line_of : Bool → ℕ → Session → List ℕ
+line_of false cut session = done_line session.second (length session.slots) session.counts cut
+line_of true cut session = json_line (done_json session.second (length session.slots) session.counts cut)
+
+-- what is printed at the end: the line of the session, or its object if JSON is asked for
+abbrev pub end_text : AskedFleet → Session → List ℕ
+end_text asked session =
+    line_of asked.json (cut_of (option_map (λ p. p.now) asked.save) session.slots) session
 
 -- status 3, with `--strict`, where a datagram was dropped or lost
 abbrev pub status_of : Bool → Counts → Status
@@ -150,26 +176,80 @@ IsUnsaved refuses (Some path) fault = IsSaveFault refuses path fault
 -- the session's line was printed, and the steps were saved, if they are to be; and the status tells of losses
 pub record IsConcluded (before after : World) (asked : AskedFleet) (part : Scenario) (session : Session)
     (status : Status) : Type 0 where
-  pub printed : Appends before.streams.output after.streams.output (line_of session)
+  pub printed : Appends before.streams.output after.streams.output (end_text asked session)
   pub saved : IsSavedIf before.made after.made (option_map (λ p. p.now) asked.save) part session.slots
   pub ended : status ≡ status_of asked.strict session.counts
 
 -- the session's line was not printed; or it was, and then the steps were not saved
 abbrev pub IsUnconcluded : FilesKnown → StreamFaults → Streams → Streams → AskedFleet → Session → Fault → Type 0
 IsUnconcluded files faults before after asked session fault =
-    IsWritingFault (faults.output_refuses (line_of session)) fault
-    ⊎ (Appends before.output after.output (line_of session)
+    IsWritingFault (faults.output_refuses (end_text asked session)) fault
+    ⊎ (Appends before.output after.output (end_text asked session)
     × IsUnsaved files.refuses (option_map (λ p. p.now) asked.save) fault)
+
+-- ---- a session
+
+-- how the seconds of these devices are told
+abbrev pub telling_for : AskedFleet → Bool → Scenario → Telling
+telling_for asked terminal part = telling_of asked.json terminal (length part.rows)
+
+-- it was told that the devices are there; then they were served, and each second was told; and then the session was
+-- concluded, of which standard error heard nothing
+pub record IsSessionDone (before after : World) (asked : AskedFleet) (terminal : Bool) (part : Scenario)
+    (place : SocketAddr) (status : Status) : Type 0 where
+  pub first : Streams
+  pub ready_told : IsReadyTold asked.json (length part.rows) place before.streams first
+  pub session : Session
+  pub served : IsServed part asked.play asked.seconds session
+  pub last : Streams
+  pub told : AreTold (telling_for asked terminal part) session.second first last
+  pub concluded : IsConcluded (record { made = before.made; streams = last }) after asked part session status
+  pub quiet : after.streams.errors ≡ last.errors
+
+-- it was not told that the devices are there: standard error did not take the line; or it did, and standard output did
+-- not take the object
+abbrev pub IsUntold : StreamFaults → Streams → Streams → AskedFleet → Scenario → SocketAddr → Fault → Type 0
+IsUntold streams before after asked part place fault =
+    (IsWritingFault (streams.errors_refuse (ready_line (length part.rows) place)) fault
+    × (after.output ≡ before.output))
+    ⊎ (Appends before.errors after.errors (ready_line (length part.rows) place)
+    × IsWritingFault (streams.output_refuses (ready_text asked.json (length part.rows) place)) fault)
+
+-- it was told, and then the session was broken off
+pub record IsSessionCut (streams : StreamFaults) (before after : Streams) (asked : AskedFleet) (terminal : Bool)
+    (part : Scenario) (place : SocketAddr) (fault : Fault) : Type 0 where
+  pub first : Streams
+  pub ready_told : IsReadyTold asked.json (length part.rows) place before first
+  pub cut : IsCut (telling_for asked terminal part) streams first after fault
+
+-- it came to its end, and was not concluded
+pub record IsSessionLost (files : FilesKnown) (streams : StreamFaults) (before after : Streams) (asked : AskedFleet)
+    (terminal : Bool) (part : Scenario) (place : SocketAddr) (fault : Fault) : Type 0 where
+  pub first : Streams
+  pub ready_told : IsReadyTold asked.json (length part.rows) place before first
+  pub session : Session
+  pub served : IsServed part asked.play asked.seconds session
+  pub last : Streams
+  pub told : AreTold (telling_for asked terminal part) session.second first last
+  pub why : IsUnconcluded files streams last after asked session fault
+  pub quiet : after.errors ≡ last.errors
+
+abbrev pub IsSessionFault : FilesKnown → StreamFaults → Streams → Streams → AskedFleet → Bool → Scenario → SocketAddr
+    → Fault → Type 0
+IsSessionFault files streams before after asked terminal part place fault =
+    IsUntold streams before after asked part place fault
+    ⊎ (IsSessionCut streams before after asked terminal part place fault
+    ⊎ IsSessionLost files streams before after asked terminal part place fault)
 
 -- ---- the command
 
--- a session went on and was concluded
-pub record IsFleetDone (files : FilesKnown) (before after : World) (asked : AskedFleet) (status : Status) : Type 0 where
+-- the devices are there, and have a session
+pub record IsFleetDone (files : FilesKnown) (before after : World) (asked : AskedFleet) (terminal : Bool)
+    (status : Status) : Type 0 where
   pub part : Scenario
-  pub ready : AreReady files before.streams.errors after.streams.errors asked part
-  pub session : Session
-  pub served : IsServed part asked.seconds session
-  pub concluded : IsConcluded before after asked part session status
+  pub place : SocketAddr
+  pub ready : AreReady files asked part place
+  pub done : IsSessionDone before after asked terminal part place status
 
 -- the scenario has no such devices; or it has, and the address is none, a server is wrong or their ports could not be
 -- had; or no memory was left
@@ -196,36 +276,15 @@ pub record IsNoSession (files : FilesKnown) (before after : Streams) (asked : As
   pub silent : after.output ≡ before.output
   pub untold : after.errors ≡ before.errors
 
--- the devices were there, and that could not be told
-pub record IsUntold (files : FilesKnown) (faults : StreamFaults) (before after : Streams) (asked : AskedFleet)
-    (fault : Fault) : Type 0 where
-  pub scenario : Scenario
-  pub devices : Devices
-  pub asked_for : AreAskedFor files asked scenario devices
-  pub place : SocketAddr
-  pub place_is : IsPlace asked.bind.now asked.port place
-  pub why : IsWritingFault (faults.errors_refuse (ready_line (length (part_of scenario devices).rows) place)) fault
-  pub silent : after.output ≡ before.output
-
--- a session was broken off: no memory was left, or the system failed at all ports
-pub record IsSessionCut (files : FilesKnown) (before after : Streams) (asked : AskedFleet) (fault : Fault) : Type 0
-  where
-    pub part : Scenario
-    pub ready : AreReady files before.errors after.errors asked part
-    pub why : (fault ≡ faults.Memory) ⊎ (fault ≡ faults.Bind)
-    pub silent : after.output ≡ before.output
-
--- a session went on, and was not concluded
-pub record IsSessionLost (files : FilesKnown) (faults : StreamFaults) (before after : Streams) (asked : AskedFleet)
-    (fault : Fault) : Type 0 where
+-- the devices are there, and their session has a fault
+pub record IsSessionBroken (files : FilesKnown) (streams : StreamFaults) (before after : Streams) (asked : AskedFleet)
+    (terminal : Bool) (fault : Fault) : Type 0 where
   pub part : Scenario
-  pub ready : AreReady files before.errors after.errors asked part
-  pub session : Session
-  pub served : IsServed part asked.seconds session
-  pub why : IsUnconcluded files faults before after asked session fault
+  pub place : SocketAddr
+  pub ready : AreReady files asked part place
+  pub why : IsSessionFault files streams before after asked terminal part place fault
 
-abbrev pub IsFleetFault : FilesKnown → StreamFaults → Streams → Streams → AskedFleet → Fault → Type 0
-IsFleetFault files faults before after asked fault =
+abbrev pub IsFleetFault : FilesKnown → StreamFaults → Streams → Streams → AskedFleet → Bool → Fault → Type 0
+IsFleetFault files streams before after asked terminal fault =
     IsNoSession files before after asked fault
-    ⊎ (IsUntold files faults before after asked fault
-    ⊎ (IsSessionCut files before after asked fault ⊎ IsSessionLost files faults before after asked fault))
+    ⊎ IsSessionBroken files streams before after asked terminal fault

@@ -1,3 +1,5 @@
 pub mod Devices
 pub mod Fleet
+pub mod InJson
 pub mod Servers
+pub mod Telling

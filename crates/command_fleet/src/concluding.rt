@@ -1,5 +1,5 @@
 //! What is printed of a session at its end, and what is saved of it.
-ghost use Rattle.std.specs.Prelude.{◌≡◌, None, IfErr, IfOk, OnErr, OnOk, length, option_map};
+ghost use Rattle.std.specs.Prelude.{◌≡◌, None, IfErr, IfOk, OnErr, OnOk, option_map};
 ghost use Rattle.std.specs.Io.KnownBytes.{Appends};
 ghost use Rattle.std.specs.String.{string_bytes};
 ghost use Rattle.fleet_link.specs.Saved.{IsSaved};
@@ -7,10 +7,13 @@ ghost use Rattle.scenario_image.specs.Image.{IsImageIn};
 ghost use Rattle.scenario_image.specs.Scenario.{Scenario as ScenarioData};
 ghost use Rattle.command_files.specs.Fault.{IsWritingFault};
 ghost use Rattle.command_fleet.specs.Fleet.{IsConcluded, IsSaveFault, IsSavedAt, IsSavedIf, IsUnconcluded, IsUnfit};
-ghost use Rattle.command_fleet.specs.Fleet.{IsUnsaved, counted_line, counts_words, done_line, status_of};
+ghost use Rattle.command_fleet.specs.Fleet.{IsUnsaved, counted_line, counts_words, cut_of, cut_words, done_line};
+ghost use Rattle.command_fleet.specs.Fleet.{line_of, status_of};
 
+use crate::in_json::done_object;
+use crate::telling::put;
 use command_files::files::Files;
-use command_files::{Fault, NewFile, Output, Refusal, Status, image_file, make, unwritten};
+use command_files::{Fault, NewFile, Output, Refusal, Status, image_file, make};
 use command_line::AskedFleet;
 use fleet_link::{Counts, Fleet};
 use scenario_image::Scenario;
@@ -27,28 +30,42 @@ fn counts_words(alloc: Global, counts: Counts) -> Result<String, AllocError>
     format!(in alloc; "received {received} sent {sent} dropped {dropped} lost {lost}")
 }
 
+/// How many rows of what is saved are cut, if one is.
+fn cut_words(alloc: Global, cut: usize) -> Result<String, AllocError>
+    ensures { IfOk result (λ text. string_bytes text ≡ cut_words cut) }
+{
+    if cut == 0 {
+        return Ok(String::new(alloc));
+    }
+    format!(in alloc; " cut {cut}")
+}
+
 fn counted_line(
     alloc: Global,
     seconds: u64,
     devices: usize,
     counted: &str,
+    cut: &str,
 ) -> Result<String, AllocError>
-    ensures { IfOk result (λ text. string_bytes text ≡ counted_line seconds devices counted.now) }
+    ensures { IfOk result (λ text. string_bytes text ≡ counted_line seconds devices counted.now cut.now) }
 {
-    format!(in alloc; "done seconds {seconds} devices {devices} {counted}\n")
+    format!(in alloc; "done seconds {seconds} devices {devices} {counted}{cut}\n")
 }
 
-/// How long a session was, how many devices it had, and how many datagrams went through their ports.
+/// How long a session was, how many devices it had, how many datagrams went through their ports, and how many rows of
+/// what is saved are cut.
 pub fn done_line(
     alloc: Global,
     seconds: u64,
     devices: usize,
     counts: Counts,
+    cut: usize,
 ) -> Result<String, AllocError>
-    ensures { IfOk result (λ text. string_bytes text ≡ done_line seconds devices counts) }
+    ensures { IfOk result (λ text. string_bytes text ≡ done_line seconds devices counts cut) }
 {
     let counted = counts_words(alloc, counts)?;
-    counted_line(alloc, seconds, devices, counted.as_str())
+    let cut = cut_words(alloc, cut)?;
+    counted_line(alloc, seconds, devices, counted.as_str(), cut.as_str())
 }
 
 /// Whether datagrams were dropped or lost, if the status is to tell that.
@@ -62,7 +79,7 @@ fn status_of(strict: bool, counts: Counts) -> Status
     }
 }
 
-/// Prints the line of a session, and then saves the devices' steps, if there is a path.
+/// Prints the line of a session, or its object, and then saves the devices' steps, if there is a path.
 pub fn conclude_session<'a, F: Files, O: Output>(
     alloc: Global,
     asked: &AskedFleet<'a>,
@@ -91,36 +108,58 @@ pub fn conclude_session<'a, F: Files, O: Output>(
         (record { input = None; output = O.taken output.new; errors = None })
         asked.now (record { slots = fleet.slots.items; second = fleet.second; counts = counts }) r.fault) }
 {
-    print_session(alloc, &fleet, counts, output)?;
+    let cut = cut_of(asked.save, &fleet);
+    print_session(alloc, asked.json, &fleet, counts, cut, output)?;
     save_steps(alloc, asked.save, part, fleet, files)?;
     Ok(status_of(asked.strict, counts))
 }
 
-/// The line of a session, after which the devices are these.
-fn session_line(alloc: Global, fleet: &Fleet, counts: Counts) -> Result<String, AllocError>
-    ensures { IfOk result (λ text. string_bytes text
-        ≡ done_line fleet.now.second (length fleet.now.slots.items) counts) }
+/// How many rows of what is saved end before the session did.
+fn cut_of(save: Option<&str>, fleet: &Fleet) -> usize
+    ensures { result ≡ cut_of (option_map (λ p. p.now) save.entry) fleet.now.slots.items }
 {
-    done_line(alloc, fleet.second(), fleet.devices().len(), counts)
+    match save {
+        None => 0,
+        Some(_) => fleet.cut_rows(),
+    }
 }
 
-#[tactic(auto, using(command_files::proofs::Delivered::unwritten))]
-fn print_session<'a, O: Output>(
+/// The line of a session, or its object, after which the devices are these.
+fn session_line(
     alloc: Global,
+    json: bool,
     fleet: &Fleet,
     counts: Counts,
+    cut: usize,
+) -> Result<String, AllocError>
+    ensures { IfOk result (λ text. string_bytes text ≡ line_of json cut
+        (record { slots = fleet.now.slots.items; second = fleet.now.second; counts = counts })) }
+{
+    if json {
+        done_object(alloc, fleet.second(), fleet.devices().len(), counts, cut)
+    } else {
+        done_line(alloc, fleet.second(), fleet.devices().len(), counts, cut)
+    }
+}
+
+fn print_session<'a, O: Output>(
+    alloc: Global,
+    json: bool,
+    fleet: &Fleet,
+    counts: Counts,
+    cut: usize,
     output: &mut O,
 ) -> Result<(), Refusal<'a>>
     ensures printed { OnOk result (Appends (O.taken output.old) (O.taken output.new)
-        (done_line fleet.now.second (length fleet.now.slots.items) counts)) }
+        (line_of json cut
+        (record { slots = fleet.now.slots.items; second = fleet.now.second; counts = counts }))) }
     ensures refused { IfErr result (λ r. IsWritingFault
-        (O.refuses (done_line fleet.now.second (length fleet.now.slots.items) counts)) r.fault) }
+        (O.refuses
+        (line_of json cut (record { slots = fleet.now.slots.items; second = fleet.now.second; counts = counts })))
+        r.fault) }
 {
-    let text = session_line(alloc, fleet, counts)?;
-    match output.print(text.as_str()) {
-        Ok(()) => Ok(()),
-        Err(fault) => Err(unwritten("standard output", fault)),
-    }
+    let text = session_line(alloc, json, fleet, counts, cut)?;
+    put(text.as_str(), "standard output", output)
 }
 
 /// Saves the devices' steps as a scenario, if there is a path.

@@ -1,9 +1,11 @@
 //! Which devices of a scenario are put on ports.
-ghost use Rattle.std.specs.Prelude.{◌≡◌, ◌<◌, ◌≤◌, [], IfErr, IfNone, IfOk, IfSome, Some, length, option_map};
+ghost use Rattle.std.specs.Prelude.{◌≡◌, ◌+◌, ◌%◌, ◌<◌, ◌≤◌, [], IfErr, IfNone, IfOk, IfSome, Some, length, option_map};
+ghost use Rattle.std.specs.Prelude.{unwrap_or};
 ghost use Rattle.command_fleet.specs.declared.devices.Devices.{Devices as DevicesData};
-ghost use Rattle.command_fleet.specs.Devices.{AreChosen, IsRange, part_of};
+ghost use Rattle.command_fleet.specs.Devices.{AreChosen, IsPart, IsRange, count_of};
 ghost use Rattle.command_line.specs.Words.{IsOptionalNumber, SpellsNumber};
 
+use crate::rows::{add_row, steps_to_play};
 use command_files::Fault;
 use scenario_image::Scenario;
 use std::alloc::Global;
@@ -86,24 +88,51 @@ fn copy_classes(alloc: Global, scenario: &Scenario) -> Result<Scenario, Fault>
     Ok(copy)
 }
 
-/// The scenario that has the rows of these devices alone, without their steps. A part of a valid scenario is valid:
-/// only memory may lack for it.
-pub fn part_of(alloc: Global, scenario: &Scenario, devices: Devices) -> Result<Scenario, Fault>
+/// How many devices there are: as many as copies are asked for, or one for each row.
+fn count_of(devices: Devices, copies: Option<u16>) -> usize
+    requires { devices.first ≤ devices.last }
+    ensures { result ≡ unwrap_or copies (count_of devices) }
+{
+    match copies {
+        None => usize::from(devices.last) + 1 - usize::from(devices.first),
+        Some(copies) => usize::from(copies),
+    }
+}
+
+/// Which row of the scenario is that of the device at this place.
+fn row_at(devices: Devices, place: usize) -> u16
+    requires { devices.first ≤ devices.last }
+    ensures { result ≡ devices.first + place % count_of devices }
+{
+    let width = u32::from(devices.last) + 1 - u32::from(devices.first);
+    let row = usize::from(devices.first) + place % width as usize;
+    row as u16
+}
+
+/// The classes of a scenario and the rows of these devices, one after another; so many of them, over and over, if a
+/// number is given. They have the steps that are played, if they are. A part of a valid scenario is valid: only memory
+/// may lack for it.
+pub fn part_of(
+    alloc: Global,
+    scenario: &Scenario,
+    devices: Devices,
+    copies: Option<u16>,
+    played: bool,
+) -> Result<Scenario, Fault>
     requires some { devices.first ≤ devices.last }
     requires there { devices.last < length scenario.now.rows }
-    ensures part { IfOk result (λ part. part ≡ part_of scenario.now devices) }
+    ensures part { IfOk result (IsPart scenario.now devices copies played) }
     ensures refused { IfErr result (λ fault. fault ≡ Fault.Memory) }
 {
     // The proof needs that the scenario is valid, which this call says.
     let _valid = scenario.rows();
     let mut part = copy_classes(alloc, scenario)?;
-    let first = usize::from(devices.first);
-    let count = usize::from(devices.last) + 1 - first;
-    for place in 0..count {
-        let Some((class, _)) = scenario.row((first + place) as u16) else {
+    for place in 0..count_of(devices, copies) {
+        let Some((class, steps)) = scenario.row(row_at(devices, place)) else {
             return Err(Fault::Memory);
         };
-        match part.add_row(class) {
+        let own = steps_to_play(alloc, steps, played)?;
+        match add_row(&mut part, class, own) {
             Ok(()) => {}
             Err(_) => return Err(Fault::Memory),
         }

@@ -2,14 +2,21 @@
 #![tactic(auto)]
 
 mod concluding;
+mod counted;
 mod devices;
+mod in_json;
 mod places;
+mod rows;
 mod servers;
 mod serving;
 mod session;
+mod telling;
 
 pub use concluding::{conclude_session, done_line};
+pub use counted::Counted;
 pub use devices::{Devices, chosen_devices, part_of};
+pub use in_json::{done_object, ready_object, second_line};
 pub use places::ready_line;
 pub use serving::serve_part;
 pub use session::fleet;
+pub use telling::{Telling, progress_line, telling_of};

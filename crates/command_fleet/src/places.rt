@@ -5,7 +5,8 @@ ghost use Rattle.std.specs.String.{string_bytes};
 ghost use Rattle.command_files.specs.Fault.{IsWritingFault};
 ghost use Rattle.command_fleet.specs.Fleet.{IsPlace, ready_line};
 
-use command_files::{Fault, Output, Refusal, Why, unwritten};
+use crate::telling::put;
+use command_files::{Fault, Output, Refusal, Why};
 use fleet_link::{BindFault, FixedServer, UdpPorts};
 use scenario_image::Scenario;
 use std::alloc::{AllocError, Global};
@@ -90,7 +91,6 @@ pub fn ready_line(alloc: Global, devices: usize, place: SocketAddr) -> Result<St
 }
 
 /// Tells a person, or a script, that all ports are there.
-#[tactic(auto, using(command_files::proofs::Delivered::unwritten))]
 pub(crate) fn tell_ready<'a, E: Output>(
     alloc: Global,
     devices: usize,
@@ -101,8 +101,5 @@ pub(crate) fn tell_ready<'a, E: Output>(
     ensures refused { IfErr result (λ r. IsWritingFault (E.refuses (ready_line devices place)) r.fault) }
 {
     let text = ready_line(alloc, devices, place)?;
-    match errors.print(text.as_str()) {
-        Ok(()) => Ok(()),
-        Err(fault) => Err(unwritten("standard error", fault)),
-    }
+    put(text.as_str(), "standard error", errors)
 }

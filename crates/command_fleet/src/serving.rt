@@ -1,13 +1,20 @@
 //! Devices of a scenario on ports, for a session.
-ghost use Rattle.std.specs.Prelude.{◌≡◌, ◌≤◌, ◌⊎◌, IfErr, IfOk, false, length};
+ghost use Rattle.std.specs.Prelude.{ℕ, ◌≡◌, ◌+◌, ◌≤◌, ◌⊎◌, Bool, Option, None, List, IfErr, IfOk, OnOk, false, length};
+ghost use Rattle.scenario_image.specs.Scenario.{Scenario as ScenarioData};
 ghost use Rattle.fleet_link.specs.Serving.{AreAt, IsFleet};
 ghost use Rattle.fleet_link.specs.Timing.{AreAsked};
+ghost use Rattle.fleet_link.specs.Traffic.{Traffic};
+ghost use Rattle.command_files.specs.World.{Streams};
+ghost use Rattle.command_fleet.specs.Telling.{AreTold, IsCut};
 
-use command_files::Fault;
+use crate::counted::Counted;
+use crate::telling::{Telling, tell_second};
+use command_files::{Fault, Output, Refusal};
+use command_line::AskedFleet;
 use fleet_link::{Fleet, FleetFault, Ports};
 use live_link::Seconds;
 use scenario_image::Scenario;
-use std::alloc::Global;
+use std::alloc::{AllocError, Global};
 
 /// The fault of a session that was broken off.
 fn fault_of(fault: FleetFault) -> Fault
@@ -19,26 +26,169 @@ fn fault_of(fault: FleetFault) -> Fault
     }
 }
 
-/// All devices of a scenario are served on these ports, for so many seconds of this clock. Their steps are recorded if
-/// they are to be saved.
-pub fn serve_part<P: Ports, C: Seconds>(
+/// The devices of a scenario at their start. Their rows are played, or are not; their steps are recorded if they are to
+/// be saved.
+fn start(alloc: Global, part: &Scenario, played: bool, saved: bool) -> Result<Fleet, AllocError>
+    ensures fleet { (told : ℕ → Option Traffic)
+        → IfOk result (λ fleet. IsFleet part.now played told fleet.slots.items fleet.second false told) }
+    ensures second { IfOk result (λ fleet. fleet.second ≡ 0) }
+    ensures began { IfOk result (λ fleet. fleet.began ≡ None) }
+{
+    if played {
+        Fleet::start_played(alloc, part, saved)
+    } else {
+        Fleet::start(alloc, part, saved)
+    }
+}
+
+/// Makes a turn of all devices, and tells the second that it comes to, if it is a later one.
+fn turn<'a, P: Ports + Counted, C: Seconds, O: Output, E: Output>(
     alloc: Global,
-    part: &Scenario,
+    telling: Telling,
+    fleet: &mut Fleet,
     ports: &mut P,
     clock: &mut C,
-    seconds: u32,
-    saved: bool,
-) -> Result<Fleet, Fault>
-    ensures fleet { IfOk result (λ fleet. IsFleet part.now false (P.told ports.old) fleet.slots.items fleet.second false
-        (P.told ports.new)) }
-    ensures finished { IfOk result (λ fleet. AreAt fleet.slots.items (length fleet.slots.items) fleet.second) }
-    ensures ended { IfOk result (λ fleet. (seconds ≤ fleet.second) ⊎ AreAsked (C.read clock.old) (C.read clock.new)
-        (P.asked ports.old) (P.asked ports.new) fleet.began fleet.second 18446744073709551615) }
-    ensures refused { IfErr result (λ fault. (fault ≡ Fault.Memory) ⊎ (fault ≡ Fault.Bind)) }
+    output: &mut O,
+    errors: &mut E,
+) -> Result<(), Refusal<'a>>
+    ensures fleet { (s : ScenarioData) (played : Bool) (before : ℕ → Option Traffic)
+        → IsFleet s played before fleet.old.slots.items fleet.old.second false (P.told ports.old)
+        → OnOk result (IsFleet s played before fleet.new.slots.items fleet.new.second false (P.told ports.new)) }
+    ensures asked { (read_before asked_before : Option (List ℕ)) (calls : ℕ)
+        → AreAsked read_before (C.read clock.old) asked_before
+        (P.asked ports.old) fleet.old.began fleet.old.second calls
+        → OnOk result (AreAsked read_before (C.read clock.new) asked_before (P.asked ports.new) fleet.new.began
+        fleet.new.second (calls + 1)) }
+    ensures told { (start : Streams)
+        → AreTold telling fleet.old.second start
+        (record { input = None; output = O.taken output.old; errors = E.taken errors.old })
+        → OnOk result (AreTold telling fleet.new.second start
+        (record { input = None; output = O.taken output.new; errors = E.taken errors.new })) }
+    ensures cut { (start : Streams)
+        → AreTold telling fleet.old.second start
+        (record { input = None; output = O.taken output.old; errors = E.taken errors.old })
+        → IfErr result (λ r. IsCut telling
+        (record { input_fails = ⊥; output_refuses = O.refuses; errors_refuse = E.refuses }) start
+        (record { input = None; output = O.taken output.new; errors = E.taken errors.new }) r.fault) }
 {
-    let mut fleet = Fleet::start(alloc, part, saved)?;
-    match fleet.serve(ports, clock, u64::MAX, u64::from(seconds)) {
+    let last = fleet.second();
+    match fleet.turn(ports, clock) {
+        Ok(()) => tell_if_later(alloc, telling, last, fleet.second(), ports, output, errors),
+        Err(fault) => Err(Refusal::from(fault_of(fault))),
+    }
+}
+
+/// Tells a second, if it is later than the last one.
+fn tell_if_later<'a, P: Counted, O: Output, E: Output>(
+    alloc: Global,
+    telling: Telling,
+    last: u64,
+    second: u64,
+    ports: &P,
+    output: &mut O,
+    errors: &mut E,
+) -> Result<(), Refusal<'a>>
+    requires { last ≤ second }
+    ensures told { (start : Streams)
+        → AreTold telling last start
+        (record { input = None; output = O.taken output.old; errors = E.taken errors.old })
+        → OnOk result (AreTold telling second start
+        (record { input = None; output = O.taken output.new; errors = E.taken errors.new })) }
+    ensures cut { (start : Streams)
+        → AreTold telling last start
+        (record { input = None; output = O.taken output.old; errors = E.taken errors.old })
+        → IfErr result (λ r. IsCut telling
+        (record { input_fails = ⊥; output_refuses = O.refuses; errors_refuse = E.refuses }) start
+        (record { input = None; output = O.taken output.new; errors = E.taken errors.new }) r.fault) }
+{
+    if second == last {
+        return Ok(());
+    }
+    tell_second(alloc, telling, second, ports, output, errors)
+}
+
+/// Makes turns until this second of the session, at most so many, and tells each second that comes.
+fn go_on<'a, P: Ports + Counted, C: Seconds, O: Output, E: Output>(
+    alloc: Global,
+    telling: Telling,
+    fleet: &mut Fleet,
+    ports: &mut P,
+    clock: &mut C,
+    turns: u64,
+    until: u64,
+    output: &mut O,
+    errors: &mut E,
+) -> Result<(), Refusal<'a>>
+    ensures fleet { (s : ScenarioData) (played : Bool) (before : ℕ → Option Traffic)
+        → IsFleet s played before fleet.old.slots.items fleet.old.second false (P.told ports.old)
+        → OnOk result (IsFleet s played before fleet.new.slots.items fleet.new.second false (P.told ports.new)) }
+    ensures stop { (read_before asked_before : Option (List ℕ)) (calls : ℕ)
+        → AreAsked read_before (C.read clock.old) asked_before
+        (P.asked ports.old) fleet.old.began fleet.old.second calls
+        → OnOk result ((until ≤ fleet.new.second) ⊎ AreAsked read_before (C.read clock.new) asked_before
+        (P.asked ports.new) fleet.new.began fleet.new.second (calls + turns)) }
+    ensures told { (start : Streams)
+        → AreTold telling fleet.old.second start
+        (record { input = None; output = O.taken output.old; errors = E.taken errors.old })
+        → OnOk result (AreTold telling fleet.new.second start
+        (record { input = None; output = O.taken output.new; errors = E.taken errors.new })) }
+    ensures cut { (start : Streams)
+        → AreTold telling fleet.old.second start
+        (record { input = None; output = O.taken output.old; errors = E.taken errors.old })
+        → IfErr result (λ r. IsCut telling
+        (record { input_fails = ⊥; output_refuses = O.refuses; errors_refuse = E.refuses }) start
+        (record { input = None; output = O.taken output.new; errors = E.taken errors.new }) r.fault) }
+{
+    for _turn in 0..turns {
+        if fleet.second() >= until {
+            return Ok(());
+        }
+        turn(alloc, telling, fleet, ports, clock, output, errors)?;
+    }
+    Ok(())
+}
+
+/// All devices of a scenario are served on these ports, for so many seconds of this clock as are asked for, and each
+/// second is told. Their rows are played, and their steps recorded, if that is asked for.
+#[tactic(auto, using(crate::proofs::Told::cut_at_start))]
+pub fn serve_part<'a, P: Ports + Counted, C: Seconds, O: Output, E: Output>(
+    alloc: Global,
+    asked: &AskedFleet<'a>,
+    part: &Scenario,
+    telling: Telling,
+    ports: &mut P,
+    clock: &mut C,
+    output: &mut O,
+    errors: &mut E,
+) -> Result<Fleet, Refusal<'a>>
+    ensures fleet { IfOk result (λ fleet. IsFleet part.now asked.now.play (P.told ports.old) fleet.slots.items
+        fleet.second false (P.told ports.new)) }
+    ensures finished { IfOk result (λ fleet. AreAt fleet.slots.items (length fleet.slots.items) fleet.second) }
+    ensures ended { IfOk result (λ fleet. (asked.now.seconds ≤ fleet.second) ⊎ AreAsked (C.read clock.old)
+        (C.read clock.new) (P.asked ports.old) (P.asked ports.new) fleet.began fleet.second 18446744073709551615) }
+    ensures told { IfOk result (λ fleet. AreTold telling fleet.second
+        (record { input = None; output = O.taken output.old; errors = E.taken errors.old })
+        (record { input = None; output = O.taken output.new; errors = E.taken errors.new })) }
+    ensures cut { IfErr result (λ r. IsCut telling
+        (record { input_fails = ⊥; output_refuses = O.refuses; errors_refuse = E.refuses })
+        (record { input = None; output = O.taken output.old; errors = E.taken errors.old })
+        (record { input = None; output = O.taken output.new; errors = E.taken errors.new }) r.fault) }
+{
+    let mut fleet = start(alloc, part, asked.play, asked.save.is_some())?;
+    let until = u64::from(asked.seconds);
+    go_on(
+        alloc,
+        telling,
+        &mut fleet,
+        ports,
+        clock,
+        u64::MAX,
+        until,
+        output,
+        errors,
+    )?;
+    match fleet.finish(ports) {
         Ok(()) => Ok(fleet),
-        Err(fault) => Err(fault_of(fault)),
+        Err(fault) => Err(Refusal::from(fault_of(fault))),
     }
 }

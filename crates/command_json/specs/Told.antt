@@ -11,7 +11,7 @@ use Rattle.command_files.specs.FaultLine.{case_cause, case_word, fault_word, pla
 use Rattle.command_files.specs.Refusals.{IsReported}
 use Rattle.command_files.specs.World.{StreamFaults, Streams}
 use Rattle.command_files.specs.declared.fault.Fault.{Fault}
-use Rattle.command_files.specs.declared.fault.Fault.TheVariants.{Cases, Hex, NoDatagram, NoSuchCase, Text}
+use Rattle.command_files.specs.declared.fault.Fault.TheVariants.{Bind, Cases, Hex, NoDatagram, NoDevice, NoSuchCase, Text}
 
 -- ---- what the object has
 
@@ -36,6 +36,8 @@ refusal_cause _ = None
 -- the file that a fault is about, unless it is about a word
 abbrev pub refused_file : Fault → Option (List ℕ) → Option (List ℕ)
 refused_file Hex about = None
+refused_file NoDevice about = None
+refused_file Bind about = None
 refused_file NoSuchCase about = None
 refused_file NoDatagram about = None
 refused_file _ about = about
@@ -43,6 +45,8 @@ refused_file _ about = about
 -- the word that a fault is about; of a line of a scenario's text any, as on standard error
 abbrev pub IsRefusedWord : Fault → Option (List ℕ) → Option (List ℕ) → Type 0
 IsRefusedWord Hex about word = word ≡ about
+IsRefusedWord NoDevice about word = word ≡ about
+IsRefusedWord Bind about word = word ≡ about
 IsRefusedWord NoSuchCase about word = word ≡ about
 IsRefusedWord NoDatagram about word = word ≡ about
 IsRefusedWord (Text fault) about word = ⊤

@@ -1,10 +1,13 @@
 pub mod Told
+pub mod Recordings
 pub mod Served
 pub mod Stepped
 pub mod Passing
 pub mod Fleets
+pub mod Gone
 pub mod Seconds
 pub mod Started
 pub mod Noted
 pub mod Played
 pub mod Rows
+pub mod Tallied

@@ -29,12 +29,12 @@ use Rattle.fleet_link.proofs.Served.{changes_push, second_push}
 
 -- ---- lists
 
-set_same : {X : Type 0} (xs : List X) (i : ℕ) (y : X) → i < length xs → slice_get (slice_set xs i y) i ≡ Some y
+pub set_same : {X : Type 0} (xs : List X) (i : ℕ) (y : X) → i < length xs → slice_get (slice_set xs i y) i ≡ Some y
 set_same [] i y l = absurd (omega (arith, l))
 set_same (x ∷ xs) zero y l = refl
 set_same (x ∷ xs) (suc i) y l = set_same xs i y (omega (arith, l))
 
-set_other : {X : Type 0} (xs : List X) (i j : ℕ) (y : X) → (i ≡ j → ⊥)
+pub set_other : {X : Type 0} (xs : List X) (i j : ℕ) (y : X) → (i ≡ j → ⊥)
     → slice_get (slice_set xs i y) j ≡ slice_get xs j
 set_other [] i j y h = refl
 set_other (z ∷ zs) zero zero y h = absurd (h refl)

@@ -27,9 +27,11 @@ use Rattle.fleet_link.specs.declared.slot.DeviceEnd.TheVariants.{Memory, Port, S
 use Rattle.fleet_link.specs.declared.slot.Slot.{Slot}
 use Rattle.fleet_link.specs.Playing.{change_at, change_in, changes_by, changes_of, row_state, second_after, second_by}
 use Rattle.fleet_link.specs.Playing.{Change, IsFleetStep, IsLaterThan, IsOnTime, IsTimely, IsUnderWay}
-use Rattle.fleet_link.specs.Serving.{heard_at, heard_by, IsDue, IsEndOf, IsNearEnd, IsRecorded, IsServed, IsServing}
+use Rattle.fleet_link.specs.Recorded.{IsRecorded}
+use Rattle.fleet_link.specs.Serving.{heard_at, heard_by, IsDue, IsEndOf, IsNearEnd, IsServed, IsServing}
 use Rattle.fleet_link.specs.Serving.{IsSweptAt}
 use Rattle.fleet_link.specs.Traffic.{Carries, Heard, Traffic, failed_once, handed_at, no_traffic, sent_all, traffic_and}
+use Rattle.fleet_link.proofs.Recordings.{recorded_on, IsSame}
 use Rattle.fleet_link.proofs.Told.{carries_both, carries_on, traffic_of}
 
 -- ---- one step more
@@ -155,24 +157,15 @@ end_refused end f steps device event shows live (inr (m, refused)) failures =
     subst (λ x. IsEndOf (Some x) f steps failures) (sym m)
     (near_end f steps event live (refused_late device (state_after f steps) event shows refused))
 
-pub recorded_on : (recording other : Recording) (steps : List Step) → other.steps.items ≡ recording.steps.items
-    → (other.complete ≡ true → recording.complete ≡ true) → IsRecorded recording steps → IsRecorded other steps
-recorded_on recording other steps same full h =
-    record {
-      rest = h.rest;
-      begins = h.begins ∙ ap (λ s. s ++ h.rest) (sym same);
-      whole = λ e. h.whole (full e);
-    }
-
 -- the step was refused, or no memory was left for it: nothing was sent
 pub step_refused : (end : DeviceEnd) (f : Machine) (before : Option Traffic) (pending : List Heard)
     (device newer : Device) (second : ℕ) (recording other : Recording) (after : Option Traffic) (event : Happening)
     (changes : List Change)
     → IsServing f before pending changes None device second recording after → IsFleetStep (Event event)
     → (end ≡ Memory) ⊎ ((end ≡ Spent) × IsTrue (is_refused device event))
-    → other.steps.items ≡ recording.steps.items → (other.complete ≡ true → recording.complete ≡ true)
+    → IsSame recording other → other.complete ≡ recording.complete
     → IsServing f before pending changes (Some end) newer second other after
-step_refused end f before pending device newer second recording other after event changes h live kind same full =
+step_refused end f before pending device newer second recording other after event changes h live kind same complete =
     record {
       steps = h.steps;
       failures = h.failures;
@@ -182,34 +175,12 @@ step_refused end f before pending device newer second recording other after even
       changed = h.changed;
       shows = λ e. absurd cc;
       ended = end_refused end f h.steps device event (h.shows refl) live kind h.failures;
-      recorded = recorded_on recording other h.steps same full h.recorded;
+      recorded = recorded_on recording other h.steps same complete h.recorded;
     }
 
 pub not_port : (end : DeviceEnd) (b : Bool) → (end ≡ Memory) ⊎ ((end ≡ Spent) × IsTrue b) → end ≡ Port → ⊥
 not_port end b (inl m) e = let k : Memory ≡ Port = sym m ∙ e in cc
 not_port end b (inr (m, refused)) e = let k : Spent ≡ Port = sym m ∙ e in cc
-
--- ---- recording
-
-pub recorded_more : (old new : Recording) (step : Step) (steps : List Step) → new.complete ≡ old.complete
-    → new.steps.items ≡ old.steps.items ++ step ∷ [] → old.complete ≡ true → IsRecorded old steps
-    → IsRecorded new (steps ++ step ∷ [])
-recorded_more old new step steps full more is h =
-    record {
-      rest = [];
-      begins = ap (λ s. s ++ step ∷ []) (h.begins ∙ ap (λ r. old.steps.items ++ r) (h.whole is)
-          ∙ append-nil old.steps.items) ∙ sym more ∙ sym (append-nil new.steps.items);
-      whole = λ e. refl;
-    }
-
-pub recorded_less : (old : Recording) (step : Step) (steps : List Step) → old.complete ≡ false → IsRecorded old steps
-    → IsRecorded old (steps ++ step ∷ [])
-recorded_less old step steps closed h =
-    record {
-      rest = h.rest ++ step ∷ [];
-      begins = ap (λ s. s ++ step ∷ []) h.begins ∙ append_assoc old.steps.items h.rest (step ∷ []);
-      whole = λ e. let k : false ≡ true = sym closed ∙ e in absurd cc;
-    }
 
 -- ---- a device at rest
 

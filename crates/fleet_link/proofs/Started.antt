@@ -16,8 +16,10 @@ use Rattle.fleet_link.specs.declared.row.RowState.TheVariants.{Due, Ended, Waits
 use Rattle.fleet_link.specs.declared.recording.Recording.{Recording}
 use Rattle.fleet_link.specs.declared.slot.Slot.{Slot}
 use Rattle.fleet_link.specs.Playing.{changes_by, played_steps, row_state, second_by, second_of_row, IsTimely}
-use Rattle.fleet_link.specs.Serving.{AreRecorded, IsDue, IsFleet, IsRowServed, IsServed}
+use Rattle.fleet_link.specs.Recorded.{IsRecorded}
+use Rattle.fleet_link.specs.Serving.{AreRecorded, HaveShare, IsDue, IsFleet, IsRowServed, IsServed}
 use Rattle.fleet_link.specs.Traffic.{Traffic}
+use Rattle.fleet_link.proofs.Recordings.{none_recorded_yet}
 use Rattle.fleet_link.proofs.Served.{rests}
 use Rattle.fleet_link.proofs.Told.{carries_none}
 
@@ -30,10 +32,10 @@ row_of s d valid row at =
 -- a device of a class at its start, with nothing recorded
 pub slot_starts : (class : Template) (own : List Step) (slot : Slot) (told : Option Traffic)
     → Shows slot.device (start class)
-    → slot.second ≡ 0 → slot.end ≡ None → IsDue slot.device slot.due → slot.recording.steps.items ≡ []
+    → slot.second ≡ 0 → slot.end ≡ None → IsDue slot.device slot.due → IsRecorded slot.recording []
     → slot.row.steps.items ≡ own → slot.row.place ≡ 0 → slot.row.second ≡ Some 0
     → IsServed class own told slot false told
-slot_starts class own slot told shows second end due none row place first =
+slot_starts class own slot told shows second end due recorded row place first =
     rests class own told slot false told (record {
       steps = [];
       failures = 0;
@@ -43,7 +45,7 @@ slot_starts class own slot told shows second end due none row place first =
       changed = sym (ap (changes_by 0) before);
       shows = λ e. shows;
       ended = refl;
-      recorded = record { rest = []; begins = sym none ∙ nothing slot.recording.steps.items; whole = λ e. refl };
+      recorded = recorded;
     }) end due (record {
       happened = λ k said step l s at. absurd (omega (arith, l, place));
       coming = λ k le. ap (λ l. slice_get l k) row;
@@ -62,10 +64,6 @@ slot_starts class own slot told shows second end due none row place first =
     from_start (Waits group count) = tt
     from_start Ended = tt
 
-    nothing : {X : Type 0} (xs : List X) → xs ≡ xs ++ []
-    nothing [] = refl
-    nothing (x ∷ xs) = ap (λ l. x ∷ l) (nothing xs)
-
 pub slot_served : (s : Scenario) (played : Bool) (d : ℕ) (device : Device) (slot : Slot) (own : PlayedRow)
     (recording : Recording) → IsValid s
     → d < length s.rows
@@ -73,10 +71,10 @@ pub slot_served : (s : Scenario) (played : Bool) (d : ℕ) (device : Device) (sl
     → slot.device ≡ device → slot.second ≡ 0 → slot.end ≡ None → IsDue device slot.due
     → slot.row ≡ own → ((class : Template) (steps : List Step) → IsRowOf s d class steps
     → own.steps.items ≡ played_steps played steps) → own.place ≡ 0 → own.second ≡ Some 0
-    → slot.recording ≡ recording → recording.steps.items ≡ [] → (told : Option Traffic)
-    → IsRowServed s played d told slot false told
+    → slot.recording ≡ recording → recording.steps.items ≡ [] → recording.left ≡ recording.share
+    → recording.complete ≡ true → (told : Option Traffic) → IsRowServed s played d told slot false told
 slot_served s played d device slot own recording valid within shows is second end due kept_row steps place first kept
-    none told =
+    none left complete told =
     let found = item_at s.rows d within in
     let row = row_of s d valid found.0 found.1 in
     record {
@@ -85,7 +83,8 @@ slot_served s played d device slot own recording valid within shows is second en
       row = row.1;
       served = slot_starts row.0 (played_steps played found.0.steps) slot told
           (subst (λ x. Shows x (start row.0)) (sym is) (shows row.0 found.0.steps row.1))
-          second end (subst (λ x. IsDue x slot.due) (sym is) due) (ap (λ r. r.steps.items) kept ∙ none)
+          second end (subst (λ x. IsDue x slot.due) (sym is) due)
+          (subst (λ r. IsRecorded r []) (sym kept) (none_recorded_yet recording none left complete))
           (ap (λ r. r.steps.items) kept_row ∙ steps row.0 found.0.steps row.1)
           (ap (λ r. r.place) kept_row ∙ place) (ap (λ r. r.second) kept_row ∙ first);
     }
@@ -149,4 +148,14 @@ pub more_recorded : (slots more : List Slot) (y : Slot) → AreRecorded slots �
     → y.recording.complete ≡ true → AreRecorded more
 more_recorded slots more y h is here e x at =
     by_place (λ k z. z.recording.complete ≡ true) (length slots) e slots x y refl here (h e x)
+    (pushed_cases slots y e x (ap (λ l. slice_get l e) (sym is) ∙ at))
+
+pub none_shares : (slots : List Slot) (share : ℕ) → slots ≡ [] → HaveShare slots share
+none_shares slots share none e slot h =
+    let k : None ≡ Some slot = ap (λ l. slice_get l e) (sym none) ∙ h in absurd cc
+
+pub more_shares : (slots more : List Slot) (y : Slot) (share : ℕ) → HaveShare slots share → more ≡ slots ++ y ∷ []
+    → y.recording.share ≡ share → HaveShare more share
+more_shares slots more y share h is here e x at =
+    by_place (λ k z. z.recording.share ≡ share) (length slots) e slots x y refl here (h e x)
     (pushed_cases slots y e x (ap (λ l. slice_get l e) (sym is) ∙ at))

@@ -1,8 +1,10 @@
 pub mod Ends
 pub mod Traffic
 pub mod Playing
+pub mod Recorded
 pub mod Serving
 pub mod Timing
 pub mod Memory
 pub mod Saved
 pub mod Counting
+pub mod Udp

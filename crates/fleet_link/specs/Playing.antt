@@ -1,5 +1,5 @@
 -- What the row of a device does by itself as seconds pass: its changes, each at its second.
-use Rattle.std.specs.Prelude.{◌≡◌, ℕ, ◌+◌, ◌-◌, ◌^◌, ◌&&◌, ◌<◌, ◌≤◌, ⊤, Bool, true, false, List, [], ◌∷◌, ◌++◌, filter, length, take}
+use Rattle.std.specs.Prelude.{◌≡◌, ℕ, ◌+◌, ◌-◌, ◌==◌, ◌^◌, ◌&&◌, ◌<◌, ◌≤◌, ⊤, Bool, true, false, List, [], ◌∷◌, ◌++◌, filter, length, take}
 use Rattle.std.specs.Prelude.{slice_get, slice_set, nat_le, Option, None, Some, MatchOption, if◌then◌else◌}
 use Rattle.device_machine.specs.declared.event.Event.{Event as Happening}
 use Rattle.device_machine.specs.declared.event.Event.TheVariants.{Recv, Put, Firmware, Tick}
@@ -116,6 +116,18 @@ state_of (Some second) (Some (Need group count)) = Waits group count
 abbrev pub row_state : PlayedRow → RowState
 row_state row = state_of row.second (slice_get row.steps.items row.place)
 
+-- it waits at a need
+abbrev pub is_waiting : RowState → Bool
+is_waiting (Due due) = false
+is_waiting (Waits group count) = true
+is_waiting Ended = false
+
+-- it waits at a need of this group
+abbrev pub is_waiting_for : ℕ → RowState → Bool
+is_waiting_for group (Due due) = false
+is_waiting_for group (Waits other count) = other == group
+is_waiting_for group Ended = false
+
 -- no step of the row is due at this second or before: it has ended, or waits at a need, or its next step is due later
 abbrev pub IsLaterThan : ℕ → RowState → Type 0
 IsLaterThan second (Due due) = second < due
@@ -152,6 +164,19 @@ posts_by group until second (step ∷ steps) =
 -- how many of them a row has made
 abbrev pub posts_in : PlayedRow → ℕ → ℕ → ℕ
 posts_in row group until = posts_by group until 0 (take row.place row.steps.items)
+
+-- A row waits at a need of this group, of whose posts so many stand at this second: enough. It came there by then,
+-- within the last 2^32 seconds. (A group has 8 bits, and a need's count has 32.)
+pub record CanPass (group posts now : ℕ) (row : PlayedRow) : Type 0 where
+  pub group_is : group < 256
+  pub count : ℕ
+  pub few : count < 2 ^ 32
+  pub waits : row_state row ≡ Waits group count
+  pub met : count ≤ posts
+  pub second : ℕ
+  pub second_is : row.second ≡ Some second
+  pub came : second ≤ now
+  pub lately : now < second + 2 ^ 32
 
 -- the need that is the next step of a row was passed at this second, where so many posts to its group stood
 pub record IsPassed (group posts now : ℕ) (old new : PlayedRow) : Type 0 where

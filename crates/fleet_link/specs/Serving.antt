@@ -17,7 +17,8 @@ use Rattle.fleet_link.specs.declared.slot.DeviceEnd.{DeviceEnd}
 use Rattle.fleet_link.specs.declared.slot.DeviceEnd.TheVariants.{Memory, Port, Spent}
 use Rattle.fleet_link.specs.declared.slot.Slot.{Slot}
 use Rattle.fleet_link.specs.Playing.{changes_by, changes_of, played_steps, posts_in, row_state, second_after, second_by, Change}
-use Rattle.fleet_link.specs.Playing.{IsFleetStep, IsLaterThan, IsOnTime, IsUnderWay}
+use Rattle.fleet_link.specs.Playing.{CanPass, IsFleetStep, IsLaterThan, IsOnTime, IsUnderWay}
+use Rattle.fleet_link.specs.Recorded.{IsRecorded}
 use Rattle.fleet_link.specs.Traffic.{Carries, Heard, Traffic}
 
 -- ---- what steps receive
@@ -51,12 +52,6 @@ IsEndOf None f steps failures = failures ≡ 0
 IsEndOf (Some Port) f steps failures = 1 ≤ failures
 IsEndOf (Some Spent) f steps failures = IsNearEnd f steps
 IsEndOf (Some Memory) f steps failures = Unit {0}
-
--- what is recorded of steps: all of them while it is complete, and else a beginning
-pub record IsRecorded (recording : Recording) (steps : List Step) : Type 0 where
-  pub rest : List Step
-  pub begins : steps ≡ recording.steps.items ++ rest
-  pub whole : recording.complete ≡ true → rest ≡ []
 
 -- A device began in the flat state f, at second 0, with a port that told this before and tells this now. It has taken
 -- steps: what the port handed out is what they receive, each datagram at its second, and then what is still pending;
@@ -146,3 +141,31 @@ AreAt slots n second =
 -- all steps of each device are recorded
 abbrev pub AreRecorded : List Slot → Type 0
 AreRecorded slots = (e : ℕ) (slot : Slot) → slice_get slots e ≡ Some slot → slot.recording.complete ≡ true
+
+-- ---- what a session does with rows and recordings
+
+-- how many steps of the row of a device have happened, if there is the device
+abbrev pub place_in : Option Slot → ℕ
+place_in None = 0
+place_in (Some slot) = slot.row.place
+
+-- how many bytes of an image its recording may take
+abbrev pub share_in : Option Slot → ℕ
+share_in None = 0
+share_in (Some slot) = slot.recording.share
+
+-- no row has gone back, and each recording may take what it might
+pub record HaveGoneOn (before after : List Slot) : Type 0 where
+  pub further : (e : ℕ) → place_in (slice_get before e) ≤ place_in (slice_get after e)
+  pub shares : (e : ℕ) → share_in (slice_get after e) ≡ share_in (slice_get before e)
+
+-- Each need at which the row of a device waited and whose posts stood, at this second, was passed.
+abbrev pub ArePassed : List Slot → List Slot → ℕ → Type 0
+ArePassed before after now =
+    (e group : ℕ) (slot : Slot) → slice_get before e ≡ Some slot → slot.end ≡ None
+    → CanPass group (posts_of before group now) now slot.row → slot.row.place < place_in (slice_get after e)
+
+-- each device may record so many bytes of an image
+abbrev pub HaveShare : List Slot → ℕ → Type 0
+HaveShare slots share =
+    (e : ℕ) (slot : Slot) → slice_get slots e ≡ Some slot → slot.recording.share ≡ share

@@ -1,7 +1,8 @@
 //! A fleet: the devices of a scenario.
 ghost use Rattle.std.specs.Prelude.{◌≡◌, ◌<◌, [], ℕ, Option, IfOk, None, false, true, length};
 ghost use Rattle.fleet_link.specs.Traffic.{Traffic};
-ghost use Rattle.fleet_link.specs.Serving.{AreRecorded, IsFleet, IsRowServed};
+ghost use Rattle.fleet_link.specs.Recorded.{share_of};
+ghost use Rattle.fleet_link.specs.Serving.{AreRecorded, HaveShare, IsFleet, IsRowServed};
 
 use crate::recording::Recording;
 use crate::row::PlayedRow;
@@ -23,14 +24,16 @@ pub struct Fleet {
     pub(crate) second: u64,
 }
 
-/// What is recorded of each of so many rows, if they are saved: each has an equal part of the bytes.
+/// What is recorded of each of so many rows: each has an equal part of the bytes, if they are saved, and none if they
+/// are not.
 fn recording_of(alloc: Global, rows: usize, saved: bool) -> Recording
     ensures steps { result.steps.items ≡ [] }
-    ensures complete { result.complete ≡ true → saved ≡ true }
-    ensures saved { saved ≡ true → 0 < rows → result.complete ≡ true }
+    ensures share { 0 < rows → result.share ≡ share_of rows saved }
+    ensures left { result.left ≡ result.share }
+    ensures complete { result.complete ≡ true }
 {
     if !saved || rows == 0 {
-        return Recording::none(alloc);
+        return Recording::new(alloc, 0);
     }
     Recording::new(alloc, MOST_BYTES / rows)
 }
@@ -49,7 +52,8 @@ fn slot_of_row(
         → IsRowServed scenario.now played device told slot false told) }
     ensures second { IfOk result (λ slot. slot.second ≡ 0) }
     ensures place { IfOk result (λ slot. slot.row.place ≡ 0) }
-    ensures recorded { IfOk result (λ slot. saved ≡ true → slot.recording.complete ≡ true) }
+    ensures recorded { IfOk result (λ slot. slot.recording.complete ≡ true) }
+    ensures share { IfOk result (λ slot. slot.recording.share ≡ share_of (length scenario.now.rows) saved) }
 {
     let rows = scenario.rows();
     let row = PlayedRow::of_device(alloc, scenario, device, played)?;
@@ -69,7 +73,9 @@ impl Fleet {
         ensures fleet { (told : ℕ → Option Traffic)
             → IfOk result (λ fleet. IsFleet scenario.now played told fleet.slots.items fleet.second false told) }
         ensures second { IfOk result (λ fleet. fleet.second ≡ 0) }
-        ensures recorded { IfOk result (λ fleet. saved ≡ true → AreRecorded fleet.slots.items) }
+        ensures recorded { IfOk result (λ fleet. AreRecorded fleet.slots.items) }
+        ensures shares { IfOk result (λ fleet. HaveShare fleet.slots.items
+            (share_of (length scenario.now.rows) saved)) }
         ensures began { IfOk result (λ fleet. fleet.began ≡ None) }
     {
         let rows = scenario.rows();
@@ -90,7 +96,9 @@ impl Fleet {
         ensures fleet { (told : ℕ → Option Traffic)
             → IfOk result (λ fleet. IsFleet scenario.now false told fleet.slots.items fleet.second false told) }
         ensures second { IfOk result (λ fleet. fleet.second ≡ 0) }
-        ensures recorded { IfOk result (λ fleet. saved ≡ true → AreRecorded fleet.slots.items) }
+        ensures recorded { IfOk result (λ fleet. AreRecorded fleet.slots.items) }
+        ensures shares { IfOk result (λ fleet. HaveShare fleet.slots.items
+            (share_of (length scenario.now.rows) saved)) }
         ensures began { IfOk result (λ fleet. fleet.began ≡ None) }
     {
         Fleet::start_rows(alloc, scenario, false, saved)
@@ -105,7 +113,9 @@ impl Fleet {
         ensures fleet { (told : ℕ → Option Traffic)
             → IfOk result (λ fleet. IsFleet scenario.now true told fleet.slots.items fleet.second false told) }
         ensures second { IfOk result (λ fleet. fleet.second ≡ 0) }
-        ensures recorded { IfOk result (λ fleet. saved ≡ true → AreRecorded fleet.slots.items) }
+        ensures recorded { IfOk result (λ fleet. AreRecorded fleet.slots.items) }
+        ensures shares { IfOk result (λ fleet. HaveShare fleet.slots.items
+            (share_of (length scenario.now.rows) saved)) }
         ensures began { IfOk result (λ fleet. fleet.began ≡ None) }
     {
         Fleet::start_rows(alloc, scenario, true, saved)

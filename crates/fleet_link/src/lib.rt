@@ -5,6 +5,7 @@
 mod directory;
 mod fault;
 mod fleet;
+mod history;
 mod laws;
 mod memory;
 mod ports;
@@ -14,6 +15,7 @@ mod saving;
 mod sending;
 mod serving;
 mod slot;
+mod tally;
 mod udp;
 
 pub use directory::FixedServer;

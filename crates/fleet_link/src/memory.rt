@@ -91,6 +91,8 @@ impl Ports for ScriptedPorts {
 
     ghost asked = { λ ports. asked_by ports };
 
+    ghost fixed = { λ _. [] };
+
     /// It gives the first item that is left of its script; after the last one, nothing has arrived. It takes no memory.
     fn receive(&mut self, second: u64) -> Result<Receipt, PortsFault>
         ensures told { (e : ℕ) → Carries (told_by self.old e) (told_by self.new e)

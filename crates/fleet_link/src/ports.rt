@@ -1,7 +1,8 @@
 //! The ports of a fleet: each device has one of its own.
-ghost use Rattle.std.specs.Prelude.{◌∷◌, [], ℕ, List, Option};
+ghost use Rattle.std.specs.Prelude.{◌≡◌, ◌∷◌, [], ℕ, List, Option};
 ghost use Rattle.live_link.specs.declared.packet.Packet.{Packet};
 ghost use Rattle.live_link.specs.Wire.{AreRead};
+ghost use Rattle.fleet_link.specs.declared.directory.FixedServer.{FixedServer};
 ghost use Rattle.fleet_link.specs.Traffic.{Traffic, Carries, at_port, no_traffic, sent_all, traffic_of_receipt};
 
 use live_link::Packet;
@@ -52,20 +53,25 @@ pub trait Ports {
     ghost told: { Self → ℕ → Option Traffic };
     /// The seconds at which they were asked, in order, where they tell.
     ghost asked: { Self → Option (List ℕ) };
+    /// The servers that are fixed, for all devices. No call changes them.
+    ghost fixed: { Self → List FixedServer };
 
     /// What has arrived next, at whichever port; it is asked for at this second of the session. It does not wait.
     fn receive(&mut self, second: u64) -> Result<Receipt, PortsFault>
         ensures told { (e : ℕ) → Carries (told self.old e) (told self.new e) (traffic_of_receipt second result e) }
+        ensures fixed { fixed self.new ≡ fixed self.old }
         ensures asked { AreRead (asked self.old) (asked self.new) (second ∷ []) };
 
     /// Sends a datagram of a device to a server. On its way it may be lost.
     fn send(&mut self, device: usize, server: u16, bytes: &[u8])
         ensures told { (e : ℕ) → Carries (told self.old e) (told self.new e)
             (at_port device e (sent_all (record { server = server; bytes = bytes.now } ∷ []))) }
+        ensures fixed { fixed self.new ≡ fixed self.old }
         ensures asked { AreRead (asked self.old) (asked self.new) [] };
 
     /// Waits until something may have arrived, at most so many milliseconds.
     fn wait(&mut self, millis: u32) -> Result<(), PortsFault>
         ensures told { (e : ℕ) → Carries (told self.old e) (told self.new e) no_traffic }
+        ensures fixed { fixed self.new ≡ fixed self.old }
         ensures asked { AreRead (asked self.old) (asked self.new) [] };
 }

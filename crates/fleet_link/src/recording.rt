@@ -1,8 +1,9 @@
 //! What is recorded of a device's steps, so that they can be saved as the row of a scenario.
-ghost use Rattle.std.specs.Prelude.{◌≡◌, ◌⊎◌, ◌+◌, ◌≤◌, ◌<◌, ◌∷◌, ◌++◌, [], List, length, true, false};
-ghost use Rattle.std.specs.Prelude.{OnOk, OnErr, IfOk, vec_capacity, vec_len};
-ghost use Rattle.fleet_link.specs.Serving.{IsRecorded};
+ghost use Rattle.std.specs.Prelude.{◌≡◌, ◌≤◌, ◌<◌, ◌∷◌, ◌++◌, [], List, true, false};
+ghost use Rattle.std.specs.Prelude.{OnOk, vec_capacity, vec_len};
 ghost use Rattle.scenario_image.specs.declared.step.Step.{Step};
+ghost use Rattle.scenario_image.specs.declared.step.Step.TheVariants.{Event as event_step};
+ghost use Rattle.fleet_link.specs.Recorded.{size_of_event, HasNoRoom, HasRoom, IsRecorded};
 
 use device_machine::Event;
 use scenario_image::Step;
@@ -14,77 +15,91 @@ const MOST_STEPS: usize = 4096;
 /// How many bytes a step takes in an image at most, beside those of a datagram.
 const STEP_BYTES: usize = 8;
 
+/// How many bytes a value takes in an image at most, and the rest of its step.
+const PUT_BYTES: usize = 1500;
+
 /// The steps of a device, while it is complete. Once a step has no room, no more are recorded.
 #[derive(Drop)]
 pub struct Recording {
     steps: Vec<Step>,
-    /// How many bytes of an image are left for it.
+    /// How many bytes of an image it may take.
+    share: usize,
+    /// How many of them are left.
     left: usize,
     /// Whether all steps so far are recorded.
     complete: bool,
 }
 
 /// How many bytes the step takes in an image, at most.
-fn size_of_event(event: &Event) -> usize {
+fn size_of_event(event: &Event) -> usize
+    ensures { result ≡ size_of_event event.now }
+{
     match event {
         Event::Recv { bytes, .. } => bytes.len().saturating_add(STEP_BYTES),
-        Event::Put { .. } => 1500,
+        Event::Put { .. } => PUT_BYTES,
         Event::Firmware(_) | Event::Tick(_) => STEP_BYTES,
     }
 }
 
 impl Recording {
-    /// One that is complete, and has room for steps of so many bytes.
-    pub(crate) fn new(alloc: Global, bytes: usize) -> Recording
+    /// One without a step, which may take so many bytes.
+    pub(crate) fn new(alloc: Global, share: usize) -> Recording
         ensures steps { result.steps.items ≡ [] }
+        ensures share { result.share ≡ share }
+        ensures left { result.left ≡ share }
         ensures complete { result.complete ≡ true }
     {
         Recording {
             steps: Vec::new(alloc),
-            left: bytes,
+            share,
+            left: share,
             complete: true,
         }
     }
 
-    /// One that records nothing.
-    pub(crate) fn none(alloc: Global) -> Recording
-        ensures steps { result.steps.items ≡ [] }
-        ensures complete { result.complete ≡ false }
-    {
-        Recording {
-            steps: Vec::new(alloc),
-            left: 0,
-            complete: false,
-        }
-    }
-
-    /// Makes room for a step. Where there can be none for it, nothing more is recorded.
-    pub(crate) fn make_room(&mut self, event: &Event) -> Result<(), AllocError>
-        ensures steps { self.new.steps.items ≡ self.old.steps.items }
-        ensures complete { self.new.complete ≡ true → self.old.complete ≡ true }
-        ensures room { OnOk result (self.new.complete ≡ true → vec_len self.new.steps < vec_capacity self.new.steps) }
+    /// Whether an event has room.
+    fn has_room(&self, event: &Event) -> bool
+        ensures room { result ≡ true → HasRoom self.now event.now }
+        ensures full { result ≡ false → self.now.complete ≡ true → HasNoRoom self.now event.now }
     {
         if !self.complete {
-            return Ok(());
+            return false;
         }
-        let size = size_of_event(event);
-        if self.steps.len() >= MOST_STEPS || self.left < size {
-            self.complete = false;
+        if self.steps.len() >= MOST_STEPS {
+            return false;
+        }
+        size_of_event(event) <= self.left
+    }
+
+    /// Takes memory for an event, if it has room.
+    pub(crate) fn make_room(&mut self, event: &Event) -> Result<(), AllocError>
+        ensures steps { self.new.steps.items ≡ self.old.steps.items }
+        ensures share { self.new.share ≡ self.old.share }
+        ensures left { self.new.left ≡ self.old.left }
+        ensures complete { self.new.complete ≡ self.old.complete }
+        ensures room { OnOk result (HasRoom self.new event.now → vec_len self.new.steps < vec_capacity self.new.steps) }
+    {
+        if !self.has_room(event) {
             return Ok(());
         }
         self.steps.reserve(1)?;
-        self.left -= size;
         Ok(())
     }
 
-    /// Notes a step that was taken, for which room was made, if it is complete.
-    pub(crate) fn note(&mut self, step: Step)
-        requires { self.old.complete ≡ true → vec_len self.old.steps < vec_capacity self.old.steps }
-        ensures recorded { (steps : List Step) → IsRecorded self.old steps → IsRecorded self.new (steps ++ step ∷ []) }
+    /// Notes an event that was taken, if it has room, for which memory was taken then. Where it has none, it is not
+    /// recorded, and nothing after it.
+    pub(crate) fn note(&mut self, event: Event)
+        requires { HasRoom self.old event → vec_len self.old.steps < vec_capacity self.old.steps }
+        ensures recorded { (steps : List Step) → IsRecorded self.old steps
+            → IsRecorded self.new (steps ++ event_step event ∷ []) }
+        ensures share { self.new.share ≡ self.old.share }
     {
-        if self.complete {
-            self.steps.push_reserved(step);
+        if !self.has_room(&event) {
+            self.complete = false;
+            return;
         }
+        self.left -= size_of_event(&event);
+        self.steps.push_reserved(Step::Event(event));
     }
 
     /// Whether all steps are recorded.

@@ -1,5 +1,5 @@
 //! What a device outputs goes through its port.
-ghost use Rattle.std.specs.Prelude.{◌∷◌, [], ℕ};
+ghost use Rattle.std.specs.Prelude.{◌≡◌, ◌∷◌, [], ℕ};
 ghost use Rattle.live_link.specs.Live.{packets_in};
 ghost use Rattle.live_link.specs.Wire.{AreRead};
 ghost use Rattle.fleet_link.specs.Traffic.{Carries, at_port, sent_all};
@@ -11,6 +11,7 @@ use device_machine::Output;
 fn send_one<P: Ports>(ports: &mut P, device: usize, output: &Output)
     ensures told { (e : ℕ) → Carries (P.told ports.old e) (P.told ports.new e)
         (at_port device e (sent_all (packets_in (output.now ∷ [])))) }
+    ensures fixed { P.fixed ports.new ≡ P.fixed ports.old }
     ensures asked { AreRead (P.asked ports.old) (P.asked ports.new) [] }
 {
     match output {
@@ -23,6 +24,7 @@ fn send_one<P: Ports>(ports: &mut P, device: usize, output: &Output)
 pub(crate) fn send_all<P: Ports>(ports: &mut P, device: usize, outputs: &[Output])
     ensures told { (e : ℕ) → Carries (P.told ports.old e) (P.told ports.new e)
         (at_port device e (sent_all (packets_in outputs.now))) }
+    ensures fixed { P.fixed ports.new ≡ P.fixed ports.old }
     ensures asked { AreRead (P.asked ports.old) (P.asked ports.new) [] }
 {
     for output in outputs {

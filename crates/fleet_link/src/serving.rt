@@ -1,12 +1,15 @@
 //! All devices of a fleet are served: what arrives at their ports is what they receive, and the seconds of a clock are
 //! their ticks.
-ghost use Rattle.std.specs.Prelude.{◌≡◌, ◌+◌, ◌-◌, ◌≤◌, ◌⊎◌, [], ℕ, Bool, List, Option, Some, Ok};
-ghost use Rattle.std.specs.Prelude.{◌^◌, OnOk, is_err, false, length, max, min, unwrap_or};
+ghost use Rattle.std.specs.Prelude.{◌≡◌, ◌+◌, ◌-◌, ◌<◌, ◌≤◌, ◌⊎◌, [], ℕ, Bool, List, Option, Some, None, Ok};
+ghost use Rattle.std.specs.Prelude.{◌^◌, OnOk, is_err, false, length, max, min, slice_get, unwrap_or};
+ghost use Rattle.std.specs.List.{list_any};
 ghost use Rattle.live_link.specs.Wire.{AreRead};
 ghost use Rattle.scenario_image.specs.Scenario.{Scenario};
 ghost use Rattle.fleet_link.specs.Traffic.{Traffic, Carries, at_port, failed_once, handed_at, traffic_of_receipt};
 ghost use Rattle.fleet_link.specs.Timing.{AreAsked};
-ghost use Rattle.fleet_link.specs.Serving.{posts_of, AreAt, AreSwept, IsFleet};
+ghost use Rattle.fleet_link.specs.declared.slot.Slot.{Slot};
+ghost use Rattle.fleet_link.specs.Playing.{is_waiting, is_waiting_for, row_state, CanPass};
+ghost use Rattle.fleet_link.specs.Serving.{place_in, posts_of, AreAt, ArePassed, AreSwept, HaveGoneOn, IsFleet};
 
 use crate::fault::FleetFault;
 use crate::fleet::Fleet;
@@ -45,12 +48,16 @@ fn posts_of(slots: &[Slot], group: u8, until: u64) -> u64
 }
 
 /// Whether a row waits at a need.
-fn has_waiting(slots: &[Slot]) -> bool {
+fn has_waiting(slots: &[Slot]) -> bool
+    ensures { result ≡ list_any (λ slot. is_waiting (row_state slot.row)) slots.now }
+{
     slots.iter().any(|slot| slot.waits())
 }
 
 /// Whether a row waits for posts to this group.
-fn is_awaited(slots: &[Slot], group: u8) -> bool {
+fn is_awaited(slots: &[Slot], group: u8) -> bool
+    ensures { result ≡ list_any (λ slot. is_waiting_for group (row_state slot.row)) slots.now }
+{
     slots.iter().any(|slot| slot.is_waiting(group))
 }
 
@@ -60,8 +67,17 @@ impl Fleet {
         ensures fleet { (s : Scenario) (played : Bool) (before told : ℕ → Option Traffic)
             → IsFleet s played before self.old.slots.items self.old.second false told
             → IsFleet s played before self.new.slots.items self.new.second false told }
+        ensures passed { (e : ℕ) (slot : Slot) → slice_get self.old.slots.items e ≡ Some slot → slot.end ≡ None
+            → CanPass group (posts_of self.old.slots.items group self.old.second) self.old.second slot.row
+            → slot.row.place < place_in (slice_get self.new.slots.items e) }
+        ensures same { (e : ℕ) (slot : Slot) → slice_get self.old.slots.items e ≡ Some slot
+            → (slice_get self.new.slots.items e ≡ Some slot)
+            ⊎ (slot.row.place < place_in (slice_get self.new.slots.items e)) }
+        ensures posts { (other until : ℕ) → posts_of self.old.slots.items other until
+            ≤ posts_of self.new.slots.items other until }
         ensures second { self.new.second ≡ self.old.second }
         ensures began { self.new.began ≡ self.old.began }
+        ensures went { HaveGoneOn self.old.slots.items self.new.slots.items }
         ensures count { length self.new.slots.items ≡ length self.old.slots.items }
     {
         let now = self.second;
@@ -79,8 +95,10 @@ impl Fleet {
         ensures fleet { (s : Scenario) (played : Bool) (before told : ℕ → Option Traffic)
             → IsFleet s played before self.old.slots.items self.old.second false told
             → IsFleet s played before self.new.slots.items self.new.second false told }
+        ensures passed { ArePassed self.old.slots.items self.new.slots.items self.old.second }
         ensures second { self.new.second ≡ self.old.second }
         ensures began { self.new.began ≡ self.old.began }
+        ensures went { HaveGoneOn self.old.slots.items self.new.slots.items }
         ensures count { length self.new.slots.items ≡ length self.old.slots.items }
     {
         if !has_waiting(self.slots.as_slice()) {
@@ -104,9 +122,11 @@ impl Fleet {
             (at_port arrival.device e (handed_at self.old.second arrival.packet)))
             → (n second : ℕ) → second ≤ self.old.second → AreSwept self.old.slots.items n second
             → AreSwept self.new.slots.items n second }
+        ensures fixed { P.fixed ports.new ≡ P.fixed ports.old }
         ensures asked { AreRead (P.asked ports.old) (P.asked ports.new) [] }
         ensures second { self.new.second ≡ self.old.second }
         ensures began { self.new.began ≡ self.old.began }
+        ensures went { HaveGoneOn self.old.slots.items self.new.slots.items }
         ensures count { length self.new.slots.items ≡ length self.old.slots.items }
     {
         let place = arrival.device;
@@ -127,6 +147,7 @@ impl Fleet {
             → AreSwept self.new.slots.items n second }
         ensures second { self.new.second ≡ self.old.second }
         ensures began { self.new.began ≡ self.old.began }
+        ensures went { HaveGoneOn self.old.slots.items self.new.slots.items }
         ensures count { length self.new.slots.items ≡ length self.old.slots.items }
     {
         if device < self.slots.len() {
@@ -156,9 +177,11 @@ impl Fleet {
             → ((e : ℕ) → Carries (between e) (P.told ports.old e) (traffic_of_receipt self.old.second (Ok receipt) e))
             → (n second : ℕ) → second ≤ self.old.second → AreSwept self.old.slots.items n second
             → AreSwept self.new.slots.items n second }
+        ensures fixed { P.fixed ports.new ≡ P.fixed ports.old }
         ensures asked { AreRead (P.asked ports.old) (P.asked ports.new) [] }
         ensures second { self.new.second ≡ self.old.second }
         ensures began { self.new.began ≡ self.old.began }
+        ensures went { HaveGoneOn self.old.slots.items self.new.slots.items }
         ensures count { length self.new.slots.items ≡ length self.old.slots.items }
     {
         match receipt {
@@ -185,12 +208,14 @@ impl Fleet {
             → IsFleet s played before self.old.slots.items self.old.second false (P.told ports.old)
             → (n second : ℕ) → second ≤ self.old.second → AreSwept self.old.slots.items n second
             → AreSwept self.new.slots.items n second }
+        ensures fixed { P.fixed ports.new ≡ P.fixed ports.old }
         ensures asked { (read_before asked_before : Option (List ℕ)) (calls : ℕ)
             → AreAsked read_before (C.read clock.old) asked_before (P.asked ports.old) self.old.began
             self.old.second calls
             → AreAsked read_before (C.read clock.new) asked_before (P.asked ports.new) self.new.began
             self.new.second (calls + 1) }
         ensures later { self.old.second ≤ self.new.second }
+        ensures went { HaveGoneOn self.old.slots.items self.new.slots.items }
         ensures count { length self.new.slots.items ≡ length self.old.slots.items }
     {
         let reading = clock.now();
@@ -214,6 +239,7 @@ impl Fleet {
             → IsFleet s played before self.old.slots.items self.old.second false (P.told ports.old)
             → (n second : ℕ) → second ≤ self.old.second → AreSwept self.old.slots.items n second
             → OnOk result (AreSwept self.new.slots.items n second) }
+        ensures fixed { P.fixed ports.new ≡ P.fixed ports.old }
         ensures asked { (read_before asked_before : Option (List ℕ)) (calls : ℕ)
             → AreAsked read_before (C.read clock.old) asked_before (P.asked ports.old) self.old.began
             self.old.second calls
@@ -225,6 +251,7 @@ impl Fleet {
             → OnOk result (AreAsked read_before (C.read clock.new) asked_before (P.asked ports.new) self.new.began
             self.new.second (calls + 1)) }
         ensures later { self.old.second ≤ self.new.second }
+        ensures went { HaveGoneOn self.old.slots.items self.new.slots.items }
         ensures count { length self.new.slots.items ≡ length self.old.slots.items }
     {
         for _turn in 0..SLICE {
@@ -249,6 +276,7 @@ impl Fleet {
             → IsFleet s played before self.old.slots.items self.old.second false (P.told ports.old)
             → (n second : ℕ) → second ≤ self.old.second → AreSwept self.old.slots.items n second
             → OnOk result (AreSwept self.new.slots.items n second) }
+        ensures fixed { P.fixed ports.new ≡ P.fixed ports.old }
         ensures asked { (read_before asked_before : Option (List ℕ)) (calls : ℕ)
             → AreAsked read_before (C.read clock.old) asked_before (P.asked ports.old) self.old.began
             self.old.second calls
@@ -260,6 +288,7 @@ impl Fleet {
             → OnOk result (AreAsked read_before (C.read clock.new) asked_before (P.asked ports.new) self.new.began
             self.new.second (calls + 1)) }
         ensures later { self.old.second ≤ self.new.second }
+        ensures went { HaveGoneOn self.old.slots.items self.new.slots.items }
         ensures count { length self.new.slots.items ≡ length self.old.slots.items }
     {
         ports.wait(millis)?;
@@ -282,9 +311,11 @@ impl Fleet {
             → IsFleet s played before self.old.slots.items self.old.second false (P.told ports.old)
             → from ≤ to → AreSwept self.old.slots.items from second
             → OnOk result (AreSwept self.new.slots.items to second) }
+        ensures fixed { P.fixed ports.new ≡ P.fixed ports.old }
         ensures asked { AreRead (P.asked ports.old) (P.asked ports.new) [] }
         ensures second { self.new.second ≡ self.old.second }
         ensures began { self.new.began ≡ self.old.began }
+        ensures went { HaveGoneOn self.old.slots.items self.new.slots.items }
         ensures count { length self.new.slots.items ≡ length self.old.slots.items }
     {
         for place in from..to {
@@ -306,6 +337,7 @@ impl Fleet {
         ensures swept { (s : Scenario) (played : Bool) (before : ℕ → Option Traffic)
             → IsFleet s played before self.old.slots.items self.old.second false (P.told ports.old)
             → OnOk result (AreSwept self.new.slots.items (length self.new.slots.items) self.old.second) }
+        ensures fixed { P.fixed ports.new ≡ P.fixed ports.old }
         ensures asked { (read_before asked_before : Option (List ℕ)) (calls : ℕ)
             → AreAsked read_before (C.read clock.old) asked_before (P.asked ports.old) self.old.began
             self.old.second calls
@@ -317,6 +349,7 @@ impl Fleet {
             → OnOk result (AreAsked read_before (C.read clock.new) asked_before (P.asked ports.new) self.new.began
             self.new.second (calls + 1)) }
         ensures later { self.old.second ≤ self.new.second }
+        ensures went { HaveGoneOn self.old.slots.items self.new.slots.items }
         ensures count { length self.new.slots.items ≡ length self.old.slots.items }
     {
         let second = self.second;
@@ -342,9 +375,11 @@ impl Fleet {
         ensures fleet { (s : Scenario) (played : Bool) (before : ℕ → Option Traffic)
             → IsFleet s played before self.old.slots.items self.old.second false (P.told ports.old)
             → IsFleet s played before self.new.slots.items self.new.second (is_err result) (P.told ports.new) }
+        ensures passed { ArePassed self.old.slots.items self.new.slots.items self.old.second }
         ensures swept { (s : Scenario) (played : Bool) (before : ℕ → Option Traffic)
             → IsFleet s played before self.old.slots.items self.old.second false (P.told ports.old)
             → OnOk result (AreSwept self.new.slots.items (length self.new.slots.items) self.old.second) }
+        ensures fixed { P.fixed ports.new ≡ P.fixed ports.old }
         ensures asked { (read_before asked_before : Option (List ℕ)) (calls : ℕ)
             → AreAsked read_before (C.read clock.old) asked_before (P.asked ports.old) self.old.began
             self.old.second calls
@@ -356,6 +391,7 @@ impl Fleet {
             → OnOk result (AreAsked read_before (C.read clock.new) asked_before (P.asked ports.new) self.new.began
             self.new.second (calls + 1)) }
         ensures later { self.old.second ≤ self.new.second }
+        ensures went { HaveGoneOn self.old.slots.items self.new.slots.items }
         ensures count { length self.new.slots.items ≡ length self.old.slots.items }
     {
         self.pass_needs();
@@ -370,9 +406,11 @@ impl Fleet {
         ensures finished { (s : Scenario) (played : Bool) (before : ℕ → Option Traffic)
             → IsFleet s played before self.old.slots.items self.old.second false (P.told ports.old)
             → OnOk result (AreAt self.new.slots.items (length self.new.slots.items) self.new.second) }
+        ensures fixed { P.fixed ports.new ≡ P.fixed ports.old }
         ensures asked { AreRead (P.asked ports.old) (P.asked ports.new) [] }
         ensures second { self.new.second ≡ self.old.second }
         ensures began { self.new.began ≡ self.old.began }
+        ensures went { HaveGoneOn self.old.slots.items self.new.slots.items }
         ensures count { length self.new.slots.items ≡ length self.old.slots.items }
     {
         let now = self.second;
@@ -397,6 +435,8 @@ impl Fleet {
         ensures finished { (s : Scenario) (played : Bool) (before : ℕ → Option Traffic)
             → IsFleet s played before self.old.slots.items self.old.second false (P.told ports.old)
             → OnOk result (AreAt self.new.slots.items (length self.new.slots.items) self.new.second) }
+        ensures went { HaveGoneOn self.old.slots.items self.new.slots.items }
+        ensures fixed { P.fixed ports.new ≡ P.fixed ports.old }
         ensures asked { (read_before asked_before : Option (List ℕ)) (calls : ℕ)
             → AreAsked read_before (C.read clock.old) asked_before (P.asked ports.old) self.old.began
             self.old.second calls

@@ -9,9 +9,10 @@ ghost use Rattle.live_link.specs.Wire.{AreRead};
 ghost use Rattle.scenario_image.specs.declared.step.Step.{Step};
 ghost use Rattle.scenario_image.specs.declared.step.Step.TheVariants.{Event as event_step};
 ghost use Rattle.fleet_link.specs.Playing.{change_at, change_in, changes_of, posts_in, row_state, second_after};
-ghost use Rattle.fleet_link.specs.Playing.{Change, GoesOn, IsFleetStep, IsLaterThan, IsOnTime, IsPassed};
+ghost use Rattle.fleet_link.specs.Playing.{is_waiting, is_waiting_for, Change, GoesOn, IsFleetStep, IsLaterThan, IsOnTime, IsPassed};
+ghost use Rattle.fleet_link.specs.Recorded.{HasRoom};
 ghost use Rattle.fleet_link.specs.Traffic.{Carries, Heard, Traffic, failed_once, handed_at, no_traffic};
-ghost use Rattle.fleet_link.specs.Serving.{heard_at, IsDue, IsRecorded, IsServed, IsServing, IsSweptAt};
+ghost use Rattle.fleet_link.specs.Serving.{heard_at, IsDue, IsServed, IsServing, IsSweptAt};
 
 use crate::ports::Ports;
 use crate::recording::Recording;
@@ -136,8 +137,10 @@ impl Slot {
         ensures refused { IfErr result (λ end. (end ≡ DeviceEnd.Memory)
             ⊎ ((end ≡ DeviceEnd.Spent) × IsTrue (is_refused self.old.device event.now))) }
         ensures recorded { self.new.recording.steps.items ≡ self.old.recording.steps.items }
-        ensures complete { self.new.recording.complete ≡ true → self.old.recording.complete ≡ true }
-        ensures room { OnOk result (self.new.recording.complete ≡ true
+        ensures share { self.new.recording.share ≡ self.old.recording.share }
+        ensures left { self.new.recording.left ≡ self.old.recording.left }
+        ensures complete { self.new.recording.complete ≡ self.old.recording.complete }
+        ensures room { OnOk result (HasRoom self.new.recording event.now
             → vec_len self.new.recording.steps < vec_capacity self.new.recording.steps) }
         ensures second { self.new.second ≡ self.old.second }
         ensures row { self.new.row ≡ self.old.row }
@@ -170,6 +173,8 @@ impl Slot {
             → IfErr result (λ end. IsServing f before pending changes (Some end) self.new.device self.old.second
             self.new.recording (P.told ports.new place)) }
         ensures others { (e : ℕ) → e ≢ place → Carries (P.told ports.old e) (P.told ports.new e) no_traffic }
+        ensures share { self.new.recording.share ≡ self.old.recording.share }
+        ensures fixed { P.fixed ports.new ≡ P.fixed ports.old }
         ensures asked { AreRead (P.asked ports.old) (P.asked ports.new) [] }
         ensures second { self.new.second ≡ self.old.second }
         ensures row { self.new.row ≡ self.old.row }
@@ -179,7 +184,7 @@ impl Slot {
     {
         let outputs = self.react(&event)?;
         send_all(ports, place, outputs.as_slice());
-        self.recording.note(Step::Event(event));
+        self.recording.note(event);
         Ok(())
     }
 
@@ -199,6 +204,8 @@ impl Slot {
             → IfErr result (λ end. IsServing f before pending changes (Some end) self.new.device self.new.second
             self.new.recording (P.told ports.new place)) }
         ensures others { (e : ℕ) → e ≢ place → Carries (P.told ports.old e) (P.told ports.new e) no_traffic }
+        ensures share { self.new.recording.share ≡ self.old.recording.share }
+        ensures fixed { P.fixed ports.new ≡ P.fixed ports.old }
         ensures asked { AreRead (P.asked ports.old) (P.asked ports.new) [] }
         ensures second { OnOk result (self.new.second ≡ self.old.second + seconds) }
         ensures left { OnErr result (self.new.second ≡ self.old.second) }
@@ -224,6 +231,8 @@ impl Slot {
             → IfErr result (λ end. IsServing f before pending changes (Some end) self.new.device self.new.second
             self.new.recording (P.told ports.new place)) }
         ensures others { (e : ℕ) → e ≢ place → Carries (P.told ports.old e) (P.told ports.new e) no_traffic }
+        ensures share { self.new.recording.share ≡ self.old.recording.share }
+        ensures fixed { P.fixed ports.new ≡ P.fixed ports.old }
         ensures asked { AreRead (P.asked ports.old) (P.asked ports.new) [] }
         ensures second { self.old.second ≤ now → OnOk result (self.new.second ≡ now) }
         ensures most { (most : ℕ) → self.old.second ≤ most → now ≤ most → self.new.second ≤ most }
@@ -258,6 +267,8 @@ impl Slot {
             → IfErr result (λ end. IsServing f before pending changes (Some end) self.new.device self.new.second
             self.new.recording (P.told ports.new place)) }
         ensures others { (e : ℕ) → e ≢ place → Carries (P.told ports.old e) (P.told ports.new e) no_traffic }
+        ensures share { self.new.recording.share ≡ self.old.recording.share }
+        ensures fixed { P.fixed ports.new ≡ P.fixed ports.old }
         ensures asked { AreRead (P.asked ports.old) (P.asked ports.new) [] }
         ensures second { self.old.second ≤ second → OnOk result (self.new.second ≡ second) }
         ensures most { (most : ℕ) → self.old.second ≤ most → second ≤ most → self.new.second ≤ most }
@@ -289,6 +300,8 @@ impl Slot {
             → IfErr result (λ end. IsServing f before pending (changes_of self.new.row) (Some end) self.new.device
             self.new.second self.new.recording (P.told ports.new place)) }
         ensures others { (e : ℕ) → e ≢ place → Carries (P.told ports.old e) (P.told ports.new e) no_traffic }
+        ensures share { self.new.recording.share ≡ self.old.recording.share }
+        ensures fixed { P.fixed ports.new ≡ P.fixed ports.old }
         ensures asked { AreRead (P.asked ports.old) (P.asked ports.new) [] }
         ensures most { (most : ℕ) → self.old.second ≤ most → due ≤ most → self.new.second ≤ most }
         ensures steps { self.new.row.steps ≡ self.old.row.steps }
@@ -319,6 +332,8 @@ impl Slot {
             → IfErr result (λ end. IsServing f before pending (changes_of self.new.row) (Some end) self.new.device
             self.new.second self.new.recording (P.told ports.new place)) }
         ensures others { (e : ℕ) → e ≢ place → Carries (P.told ports.old e) (P.told ports.new e) no_traffic }
+        ensures share { self.new.recording.share ≡ self.old.recording.share }
+        ensures fixed { P.fixed ports.new ≡ P.fixed ports.old }
         ensures asked { AreRead (P.asked ports.old) (P.asked ports.new) [] }
         ensures second { self.old.second ≤ now → OnOk result (self.new.second ≡ now) }
         ensures most { (most : ℕ) → self.old.second ≤ most → now ≤ most → self.new.second ≤ most }
@@ -356,6 +371,8 @@ impl Slot {
             (changes_of self.new.row) (Some end) self.new.device self.new.second self.new.recording
             (P.told ports.new place)) }
         ensures others { (e : ℕ) → e ≢ place → Carries (P.told ports.old e) (P.told ports.new e) no_traffic }
+        ensures share { self.new.recording.share ≡ self.old.recording.share }
+        ensures fixed { P.fixed ports.new ≡ P.fixed ports.old }
         ensures asked { AreRead (P.asked ports.old) (P.asked ports.new) [] }
         ensures second { self.old.second ≤ now → OnOk result (self.new.second ≡ now) }
         ensures most { (most : ℕ) → self.old.second ≤ most → now ≤ most → self.new.second ≤ most }
@@ -415,6 +432,8 @@ impl Slot {
             → Carries between (P.told ports.old place) (handed_at now packet) → self.old.second ≤ now
             → IsServed class row before self.new (is_err result) (P.told ports.new place) }
         ensures others { (e : ℕ) → e ≢ place → Carries (P.told ports.old e) (P.told ports.new e) no_traffic }
+        ensures share { self.new.recording.share ≡ self.old.recording.share }
+        ensures fixed { P.fixed ports.new ≡ P.fixed ports.old }
         ensures asked { AreRead (P.asked ports.old) (P.asked ports.new) [] }
         ensures second { self.old.second ≤ now → self.new.end ≡ None → self.new.second ≡ now }
         ensures later { self.new.end ≡ None → IsLaterThan now (row_state self.new.row) }
@@ -441,6 +460,8 @@ impl Slot {
             → IsServed class row before self.old false (P.told ports.old place)
             → IsServed class row before self.new (is_err result) (P.told ports.new place) }
         ensures others { (e : ℕ) → e ≢ place → Carries (P.told ports.old e) (P.told ports.new e) no_traffic }
+        ensures share { self.new.recording.share ≡ self.old.recording.share }
+        ensures fixed { P.fixed ports.new ≡ P.fixed ports.old }
         ensures asked { AreRead (P.asked ports.old) (P.asked ports.new) [] }
         ensures second { self.old.second ≤ now → self.new.end ≡ None → self.new.second ≡ now }
         ensures later { self.new.end ≡ None → IsLaterThan now (row_state self.new.row) }
@@ -484,6 +505,8 @@ impl Slot {
             → IsServed class row before self.old false (P.told ports.old place)
             → IsServed class row before self.new (is_err result) (P.told ports.new place) }
         ensures others { (e : ℕ) → e ≢ place → Carries (P.told ports.old e) (P.told ports.new e) no_traffic }
+        ensures share { self.new.recording.share ≡ self.old.recording.share }
+        ensures fixed { P.fixed ports.new ≡ P.fixed ports.old }
         ensures asked { AreRead (P.asked ports.old) (P.asked ports.new) [] }
         ensures goes_on { GoesOn self.old.row self.new.row }
         ensures most { (most : ℕ) → self.old.second ≤ most → now ≤ most → self.new.second ≤ most }
@@ -504,6 +527,7 @@ impl Slot {
             → IsServed class row before self.new false after }
         ensures second { self.new.second ≡ self.old.second }
         ensures row { self.new.row ≡ self.old.row }
+        ensures share { self.new.recording.share ≡ self.old.recording.share }
         ensures ended { self.new.end ≢ None }
     {
         match self.end {
@@ -513,7 +537,9 @@ impl Slot {
     }
 
     /// Whether its row waits at a need.
-    pub(crate) fn waits(&self) -> bool {
+    pub(crate) fn waits(&self) -> bool
+        ensures { result ≡ is_waiting (row_state self.now.row) }
+    {
         match self.row.state() {
             RowState::Waits(_, _) => true,
             RowState::Due(_) | RowState::Ended => false,
@@ -521,7 +547,9 @@ impl Slot {
     }
 
     /// Whether its row waits for posts to this group.
-    pub(crate) fn is_waiting(&self, group: u8) -> bool {
+    pub(crate) fn is_waiting(&self, group: u8) -> bool
+        ensures { result ≡ is_waiting_for group (row_state self.now.row) }
+    {
         match self.row.state() {
             RowState::Waits(other, _) => other == group,
             RowState::Due(_) | RowState::Ended => false,
@@ -542,6 +570,11 @@ impl Slot {
             → IsServed class row before self.new false after }
         ensures passed { (self.new.row ≡ self.old.row) ⊎ ((self.old.end ≡ None)
             × IsPassed group posts now self.old.row self.new.row) }
+        ensures left { (count second : ℕ) → self.new.row ≡ self.old.row → self.old.end ≡ None
+            → row_state self.old.row ≡ RowState.Waits group count → self.old.row.second ≡ Some second → second ≤ now
+            → now < second + 2 ^ 32 → posts < count }
+        ensures kept { self.new.row ≡ self.old.row → self.new ≡ self.old }
+        ensures share { self.new.recording.share ≡ self.old.recording.share }
         ensures second { self.new.second ≡ self.old.second }
         ensures end { self.new.end ≡ self.old.end }
     {

@@ -1,9 +1,14 @@
-//! Ports over UDP: a socket for each device. Nothing is claimed of what a socket carries, so these ports tell nothing.
-ghost use Rattle.std.specs.Prelude.{◌≡◌, None, Ok, IfOk, OnErr};
-ghost use Rattle.fleet_link.specs.Counting.{counts_after, counts_if, none_counted, IsSentOrLost};
+//! Ports over UDP: a socket for each device. These ports tell what they handed out, and what they were given to send;
+//! nothing is claimed of what a socket carries.
+ghost use Rattle.std.specs.Prelude.{◌≡◌, ◌∷◌, [], ℕ, Some, IfOk, length};
+ghost use Rattle.live_link.specs.Wire.{AreRead};
+ghost use Rattle.fleet_link.specs.Counting.{counts_after, none_counted, AreCountsOf, IsSentOrLost};
+ghost use Rattle.fleet_link.specs.Traffic.{Carries, at_port, no_traffic, sent_all, traffic_of_receipt};
+ghost use Rattle.fleet_link.specs.Udp.{asked_over_udp, fixed_over_udp, told_over_udp};
 
 use crate::directory::{Directory, FixedServer};
 use crate::ports::{Arrival, Ports, PortsFault, Receipt};
+use crate::tally::Tally;
 use live_link::Packet;
 use mio::net::UdpSocket;
 use mio::{Events, Interest, Poll, Token};
@@ -73,7 +78,7 @@ pub struct UdpPorts {
     queue: VecDeque<usize>,
     /// Room for one byte more than may be received, so that a longer datagram shows.
     buffer: Vec<u8>,
-    counts: Counts,
+    tally: Tally,
 }
 
 impl From<AllocError> for BindFault {
@@ -186,7 +191,11 @@ impl UdpPorts {
         port: u16,
         servers: Vec<FixedServer>,
     ) -> Result<UdpPorts, BindFault>
-        ensures { IfOk result (λ ports. ports.counts ≡ none_counted) }
+        ensures counts { IfOk result (λ ports. ports.tally.counts ≡ none_counted) }
+        ensures count { IfOk result (λ ports. length ports.doors.items ≡ length scenario.now.rows) }
+        ensures fixed { IfOk result (λ ports. fixed_over_udp ports ≡ servers.items) }
+        ensures told { IfOk result (λ ports. (e : ℕ) → told_over_udp ports e ≡ Some no_traffic) }
+        ensures asked { IfOk result (λ ports. asked_over_udp ports ≡ Some []) }
     {
         let devices = scenario.rows();
         if devices > usize::from(u16::MAX - port) + 1 {
@@ -218,25 +227,22 @@ impl UdpPorts {
             servers,
             queue: VecDeque::with_capacity(alloc, devices)?,
             buffer: Vec::from_elem(alloc, 0u8, MOST_BYTES + 1)?,
-            counts: Counts {
-                received: 0,
-                sent: 0,
-                dropped: 0,
-                lost: 0,
-            },
+            tally: Tally::new(),
         })
     }
 
     /// How many datagrams went through the ports.
     pub fn counts(&self) -> Counts
-        ensures { result ≡ self.now.counts }
+        ensures counts { result ≡ self.now.tally.counts }
+        ensures counted { AreCountsOf (told_over_udp self.now) result }
     {
-        self.counts
+        self.tally.counts()
     }
 
     /// Puts the sockets that the system named into the queue, each once.
     fn queue_named(&mut self) -> Result<(), AllocError>
-        ensures { self.new.counts ≡ self.old.counts }
+        ensures tally { self.new.tally ≡ self.old.tally }
+        ensures servers { self.new.servers ≡ self.old.servers }
     {
         for event in self.events.iter() {
             let place = event.token().0;
@@ -257,8 +263,8 @@ impl UdpPorts {
         count: usize,
         address: SocketAddr,
     ) -> Result<Receipt, AllocError>
-        ensures counted { IfOk result (λ receipt. self.new.counts ≡ counts_after self.old.counts (Ok receipt)) }
-        ensures same { OnErr result (self.new.counts ≡ self.old.counts) }
+        ensures tally { self.new.tally ≡ self.old.tally }
+        ensures servers { self.new.servers ≡ self.old.servers }
     {
         let account = match self.doors.get_mut(place) {
             Some(door) if count <= MOST_BYTES => {
@@ -269,23 +275,19 @@ impl UdpPorts {
         match account {
             Some(server) if count <= self.buffer.len() => {
                 let bytes = Bytes::from_slice(self.alloc, &self.buffer[..count])?;
-                self.counts.received = self.counts.received.saturating_add(1);
                 Ok(Receipt::Arrived(Arrival {
                     device: place,
                     packet: Packet { server, bytes },
                 }))
             }
-            _ => {
-                self.counts.dropped = self.counts.dropped.saturating_add(1);
-                Ok(Receipt::Dropped)
-            }
+            _ => Ok(Receipt::Dropped),
         }
     }
 
     /// Asks the socket at this place, which was taken from the queue. None: it has nothing.
     fn ask_at(&mut self, place: usize) -> Result<Option<Receipt>, AllocError>
-        ensures counted { IfOk result (λ receipt. self.new.counts ≡ counts_if self.old.counts receipt) }
-        ensures same { OnErr result (self.new.counts ≡ self.old.counts) }
+        ensures tally { self.new.tally ≡ self.old.tally }
+        ensures servers { self.new.servers ≡ self.old.servers }
     {
         let Some(door) = self.doors.get_mut(place) else {
             return Ok(None);
@@ -306,16 +308,11 @@ impl UdpPorts {
             }
         }
     }
-}
-
-impl Ports for UdpPorts {
-    ghost told = { λ _ _. None };
-
-    ghost asked = { λ _. None };
 
     /// What a socket of the queue has, one after another: so none that has much keeps the others waiting.
-    fn receive(&mut self, _second: u64) -> Result<Receipt, PortsFault>
-        ensures { self.new.counts ≡ counts_after self.old.counts result }
+    fn next_receipt(&mut self) -> Result<Receipt, PortsFault>
+        ensures tally { self.new.tally ≡ self.old.tally }
+        ensures servers { self.new.servers ≡ self.old.servers }
     {
         for _asked in 0..self.queue.len() {
             let Some(place) = self.queue.pop_front() else {
@@ -327,28 +324,52 @@ impl Ports for UdpPorts {
         }
         Ok(Receipt::Nothing)
     }
+}
+
+impl Ports for UdpPorts {
+    ghost told = { λ ports e. told_over_udp ports e };
+
+    ghost asked = { λ ports. asked_over_udp ports };
+
+    ghost fixed = { λ ports. fixed_over_udp ports };
+
+    /// What a socket of the queue has.
+    fn receive(&mut self, second: u64) -> Result<Receipt, PortsFault>
+        ensures told { (e : ℕ) → Carries (told_over_udp self.old e) (told_over_udp self.new e)
+            (traffic_of_receipt second result e) }
+        ensures fixed { fixed_over_udp self.new ≡ fixed_over_udp self.old }
+        ensures asked { AreRead (asked_over_udp self.old) (asked_over_udp self.new) (second ∷ []) }
+        ensures counts { self.new.tally.counts ≡ counts_after self.old.tally.counts result }
+    {
+        let given = self.next_receipt();
+        self.tally.note_receipt(second, &given);
+        given
+    }
 
     /// What cannot be sent is lost: the address of the account is not known, or the system refuses it.
     fn send(&mut self, device: usize, server: u16, bytes: &[u8])
-        ensures { IsSentOrLost self.old.counts self.new.counts }
+        ensures told { (e : ℕ) → Carries (told_over_udp self.old e) (told_over_udp self.new e)
+            (at_port device e (sent_all (record { server = server; bytes = bytes.now } ∷ []))) }
+        ensures fixed { fixed_over_udp self.new ≡ fixed_over_udp self.old }
+        ensures asked { AreRead (asked_over_udp self.old) (asked_over_udp self.new) [] }
+        ensures counts { IsSentOrLost self.old.tally.counts self.new.tally.counts }
     {
-        let sent = match self.doors.get(device) {
+        let taken = match self.doors.get(device) {
             None => false,
             Some(door) => match door.directory.address_of(server) {
                 None => false,
                 Some(address) => door.socket.send_to(bytes, address).is_ok(),
             },
         };
-        if sent {
-            self.counts.sent = self.counts.sent.saturating_add(1);
-        } else {
-            self.counts.lost = self.counts.lost.saturating_add(1);
-        }
+        self.tally.note_sending(device, server, bytes, taken);
     }
 
     /// It does not wait where a socket is in the queue.
     fn wait(&mut self, millis: u32) -> Result<(), PortsFault>
-        ensures { self.new.counts ≡ self.old.counts }
+        ensures told { (e : ℕ) → Carries (told_over_udp self.old e) (told_over_udp self.new e) no_traffic }
+        ensures fixed { fixed_over_udp self.new ≡ fixed_over_udp self.old }
+        ensures asked { AreRead (asked_over_udp self.old) (asked_over_udp self.new) [] }
+        ensures counts { self.new.tally.counts ≡ self.old.tally.counts }
     {
         let millis = if self.queue.is_empty() { millis } else { 0 };
         match self.poll.poll(

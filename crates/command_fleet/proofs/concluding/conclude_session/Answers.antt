@@ -1,4 +1,4 @@
-use Rattle.std.proofs.Common.{None, rules}
+use Rattle.std.proofs.Common.{None, refl, rules}
 use Rattle.command_files.specs.World.{FilesKnown, StreamFaults, Streams, World}
 use Rattle.command_fleet.specs.Fleet.{Session}
 use Rattle.command_fleet.proofs.Sessions.{concluded, line_unprinted, steps_unsaved}
@@ -19,8 +19,8 @@ returns-clause-concluded g c =
       second = c.args.fleet.second;
       counts = c.args.counts;
     } in
-    concluded before after c.args.asked.now c.args.part.now session c.status_of.result
-    c.in_ok-print_session.ensures.printed c.in_ok-save_steps.ensures.saved c.status_of.ensures
+    concluded before after c.args.asked.now c.args.part.now session c.status_of.result c.cut_of-cut.result
+    c.cut_of-cut.ensures c.in_ok-print_session.ensures.printed c.in_ok-save_steps.ensures.saved c.status_of.ensures
 
 pub returns-in_err-print_session-clause-refused : goal.returns-in_err-print_session-clause-refused
 returns-in_err-print_session-clause-refused g c =
@@ -46,7 +46,7 @@ returns-in_err-print_session-clause-refused g c =
       counts = c.args.counts;
     } in
     let h = line_unprinted files faults before after c.args.asked.now session c.in_err-print_session.field-0.0.fault
-    c.in_err-print_session.ensures.refused in
+    c.cut_of-cut.result c.cut_of-cut.ensures c.in_err-print_session.ensures.refused in
     search (rules, h)
 
 pub returns-in_err-save_steps-clause-refused : goal.returns-in_err-save_steps-clause-refused
@@ -73,5 +73,6 @@ returns-in_err-save_steps-clause-refused g c =
       counts = c.args.counts;
     } in
     let h = steps_unsaved files faults before after c.args.asked.now session c.in_err-save_steps.field-0.0.fault
-    c.in_ok-print_session.ensures.printed c.in_err-save_steps.ensures.refused in
+    c.cut_of-cut.result c.cut_of-cut.ensures c.in_ok-print_session.ensures.printed c.in_err-save_steps.ensures.refused
+    in
     search (rules, h)

@@ -7,3 +7,4 @@ returns-clause-served c =
     c.recording_of.result c.rows-rows.ensures.valid c.requires c.in_ok-device.ensures c.new.ensures.device
     c.new.ensures.second c.new.ensures.end c.new.ensures.due c.new.ensures.row c.in_ok-row.ensures.steps
     c.in_ok-row.ensures.place c.in_ok-row.ensures.second c.new.ensures.recording c.recording_of.ensures.steps
+    c.recording_of.ensures.left c.recording_of.ensures.complete

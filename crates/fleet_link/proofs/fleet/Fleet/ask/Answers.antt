@@ -1,5 +1,6 @@
-use Rattle.std.proofs.Common.{◌≤◌, true, arith}
+use Rattle.std.proofs.Common.{◌≤◌, true, ap, arith}
 use Rattle.fleet_link.proofs.Fleets.{breaks, errs, passed, still_served, swept_same}
+use Rattle.fleet_link.proofs.Gone.{gone_as, gone_both}
 use Rattle.fleet_link.proofs.Seconds.{asked_more, asked_on}
 use Rattle.fleet_link.proofs.fleet.Fleet.ask.Goals as goal
 
@@ -70,3 +71,19 @@ returns-clause-asked g c =
     (asked_more read_before _ _ asked_before _ _ _ _ _ _ c.now-reading.result calls h c.now-reading.ensures
     c.receive.ensures.asked c.pass.ensures.began c.pass.ensures.second) c.take_receipt.ensures.asked
     c.take_receipt.ensures.began c.take_receipt.ensures.second
+
+pub returns-in_err-receipt-clause-went : goal.returns-in_err-receipt-clause-went
+returns-in_err-receipt-clause-went g c =
+    gone_as c.args.self.now.slots.items c.pass.new.self.slots.items (ap (λ v. v.items) c.pass.ensures.slots)
+
+pub returns-in_err-take_receipt-clause-went : goal.returns-in_err-take_receipt-clause-went
+returns-in_err-take_receipt-clause-went g c =
+    gone_both c.args.self.now.slots.items c.pass.new.self.slots.items c.take_receipt.new.self.slots.items
+    (gone_as c.args.self.now.slots.items c.pass.new.self.slots.items (ap (λ v. v.items) c.pass.ensures.slots))
+    c.take_receipt.ensures.went
+
+pub returns-clause-went : goal.returns-clause-went
+returns-clause-went g c =
+    gone_both c.args.self.now.slots.items c.pass.new.self.slots.items c.take_receipt.new.self.slots.items
+    (gone_as c.args.self.now.slots.items c.pass.new.self.slots.items (ap (λ v. v.items) c.pass.ensures.slots))
+    c.take_receipt.ensures.went

@@ -1,7 +1,8 @@
-use Rattle.std.proofs.Common.{◌≡◌, ◌≤◌, ◌<◌, length, true, false, ◌∙◌, arith}
+use Rattle.std.proofs.Common.{◌≡◌, ◌≤◌, ◌<◌, length, true, false, refl, ◌∙◌, arith}
 use Rattle.std.proofs.Math.ListN.{length-set}
 use Rattle.fleet_link.proofs.Fleets.{breaks, errs, next_at, next_served, read_at, stand_at}
-use Rattle.fleet_link.proofs.Told.{still_none}
+use Rattle.fleet_link.proofs.Gone.{gone_both, gone_same, gone_set}
+use Rattle.fleet_link.proofs.Told.{read_none, still_none}
 use Rattle.fleet_link.proofs.fleet.Fleet.finish.Goals as goal
 
 pub returns-in_err-reach-clause-fleet : goal.returns-in_err-reach-clause-fleet
@@ -40,6 +41,10 @@ loop-place-preserved g c =
           (λ early e. c.reach.ensures.second (omega (arith, early, at.invariant.second)) e
           ∙ omega (arith, at.invariant.second))
           (at.invariant.finished s played before h);
+      went = gone_both c.args.self.now.slots.items slots.items _ at.invariant.went
+          (gone_set slots.items at.place c.index_mut.result.now c.reach.new.self got c.reach.ensures.goes_on.later
+          c.reach.ensures.share);
+      fixed = c.reach.ensures.fixed ∙ at.invariant.fixed;
       asked = still_none _ _ _ at.invariant.asked c.reach.ensures.asked;
       second = at.invariant.second;
       began = at.invariant.began;
@@ -54,3 +59,26 @@ returns-clause-finished g c =
     omega (arith, at.auto.place-end, at.invariant.count, c.len-place-end.ensures, c.args.self.now.slots.ok.0) in
     stand_at at.self.slots.items at.place (length at.self.slots.items) at.self.second end
     (at.invariant.finished s played before h)
+
+pub loop-place-init : goal.loop-place-init
+loop-place-init g c = record {
+  fleet = λ s played before h. h;
+  finished = λ s played before h e slot l. absurd (omega (arith, l));
+  went = gone_same c.args.self.now.slots.items;
+  fixed = refl;
+  asked = read_none (g.P.Ports.asked c.args.ports.now);
+  second = refl;
+  began = refl;
+  count = refl;
+}
+
+pub returns-in_err-reach-clause-went : goal.returns-in_err-reach-clause-went
+returns-in_err-reach-clause-went g c =
+    let at = c.loop-place in
+    let slots = at.self.slots in
+    let within : at.place < length slots.items =
+    omega (arith, at.invariant.count, c.len-place-end.ensures, c.args.self.now.slots.ok.0) in
+    let got = read_at slots.items at.place c.index_mut.result.now within c.index_mut.ensures.value in
+    gone_both c.args.self.now.slots.items slots.items _ at.invariant.went
+    (gone_set slots.items at.place c.index_mut.result.now c.reach.new.self got c.reach.ensures.goes_on.later
+    c.reach.ensures.share)

@@ -1,5 +1,6 @@
 use Rattle.std.proofs.Common.{true, false, refl}
 use Rattle.fleet_link.proofs.Fleets.{breaks, errs, still_served}
+use Rattle.fleet_link.proofs.Gone.{gone_same}
 use Rattle.fleet_link.proofs.Seconds.{asked_on}
 use Rattle.fleet_link.proofs.fleet.Fleet.listen.Goals as goal
 
@@ -37,3 +38,6 @@ pub returns-clause-heard : goal.returns-clause-heard
 returns-clause-heard g c =
     λ read_before asked_before calls h. c.serve_arrivals.ensures.heard read_before asked_before calls
     (asked_on read_before _ asked_before _ _ _ _ _ _ calls h c.wait.ensures.asked refl refl)
+
+pub returns-in_err-wait-clause-went : goal.returns-in_err-wait-clause-went
+returns-in_err-wait-clause-went g c = gone_same c.args.self.now.slots.items

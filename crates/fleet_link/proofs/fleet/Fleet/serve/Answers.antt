@@ -1,5 +1,6 @@
-use Rattle.std.proofs.Common.{◌+◌, ◌≤◌, true, inl, inr, arith}
+use Rattle.std.proofs.Common.{◌+◌, ◌≤◌, ◌∙◌, true, inl, inr, refl, arith}
 use Rattle.fleet_link.proofs.Fleets.{always, breaks, errs}
+use Rattle.fleet_link.proofs.Gone.{gone_both, gone_same}
 use Rattle.fleet_link.proofs.Seconds.{asked_less, asked_on}
 use Rattle.fleet_link.proofs.fleet.Fleet.serve.Goals as goal
 
@@ -22,6 +23,9 @@ pub loop-turn-preserved : goal.loop-turn-preserved
 loop-turn-preserved g c = record {
   fleet = λ s played before h. c.in_ok-turn.ensures.fleet s played before (c.loop-turn.invariant.fleet s played before
       h);
+  went = gone_both c.args.self.now.slots.items c.loop-turn.self.slots.items c.turn.new.self.slots.items
+      c.loop-turn.invariant.went c.turn.ensures.went;
+  fixed = c.turn.ensures.fixed ∙ c.loop-turn.invariant.fixed;
   asked = λ read_before asked_before calls h. asked_less read_before _ asked_before _ _ _ _
       (calls + (c.loop-turn._turn + 1))
       (c.in_ok-turn.ensures.heard read_before asked_before (calls + c.loop-turn._turn)
@@ -39,6 +43,8 @@ returns-clause-finished g c =
 pub loop-turn-init : goal.loop-turn-init
 loop-turn-init g c = record {
   fleet = λ s played before h. h;
+  went = gone_same c.args.self.now.slots.items;
+  fixed = refl;
   asked = λ read_before asked_before calls h. asked_less read_before _ asked_before _ _ _ _ (calls + 0) h (omega arith);
 }
 
@@ -72,3 +78,18 @@ returns-clause-stop g c =
     (calls + c.args.turns)
     (asked_on read_before _ asked_before _ _ _ _ _ _ _ (c.loop-turn.invariant.asked read_before asked_before calls h)
     c.finish-2.ensures.asked c.finish-2.ensures.began c.finish-2.ensures.second) (omega arith)))
+
+pub returns-then-self-until-clause-went : goal.returns-then-self-until-clause-went
+returns-then-self-until-clause-went g c =
+    gone_both c.args.self.now.slots.items c.loop-turn.self.slots.items c.finish.new.self.slots.items
+    c.loop-turn.invariant.went c.finish.ensures.went
+
+pub returns-in_err-turn-clause-went : goal.returns-in_err-turn-clause-went
+returns-in_err-turn-clause-went g c =
+    gone_both c.args.self.now.slots.items c.loop-turn.self.slots.items c.turn.new.self.slots.items
+    c.loop-turn.invariant.went c.turn.ensures.went
+
+pub returns-clause-went : goal.returns-clause-went
+returns-clause-went g c =
+    gone_both c.args.self.now.slots.items c.loop-turn.self.slots.items c.finish-2.new.self.slots.items
+    c.loop-turn.invariant.went c.finish-2.ensures.went

@@ -1,7 +1,7 @@
 -- All devices are served so far.
-use Rattle.std.proofs.Common.{Bool, ◌+◌, ℕ, List, false, Option}
+use Rattle.std.proofs.Common.{Bool, ◌≡◌, ◌+◌, ℕ, List, false, Option}
 use Rattle.scenario_image.specs.Scenario.{Scenario}
-use Rattle.fleet_link.specs.Serving.{IsFleet}
+use Rattle.fleet_link.specs.Serving.{HaveGoneOn, IsFleet}
 use Rattle.fleet_link.specs.Timing.{AreAsked}
 use Rattle.fleet_link.specs.Traffic.{Traffic}
 use Rattle.fleet_link.proofs.fleet.Fleet.serve.Given as goal
@@ -11,6 +11,8 @@ invariant-loop-turn g l = record {
   fleet : (s : Scenario) (played : Bool) (before : ℕ → Option Traffic)
       → IsFleet s played before l.fn.self.slots.items l.fn.self.second false (g.P.Ports.told l.fn.ports)
       → IsFleet s played before l.self.slots.items l.self.second false (g.P.Ports.told l.ports);
+  went : HaveGoneOn l.fn.self.slots.items l.self.slots.items;
+  fixed : g.P.Ports.fixed l.ports ≡ g.P.Ports.fixed l.fn.ports;
   asked : (read_before asked_before : Option (List ℕ)) (calls : ℕ) → AreAsked read_before
       (g.C.Seconds.read l.fn.clock) asked_before (g.P.Ports.asked l.fn.ports) l.fn.self.began l.fn.self.second calls
       → AreAsked read_before (g.C.Seconds.read l.clock) asked_before (g.P.Ports.asked l.ports) l.self.began

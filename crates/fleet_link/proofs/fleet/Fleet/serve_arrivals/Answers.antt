@@ -1,5 +1,6 @@
-use Rattle.std.proofs.Common.{◌+◌, ◌≤◌, true, refl, arith}
+use Rattle.std.proofs.Common.{◌+◌, ◌≤◌, ◌∙◌, true, refl, arith}
 use Rattle.fleet_link.proofs.Fleets.{breaks, errs}
+use Rattle.fleet_link.proofs.Gone.{gone_both, gone_same}
 use Rattle.fleet_link.proofs.Seconds.{asked_less}
 use Rattle.fleet_link.proofs.fleet.Fleet.serve_arrivals.Goals as goal
 
@@ -20,6 +21,8 @@ pub loop-turn-init : goal.loop-turn-init
 loop-turn-init g c = record {
   fleet = λ s played before h. h;
   swept = λ s played before h n second le k. k;
+  went = gone_same c.args.self.now.slots.items;
+  fixed = refl;
   asked = λ read_before asked_before calls h. asked_less read_before _ asked_before _ _ _ _ (calls + 0) h (omega arith);
   later = omega arith;
   count = refl;
@@ -33,6 +36,9 @@ loop-turn-preserved g c = record {
       let later : second ≤ c.loop-turn.self.second = omega (arith, c.loop-turn.invariant.later) in
       c.ask.ensures.swept s played before (c.loop-turn.invariant.fleet s played before h) n second later
       (c.loop-turn.invariant.swept s played before h n second le k);
+  went = gone_both c.args.self.now.slots.items c.loop-turn.self.slots.items c.ask.new.self.slots.items
+      c.loop-turn.invariant.went c.ask.ensures.went;
+  fixed = c.ask.ensures.fixed ∙ c.loop-turn.invariant.fixed;
   asked = λ read_before asked_before calls h. asked_less read_before _ asked_before _ _ _ _
       (calls + (c.loop-turn._turn + 1))
       (c.ask.ensures.asked read_before asked_before (calls + c.loop-turn._turn)
@@ -73,3 +79,13 @@ pub returns-clause-heard : goal.returns-clause-heard
 returns-clause-heard g c =
     λ read_before asked_before calls h. asked_less read_before _ asked_before _ _ _ _ (calls + 1)
     (c.loop-turn.invariant.asked read_before asked_before calls h) (omega arith)
+
+pub returns-in_err-ask-clause-went : goal.returns-in_err-ask-clause-went
+returns-in_err-ask-clause-went g c =
+    gone_both c.args.self.now.slots.items c.loop-turn.self.slots.items c.ask.new.self.slots.items
+    c.loop-turn.invariant.went c.ask.ensures.went
+
+pub returns-then-not-branch-clause-went : goal.returns-then-not-branch-clause-went
+returns-then-not-branch-clause-went g c =
+    gone_both c.args.self.now.slots.items c.loop-turn.self.slots.items c.ask.new.self.slots.items
+    c.loop-turn.invariant.went c.ask.ensures.went

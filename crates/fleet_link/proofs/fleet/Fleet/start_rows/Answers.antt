@@ -1,10 +1,11 @@
-use Rattle.fleet_link.proofs.Started.{more_first, more_recorded, none_first, none_recorded}
+use Rattle.fleet_link.proofs.Started.{more_first, more_recorded, more_shares, none_first, none_recorded, none_shares}
 use Rattle.fleet_link.proofs.fleet.Fleet.start_rows.Goals as goal
 
 pub loop-device-init : goal.loop-device-init
 loop-device-init c = record {
   first = none_first c.args.scenario.now c.args.played _ c.in_ok-slots.ensures.items;
-  recorded = λ saved. none_recorded _ c.in_ok-slots.ensures.items;
+  recorded = none_recorded _ c.in_ok-slots.ensures.items;
+  shares = none_shares _ _ c.in_ok-slots.ensures.items;
 }
 
 pub loop-device-preserved : goal.loop-device-preserved
@@ -13,7 +14,8 @@ loop-device-preserved c = record {
       c.push.new.self.items
       c.in_ok-slot_of_row.field-0 c.loop-device.invariant.first c.in_ok-push.ensures.items
       c.in_ok-slot_of_row.ensures.served c.in_ok-slot_of_row.ensures.second c.in_ok-slot_of_row.ensures.place;
-  recorded = λ saved. more_recorded c.loop-device.slots.items c.push.new.self.items c.in_ok-slot_of_row.field-0
-      (c.loop-device.invariant.recorded saved) c.in_ok-push.ensures.items
-      (c.in_ok-slot_of_row.ensures.recorded saved);
+  recorded = more_recorded c.loop-device.slots.items c.push.new.self.items c.in_ok-slot_of_row.field-0
+      c.loop-device.invariant.recorded c.in_ok-push.ensures.items c.in_ok-slot_of_row.ensures.recorded;
+  shares = more_shares c.loop-device.slots.items c.push.new.self.items c.in_ok-slot_of_row.field-0 _
+      c.loop-device.invariant.shares c.in_ok-push.ensures.items c.in_ok-slot_of_row.ensures.share;
 }

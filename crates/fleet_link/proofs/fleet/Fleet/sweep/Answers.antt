@@ -1,7 +1,8 @@
-use Rattle.std.proofs.Common.{◌≡◌, ◌≤◌, ◌<◌, length, true, false, ◌∙◌, arith}
+use Rattle.std.proofs.Common.{◌≡◌, ◌≤◌, ◌<◌, length, true, false, refl, ◌∙◌, arith}
 use Rattle.std.proofs.Math.ListN.{length-set}
 use Rattle.fleet_link.proofs.Fleets.{breaks, errs, next_served, next_swept, read_at, swept_at}
-use Rattle.fleet_link.proofs.Told.{still_none}
+use Rattle.fleet_link.proofs.Gone.{gone_both, gone_same, gone_set}
+use Rattle.fleet_link.proofs.Told.{read_none, still_none}
 use Rattle.fleet_link.proofs.fleet.Fleet.sweep.Goals as goal
 
 pub returns-in_err-sweep-clause-fleet : goal.returns-in_err-sweep-clause-fleet
@@ -36,6 +37,10 @@ loop-place-preserved g c =
           next_swept s played before (g.P.Ports.told at.ports) slots.items at.self.second at.place c.args.second
           c.index_mut.result.now c.sweep.new.self (at.invariant.fleet s played before le h) got c.sweep.ensures.swept
           (at.invariant.swept s played before le h k);
+      went = gone_both c.args.self.now.slots.items slots.items _ at.invariant.went
+          (gone_set slots.items at.place c.index_mut.result.now c.sweep.new.self got c.sweep.ensures.goes_on.later
+          c.sweep.ensures.share);
+      fixed = c.sweep.ensures.fixed ∙ at.invariant.fixed;
       asked = still_none _ _ _ at.invariant.asked c.sweep.ensures.asked;
       second = at.invariant.second;
       began = at.invariant.began;
@@ -48,3 +53,25 @@ returns-clause-swept g c =
     λ s played before le h order k.
     let end : at.place ≡ c.args.to = omega (arith, order, at.auto.place-end) in
     swept_at at.self.slots.items at.place c.args.to c.args.second end (at.invariant.swept s played before le h k)
+
+pub loop-place-init : goal.loop-place-init
+loop-place-init g c = record {
+  fleet = λ s played before le h. h;
+  swept = λ s played before le h k. k;
+  went = gone_same c.args.self.now.slots.items;
+  fixed = refl;
+  asked = read_none (g.P.Ports.asked c.args.ports.now);
+  second = refl;
+  began = refl;
+  count = refl;
+}
+
+pub returns-in_err-sweep-clause-went : goal.returns-in_err-sweep-clause-went
+returns-in_err-sweep-clause-went g c =
+    let at = c.loop-place in
+    let slots = at.self.slots in
+    let within : at.place < length slots.items = omega (arith, at.invariant.count, c.requires) in
+    let got = read_at slots.items at.place c.index_mut.result.now within c.index_mut.ensures.value in
+    gone_both c.args.self.now.slots.items slots.items _ at.invariant.went
+    (gone_set slots.items at.place c.index_mut.result.now c.sweep.new.self got c.sweep.ensures.goes_on.later
+    c.sweep.ensures.share)

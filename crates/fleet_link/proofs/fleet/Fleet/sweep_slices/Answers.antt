@@ -1,5 +1,6 @@
 use Rattle.std.proofs.Common.{◌≡◌, ◌≤◌, ◌*◌, ◌+◌, min, length, true, ◌∙◌, refl, arith}
 use Rattle.fleet_link.proofs.Fleets.{breaks, errs, swept_at}
+use Rattle.fleet_link.proofs.Gone.{gone_both, gone_same}
 use Rattle.fleet_link.proofs.Seconds.{asked_less, asked_on}
 use Rattle.fleet_link.proofs.fleet.Fleet.sweep_slices.Goals as goal
 
@@ -56,6 +57,10 @@ loop-slice-preserved g c =
           c.args.self.now.second later
           (c.in_ok-sweep.ensures.swept s played before at.invariant.later (at.invariant.fleet s played before h) order
           (swept_at _ _ (at.slice * 64) c.args.self.now.second from (at.invariant.swept s played before h))));
+      went = gone_both c.args.self.now.slots.items c.sweep.new.self.slots.items c.listen.new.self.slots.items
+          (gone_both c.args.self.now.slots.items at.self.slots.items c.sweep.new.self.slots.items at.invariant.went
+          c.sweep.ensures.went) c.listen.ensures.went;
+      fixed = c.listen.ensures.fixed ∙ c.sweep.ensures.fixed ∙ at.invariant.fixed;
       asked = λ read_before asked_before calls h. asked_less read_before _ asked_before _ _ _ _
           (calls + (at.slice + 1))
           (c.in_ok-listen.ensures.heard read_before asked_before (calls + at.slice)
@@ -77,6 +82,8 @@ pub loop-slice-init : goal.loop-slice-init
 loop-slice-init g c = record {
   fleet = λ s played before h. h;
   swept = λ s played before h e slot l. absurd (omega (arith, l));
+  went = gone_same c.args.self.now.slots.items;
+  fixed = refl;
   asked = λ read_before asked_before calls h. asked_less read_before _ asked_before _ _ _ _ (calls + 0) h (omega arith);
   later = omega arith;
   count = refl;
@@ -92,3 +99,16 @@ returns-clause-heard g c =
     let at = c.loop-slice in
     λ read_before asked_before calls h. asked_less read_before _ asked_before _ _ _ _ (calls + 1)
     (at.invariant.asked read_before asked_before calls h) (omega (arith, at.auto.slice-end))
+
+pub returns-in_err-sweep-clause-went : goal.returns-in_err-sweep-clause-went
+returns-in_err-sweep-clause-went g c =
+    let at = c.loop-slice in
+    gone_both c.args.self.now.slots.items at.self.slots.items c.sweep.new.self.slots.items at.invariant.went
+    c.sweep.ensures.went
+
+pub returns-in_err-listen-clause-went : goal.returns-in_err-listen-clause-went
+returns-in_err-listen-clause-went g c =
+    let at = c.loop-slice in
+    gone_both c.args.self.now.slots.items c.sweep.new.self.slots.items c.listen.new.self.slots.items
+    (gone_both c.args.self.now.slots.items at.self.slots.items c.sweep.new.self.slots.items at.invariant.went
+    c.sweep.ensures.went) c.listen.ensures.went

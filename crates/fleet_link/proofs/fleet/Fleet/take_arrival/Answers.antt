@@ -2,6 +2,7 @@ use Rattle.std.proofs.Common.{◌<◌, ◌≤◌, length, false, arith}
 use Rattle.std.specs.Result.{is_err}
 use Rattle.fleet_link.specs.Traffic.{handed_at}
 use Rattle.fleet_link.proofs.Fleets.{beyond, gone_due, gone_on, read_at}
+use Rattle.fleet_link.proofs.Gone.{gone_same, gone_set}
 use Rattle.fleet_link.proofs.fleet.Fleet.take_arrival.Goals as goal
 
 pub returns-then-place-len-clause-fleet : goal.returns-then-place-len-clause-fleet
@@ -36,3 +37,15 @@ returns-clause-swept g c =
     (handed_at c.args.self.now.second c.args.arrival.packet) c.index_mut.result.now c.hear.new.self h went
     (read_at slots.items place c.index_mut.result.now within c.index_mut.ensures.value) c.hear.ensures.served
     c.hear.ensures.second c.hear.ensures.later
+
+pub returns-then-place-len-clause-went : goal.returns-then-place-len-clause-went
+returns-then-place-len-clause-went g c = gone_same c.args.self.now.slots.items
+
+pub returns-clause-went : goal.returns-clause-went
+returns-clause-went g c =
+    let slots = c.args.self.now.slots in
+    let place = c.args.arrival.device in
+    let within : place < length slots.items = omega (arith, slots.ok.0, c.len.ensures) in
+    gone_set slots.items place c.index_mut.result.now c.hear.new.self
+    (read_at slots.items place c.index_mut.result.now within c.index_mut.ensures.value) c.hear.ensures.goes_on.later
+    c.hear.ensures.share

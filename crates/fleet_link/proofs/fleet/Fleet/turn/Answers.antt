@@ -1,5 +1,6 @@
 use Rattle.std.proofs.Common.{OnOk, length, subst}
 use Rattle.fleet_link.specs.Serving.{AreSwept}
+use Rattle.fleet_link.proofs.Gone.{gone_both, passed_on}
 use Rattle.fleet_link.proofs.Seconds.{asked_on}
 use Rattle.fleet_link.proofs.Told.{read_none}
 use Rattle.fleet_link.proofs.fleet.Fleet.turn.Goals as goal
@@ -28,3 +29,13 @@ returns-clause-heard g c =
     λ read_before asked_before calls h. c.sweep_slices.ensures.heard read_before asked_before calls
     (asked_on read_before _ asked_before _ _ _ _ _ _ calls h (read_none (g.P.Ports.asked c.args.ports.now))
     c.pass_needs.ensures.began c.pass_needs.ensures.second)
+
+pub returns-clause-passed : goal.returns-clause-passed
+returns-clause-passed g c =
+    passed_on c.args.self.now.second c.args.self.now.slots.items c.pass_needs.new.self.slots.items
+    c.sweep_slices.new.self.slots.items c.pass_needs.ensures.passed c.sweep_slices.ensures.went
+
+pub returns-clause-went : goal.returns-clause-went
+returns-clause-went g c =
+    gone_both c.args.self.now.slots.items c.pass_needs.new.self.slots.items c.sweep_slices.new.self.slots.items
+    c.pass_needs.ensures.went c.sweep_slices.ensures.went

@@ -18,6 +18,8 @@ loop-due-init g c = record {
   on_time = λ h. h;
   goes_on = goes_on_same c.args.self.now.row c.args.self.now.row refl;
   others = λ e o. carries_none (g.P.Ports.told c.args.ports.now e);
+  share = refl;
+  fixed = refl;
   asked = read_none (g.P.Ports.asked c.args.ports.now);
   most = λ most a b. a;
   steps = refl;
@@ -35,6 +37,8 @@ loop-due-preserved g c =
       goes_on = goes_both c.args.self.now.row at.self.row made.new.self.row at.invariant.goes_on made.ensures.goes_on;
       others = λ e o. carries_on (g.P.Ports.told c.args.ports.now e) (g.P.Ports.told at.ports e)
           (g.P.Ports.told made.new.ports e) no_traffic (at.invariant.others e o) (made.ensures.others e o);
+      share = made.ensures.share ∙ at.invariant.share;
+      fixed = made.ensures.fixed ∙ at.invariant.fixed;
       asked = still_none _ _ _ at.invariant.asked made.ensures.asked;
       most = λ most a b. made.ensures.most most (at.invariant.most most a b) (omega (arith, b, c.in-Some.ensures.by));
       steps = made.ensures.steps ∙ at.invariant.steps;

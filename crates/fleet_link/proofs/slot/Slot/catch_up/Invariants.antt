@@ -17,6 +17,8 @@ invariant-loop-due g l = record {
   on_time : IsOnTime l.fn.self.row l.fn.self.second → IsOnTime l.self.row l.self.second;
   others : (e : ℕ) → (e ≡ l.place → ⊥)
       → Carries (g.P.Ports.told l.fn.ports e) (g.P.Ports.told l.ports e) no_traffic;
+  share : l.self.recording.share ≡ l.fn.self.recording.share;
+  fixed : g.P.Ports.fixed l.ports ≡ g.P.Ports.fixed l.fn.ports;
   asked : AreRead (g.P.Ports.asked l.fn.ports) (g.P.Ports.asked l.ports) [];
   most : (most : ℕ) → l.fn.self.second ≤ most → l.now ≤ most → l.self.second ≤ most;
   goes_on : GoesOn l.fn.self.row l.self.row;

@@ -16,6 +16,8 @@ invariant-loop-self g l = record {
       (g.P.Ports.told l.ports l.place);
   others : (e : ℕ) → (e ≡ l.place → ⊥)
       → Carries (g.P.Ports.told l.fn.ports e) (g.P.Ports.told l.ports e) no_traffic;
+  share : l.self.recording.share ≡ l.fn.self.recording.share;
+  fixed : g.P.Ports.fixed l.ports ≡ g.P.Ports.fixed l.fn.ports;
   asked : AreRead (g.P.Ports.asked l.fn.ports) (g.P.Ports.asked l.ports) [];
   most : (most : ℕ) → l.fn.self.second ≤ most → l.now ≤ most → l.self.second ≤ most;
   row : l.self.row ≡ l.fn.self.row;

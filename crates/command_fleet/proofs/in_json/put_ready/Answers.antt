@@ -1,0 +1,19 @@
+use Rattle.std.proofs.Common.{append_assoc}
+use Rattle.command_fleet.specs.InJson.{ready_json}
+use Rattle.command_fleet.proofs.in_json.put_ready.Goals as goal
+
+pub returns-clause-adds : goal.returns-clause-adds
+unfolding ready_json
+returns-clause-adds c =
+    rw (
+      c.in_ok-end_object.ensures.ok,
+      c.in_ok-put_number-3.ensures.adds,
+      c.in_ok-put_text-2.ensures.adds,
+      c.requires,
+      c.in_ok-put_number-2.ensures.adds,
+      c.in_ok-put_text.ensures.adds,
+      c.in_ok-put_number.ensures.adds,
+      c.in_ok-begin_object.ensures.ok,
+      c.from.ensures,
+      c.port.ensures,
+    ) (simp append_assoc)

@@ -1,0 +1,27 @@
+use Rattle.std.proofs.Common.{◌+◌, ◌≤◌, inl, inr, arith}
+use Rattle.fleet_link.proofs.Seconds.{asked_less}
+use Rattle.command_fleet.proofs.serving.go_on.Goals as goal
+
+pub loop-turn-init : goal.loop-turn-init
+loop-turn-init g c = record {
+  fleet = λ s played before h. h;
+  asked = λ read_before asked_before calls h. asked_less read_before _ asked_before _ _ _ _ (calls + 0) h (omega arith);
+  told = λ start h. h;
+}
+
+pub loop-turn-preserved : goal.loop-turn-preserved
+loop-turn-preserved g c = record {
+  fleet = λ s played before h. c.in_ok-turn.ensures.fleet s played before (c.loop-turn.invariant.fleet s played before
+      h);
+  asked = λ read_before asked_before calls h. asked_less read_before _ asked_before _ _ _ _
+      (calls + (c.loop-turn._turn + 1))
+      (c.in_ok-turn.ensures.asked read_before asked_before (calls + c.loop-turn._turn)
+      (c.loop-turn.invariant.asked read_before asked_before calls h)) (omega arith);
+  told = λ start h. c.in_ok-turn.ensures.told start (c.loop-turn.invariant.told start h);
+}
+
+pub returns-clause-fleet : goal.returns-clause-fleet
+returns-clause-fleet g c = λ s played before h. c.loop-turn.invariant.fleet s played before h
+
+pub returns-clause-told : goal.returns-clause-told
+returns-clause-told g c = λ start h. c.loop-turn.invariant.told start h

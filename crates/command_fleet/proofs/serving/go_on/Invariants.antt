@@ -1,0 +1,25 @@
+-- All devices are served so far, and each second was told.
+use Rattle.std.proofs.Common.{ℕ, ◌+◌, Bool, List, false, Option, None}
+use Rattle.scenario_image.specs.Scenario.{Scenario}
+use Rattle.fleet_link.specs.Serving.{IsFleet}
+use Rattle.fleet_link.specs.Timing.{AreAsked}
+use Rattle.fleet_link.specs.Traffic.{Traffic}
+use Rattle.command_files.specs.World.{Streams}
+use Rattle.command_fleet.specs.Telling.{AreTold}
+use Rattle.command_fleet.proofs.serving.go_on.Given as goal
+
+abbrev pub invariant-loop-turn : goal.invariant-loop-turn
+invariant-loop-turn g l = record {
+  fleet : (s : Scenario) (played : Bool) (before : ℕ → Option Traffic)
+      → IsFleet s played before l.fn.fleet.slots.items l.fn.fleet.second false (g.P.Ports.told l.fn.ports)
+      → IsFleet s played before l.fleet.slots.items l.fleet.second false (g.P.Ports.told l.ports);
+  asked : (read_before asked_before : Option (List ℕ)) (calls : ℕ) → AreAsked read_before
+      (g.C.Seconds.read l.fn.clock) asked_before (g.P.Ports.asked l.fn.ports) l.fn.fleet.began l.fn.fleet.second calls
+      → AreAsked read_before (g.C.Seconds.read l.clock) asked_before (g.P.Ports.asked l.ports) l.fleet.began
+      l.fleet.second (calls + l._turn);
+  told : (start : Streams)
+      → AreTold l.telling l.fn.fleet.second start
+      (record { input = None; output = g.O.Output.taken l.fn.output; errors = g.E.Output.taken l.fn.errors })
+      → AreTold l.telling l.fleet.second start
+      (record { input = None; output = g.O.Output.taken l.output; errors = g.E.Output.taken l.errors });
+}

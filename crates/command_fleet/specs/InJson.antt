@@ -1,0 +1,34 @@
+-- What is printed of a session with `--json`: objects, each in a line of its own.
+use Rattle.std.specs.Prelude.{ℕ, List, [], ◌∷◌, ◌++◌, codes}
+use Rattle.std.specs.Net.Socket.{socket_ip, socket_port}
+use Rattle.std.specs.Net.Text.{ip_text}
+use Rattle.std.specs.declared.net.socket_addr.SocketAddr.{SocketAddr}
+use Rattle.serde_json.specs.Data.{Data, string}
+use Rattle.trace_json.specs.Json.{Field, number_json, object_json}
+use Rattle.fleet_link.specs.declared.udp.Counts.{Counts}
+
+-- the ports of so many devices are there, the first of them at this place
+unfoldable pub ready_json : ℕ → SocketAddr → Data
+ready_json devices place =
+    object_json
+    ((codes "version", number_json 1) ∷ (codes "event", string (codes "ready")) ∷ (codes "devices", number_json devices)
+    ∷ (codes "address", string (ip_text (socket_ip place))) ∷ (codes "port", number_json (socket_port place)) ∷ [])
+
+-- how many datagrams went through the ports
+abbrev pub counts_fields : Counts → List Field
+counts_fields counts =
+    (codes "received", number_json counts.received) ∷ (codes "sent", number_json counts.sent)
+    ∷ (codes "dropped", number_json counts.dropped) ∷ (codes "lost", number_json counts.lost) ∷ []
+
+-- this second of the session has come
+unfoldable pub second_json : ℕ → Counts → Data
+second_json second counts =
+    object_json
+    ((codes "event", string (codes "second")) ∷ (codes "second", number_json second) ∷ counts_fields counts)
+
+-- the session is over, and so many rows of what is saved are cut
+unfoldable pub done_json : ℕ → ℕ → Counts → ℕ → Data
+done_json seconds devices counts cut =
+    object_json
+    ((codes "event", string (codes "done")) ∷ (codes "seconds", number_json seconds)
+    ∷ (codes "devices", number_json devices) ∷ counts_fields counts ++ (codes "cut", number_json cut) ∷ [])

@@ -1,0 +1,181 @@
+//! The objects of a session in JSON, each in a line of its own.
+ghost use Rattle.std.specs.Prelude.{◌≡◌, ◌++◌, IfOk, OnOk};
+ghost use Rattle.std.specs.Net.Socket.{socket_ip};
+ghost use Rattle.std.specs.Net.Text.{ip_text};
+ghost use Rattle.std.specs.Str.{IsUtf8};
+ghost use Rattle.std.specs.String.{string_bytes};
+ghost use Rattle.json.specs.Print.{print};
+ghost use Rattle.scenario_words.specs.Words.{ended_line};
+ghost use Rattle.serde_json.specs.Data.{string};
+ghost use Rattle.trace_json.specs.Json.{number_json, object_json};
+ghost use Rattle.trace_json.specs.Writing.{Has64Bits, IsReadAgain, fields_tokens, json_line, member_tokens, tokens_of};
+ghost use Rattle.command_fleet.specs.InJson.{counts_fields, done_json, ready_json, second_json};
+
+use fleet_link::Counts;
+use json::Writer;
+use std::alloc::{AllocError, Global};
+use std::net::{IpAddr, SocketAddr};
+
+/// Writes a number.
+fn put_number(out: &mut Writer, key: &str, number: u64) -> Result<(), AllocError>
+    ensures adds { OnOk result (out.new.tokens ≡ out.old.tokens ++ member_tokens key.now (number_json number)) }
+    ensures before { out.new.before ≡ out.old.before }
+    ensures exact { Has64Bits (number_json number) }
+{
+    out.key(key)?;
+    out.u64(number)
+}
+
+/// Writes a text.
+fn put_text(out: &mut Writer, key: &str, text: &str) -> Result<(), AllocError>
+    ensures adds { OnOk result (out.new.tokens ≡ out.old.tokens ++ member_tokens key.now (string text.now)) }
+    ensures before { out.new.before ≡ out.old.before }
+{
+    out.key(key)?;
+    out.string(text)
+}
+
+/// Writes how many datagrams went through ports.
+fn put_counts(out: &mut Writer, counts: Counts) -> Result<(), AllocError>
+    ensures adds { OnOk result (out.new.tokens ≡ out.old.tokens ++ fields_tokens (counts_fields counts)) }
+    ensures before { out.new.before ≡ out.old.before }
+    ensures exact { Has64Bits (object_json (counts_fields counts)) }
+{
+    put_number(out, "received", counts.received)?;
+    put_number(out, "sent", counts.sent)?;
+    put_number(out, "dropped", counts.dropped)?;
+    put_number(out, "lost", counts.lost)?;
+    Ok(())
+}
+
+/// Ends the line of the object that a writer has written.
+fn end_line(writer: Writer) -> Result<Vec<u8>, AllocError>
+    requires { IsUtf8 writer.before }
+    ensures line { IfOk result (λ v. v.items ≡ writer.before ++ ended_line (print writer.tokens)) }
+    ensures utf8 { IfOk result (λ v. IsUtf8 v.items) }
+{
+    let mut bytes = writer.into_inner();
+    bytes.push(b'\n')?;
+    Ok(bytes)
+}
+
+/// The text that bytes are.
+fn text_of(bytes: Vec<u8>) -> String
+    requires { IsUtf8 bytes.items }
+    ensures { string_bytes result ≡ bytes.items }
+{
+    match String::from_utf8(bytes) {
+        Ok(text) => text,
+        Err(_) => unreachable!(),
+    }
+}
+
+/// Writes that a second has come.
+#[tactic(auto, unfolding(crate::specs::InJson::second_json))]
+fn put_second(out: &mut Writer, second: u64, counts: Counts) -> Result<(), AllocError>
+    ensures adds { OnOk result (out.new.tokens ≡ out.old.tokens ++ tokens_of (second_json second counts)) }
+    ensures before { out.new.before ≡ out.old.before }
+    ensures exact { OnOk result (Has64Bits (second_json second counts)) }
+{
+    out.begin_object()?;
+    put_text(out, "event", "second")?;
+    put_number(out, "second", second)?;
+    put_counts(out, counts)?;
+    out.end_object()?;
+    Ok(())
+}
+
+/// The line of a second of a session, with what went through the ports until then.
+#[tactic(auto, using(crate::proofs::Objects::second_again))]
+pub fn second_line(alloc: Global, second: u64, counts: Counts) -> Result<String, AllocError>
+    ensures line { IfOk result (λ t. string_bytes t ≡ json_line (second_json second counts)) }
+    ensures read_again { OnOk result (IsReadAgain (second_json second counts)) }
+{
+    let mut writer = Writer::new(Vec::new(alloc));
+    put_second(&mut writer, second, counts)?;
+    let bytes = end_line(writer)?;
+    Ok(text_of(bytes))
+}
+
+/// Writes that a session is over, of which so many rows are cut.
+#[tactic(auto, unfolding(crate::specs::InJson::done_json))]
+fn put_done(
+    out: &mut Writer,
+    seconds: u64,
+    devices: usize,
+    counts: Counts,
+    cut: usize,
+) -> Result<(), AllocError>
+    ensures adds { OnOk result (out.new.tokens ≡ out.old.tokens ++ tokens_of (done_json seconds devices counts cut)) }
+    ensures before { out.new.before ≡ out.old.before }
+    ensures exact { OnOk result (Has64Bits (done_json seconds devices counts cut)) }
+{
+    out.begin_object()?;
+    put_text(out, "event", "done")?;
+    put_number(out, "seconds", seconds)?;
+    put_number(out, "devices", devices as u64)?;
+    put_counts(out, counts)?;
+    put_number(out, "cut", cut as u64)?;
+    out.end_object()?;
+    Ok(())
+}
+
+/// The line of the end of a session, of which so many rows are cut.
+#[tactic(auto, using(crate::proofs::Objects::done_again))]
+pub fn done_object(
+    alloc: Global,
+    seconds: u64,
+    devices: usize,
+    counts: Counts,
+    cut: usize,
+) -> Result<String, AllocError>
+    ensures line { IfOk result (λ t. string_bytes t ≡ json_line (done_json seconds devices counts cut)) }
+    ensures read_again { OnOk result (IsReadAgain (done_json seconds devices counts cut)) }
+{
+    let mut writer = Writer::new(Vec::new(alloc));
+    put_done(&mut writer, seconds, devices, counts, cut)?;
+    let bytes = end_line(writer)?;
+    Ok(text_of(bytes))
+}
+
+fn address_text(alloc: Global, ip: IpAddr) -> Result<String, AllocError>
+    ensures { IfOk result (λ t. string_bytes t ≡ ip_text ip) }
+{
+    format!(in alloc; "{ip}")
+}
+
+/// Writes that the ports are there.
+#[tactic(auto, unfolding(crate::specs::InJson::ready_json))]
+fn put_ready(
+    out: &mut Writer,
+    devices: usize,
+    place: SocketAddr,
+    address: &str,
+) -> Result<(), AllocError>
+    requires { address.now ≡ ip_text (socket_ip place) }
+    ensures adds { OnOk result (out.new.tokens ≡ out.old.tokens ++ tokens_of (ready_json devices place)) }
+    ensures before { out.new.before ≡ out.old.before }
+    ensures exact { OnOk result (Has64Bits (ready_json devices place)) }
+{
+    out.begin_object()?;
+    put_number(out, "version", 1)?;
+    put_text(out, "event", "ready")?;
+    put_number(out, "devices", devices as u64)?;
+    put_text(out, "address", address)?;
+    put_number(out, "port", u64::from(place.port()))?;
+    out.end_object()?;
+    Ok(())
+}
+
+/// The line that all ports are there.
+#[tactic(auto, using(crate::proofs::Objects::ready_again))]
+pub fn ready_object(alloc: Global, devices: usize, place: SocketAddr) -> Result<String, AllocError>
+    ensures line { IfOk result (λ t. string_bytes t ≡ json_line (ready_json devices place)) }
+    ensures read_again { OnOk result (IsReadAgain (ready_json devices place)) }
+{
+    let address = address_text(alloc, place.ip())?;
+    let mut writer = Writer::new(Vec::new(alloc));
+    put_ready(&mut writer, devices, place, address.as_str())?;
+    let bytes = end_line(writer)?;
+    Ok(text_of(bytes))
+}

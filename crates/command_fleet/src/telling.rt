@@ -1,0 +1,172 @@
+//! What is told of a session while it goes on.
+ghost use Rattle.std.specs.Prelude.{◌≡◌, None, IfErr, IfOk, OnOk};
+ghost use Rattle.std.specs.Io.KnownBytes.{Appends};
+ghost use Rattle.std.specs.String.{string_bytes};
+ghost use Rattle.command_files.specs.Fault.{IsWritingFault};
+ghost use Rattle.command_fleet.specs.Fleet.{ready_text};
+ghost use Rattle.command_fleet.specs.InJson.{second_json};
+ghost use Rattle.trace_json.specs.Writing.{json_line};
+ghost use Rattle.command_fleet.specs.Telling.{IsRefused, counts_shown, printed_of, progress_line, shown_line, shown_of};
+ghost use Rattle.command_fleet.specs.Telling.{telling_of};
+
+use crate::counted::Counted;
+use crate::in_json::{ready_object, second_line};
+use command_files::{Output, Refusal, unwritten};
+use fleet_link::Counts;
+use std::alloc::{AllocError, Global};
+use std::net::SocketAddr;
+
+/// How the seconds of a session are told.
+#[derive(Clone, Copy, Debug, PartialEq, Eq)]
+pub enum Telling {
+    /// Not at all.
+    Nothing,
+    /// Each as a line for a person, on standard error, which says how many devices there are.
+    Progress(usize),
+    /// Each as an object in JSON, on standard output.
+    Objects,
+}
+
+/// How the seconds of a session of so many devices are told: in JSON, if that is asked for; else for a person, where
+/// standard error is a terminal.
+pub fn telling_of(json: bool, terminal: bool, devices: usize) -> Telling
+    ensures { result ≡ telling_of json terminal devices }
+{
+    if json {
+        Telling::Objects
+    } else if terminal {
+        Telling::Progress(devices)
+    } else {
+        Telling::Nothing
+    }
+}
+
+/// Prints a text on a stream of this name.
+#[tactic(auto, using(command_files::proofs::Delivered::unwritten))]
+pub(crate) fn put<'a, O: Output>(
+    text: &str,
+    name: &'static str,
+    stream: &mut O,
+) -> Result<(), Refusal<'a>>
+    ensures told { OnOk result (Appends (O.taken stream.old) (O.taken stream.new) text.now) }
+    ensures refused { IfErr result (λ r. IsWritingFault (O.refuses text.now) r.fault) }
+{
+    match stream.print(text) {
+        Ok(()) => Ok(()),
+        Err(fault) => Err(unwritten(name, fault)),
+    }
+}
+
+/// How many datagrams went through ports.
+fn counts_shown(alloc: Global, counts: Counts) -> Result<String, AllocError>
+    ensures { IfOk result (λ text. string_bytes text ≡ counts_shown counts) }
+{
+    let received = counts.received;
+    let sent = counts.sent;
+    let dropped = counts.dropped;
+    let lost = counts.lost;
+    format!(in alloc; "{received} received  {sent} sent  {dropped} dropped  {lost} lost")
+}
+
+fn shown_line(
+    alloc: Global,
+    second: u64,
+    devices: usize,
+    counted: &str,
+) -> Result<String, AllocError>
+    ensures { IfOk result (λ text. string_bytes text ≡ shown_line second devices counted.now) }
+{
+    format!(in alloc; "{second} s  {devices} devices  {counted}\n")
+}
+
+/// The line of a second for a person: how many devices there are, and what has gone through their ports.
+pub fn progress_line(
+    alloc: Global,
+    devices: usize,
+    second: u64,
+    counts: Counts,
+) -> Result<String, AllocError>
+    ensures { IfOk result (λ text. string_bytes text
+        ≡ progress_line devices (record { second = second; counts = counts })) }
+{
+    let counted = counts_shown(alloc, counts)?;
+    shown_line(alloc, second, devices, counted.as_str())
+}
+
+/// Prints the line of a second for a person.
+fn show_second<'a, E: Output>(
+    alloc: Global,
+    devices: usize,
+    second: u64,
+    counts: Counts,
+    errors: &mut E,
+) -> Result<(), Refusal<'a>>
+    ensures told { OnOk result (Appends (E.taken errors.old) (E.taken errors.new)
+        (progress_line devices (record { second = second; counts = counts }))) }
+    ensures refused { IfErr result (λ r. IsWritingFault
+        (E.refuses (progress_line devices (record { second = second; counts = counts }))) r.fault) }
+{
+    let text = progress_line(alloc, devices, second, counts)?;
+    put(text.as_str(), "standard error", errors)
+}
+
+/// Prints the object of a second.
+fn print_second<'a, O: Output>(
+    alloc: Global,
+    second: u64,
+    counts: Counts,
+    output: &mut O,
+) -> Result<(), Refusal<'a>>
+    ensures told { OnOk result (Appends (O.taken output.old) (O.taken output.new)
+        (json_line (second_json second counts))) }
+    ensures refused { IfErr result (λ r. IsWritingFault (O.refuses (json_line (second_json second counts))) r.fault) }
+{
+    let text = second_line(alloc, second, counts)?;
+    put(text.as_str(), "standard output", output)
+}
+
+/// Tells a second, with what has gone through the ports.
+#[tactic(auto, using(crate::proofs::Told::nothing_told))]
+pub(crate) fn tell_second<'a, P: Counted, O: Output, E: Output>(
+    alloc: Global,
+    telling: Telling,
+    second: u64,
+    ports: &P,
+    output: &mut O,
+    errors: &mut E,
+) -> Result<(), Refusal<'a>>
+    ensures printed { OnOk result (Appends (O.taken output.old) (O.taken output.new)
+        (printed_of telling (record { second = second; counts = P.counted ports.now }))) }
+    ensures shown { OnOk result (Appends (E.taken errors.old) (E.taken errors.new)
+        (shown_of telling (record { second = second; counts = P.counted ports.now }))) }
+    ensures refused { IfErr result (λ r. IsRefused telling
+        (record { input_fails = ⊥; output_refuses = O.refuses; errors_refuse = E.refuses })
+        (record { second = second; counts = P.counted ports.now })
+        (record { input = None; output = O.taken output.old; errors = E.taken errors.old })
+        (record { input = None; output = O.taken output.new; errors = E.taken errors.new }) r.fault) }
+{
+    match telling {
+        Telling::Nothing => Ok(()),
+        Telling::Progress(devices) => show_second(alloc, devices, second, ports.counted(), errors),
+        Telling::Objects => print_second(alloc, second, ports.counted(), output),
+    }
+}
+
+/// Prints the object that says that the ports are there, if JSON is asked for.
+#[tactic(auto, using(crate::proofs::Told::nothing_told))]
+pub(crate) fn print_ready<'a, O: Output>(
+    alloc: Global,
+    json: bool,
+    devices: usize,
+    place: SocketAddr,
+    output: &mut O,
+) -> Result<(), Refusal<'a>>
+    ensures told { OnOk result (Appends (O.taken output.old) (O.taken output.new) (ready_text json devices place)) }
+    ensures refused { IfErr result (λ r. IsWritingFault (O.refuses (ready_text json devices place)) r.fault) }
+{
+    if !json {
+        return Ok(());
+    }
+    let text = ready_object(alloc, devices, place)?;
+    put(text.as_str(), "standard output", output)
+}
