@@ -1,7 +1,9 @@
 -- What a command came to, put together from its parts.
-use Rattle.std.proofs.Common.{ℕ, ◌≡◌, ◌⊎◌, Bool, true, false, List, Option, None, Some, Result, Ok, Err, IfErr, IfOk, OnErr, OnOk}
-use Rattle.std.proofs.Common.{inl, inr, refl, sym, subst, arith, ◌∙◌}
+use Rattle.std.proofs.Common.{ℕ, ◌≡◌, ◌⊎◌, ◌<◌, Bool, true, false, List, Option, None, Some}
+use Rattle.std.proofs.Common.{Result, Ok, Err, IfErr, IfOk}
+use Rattle.std.proofs.Common.{OnErr, OnOk, inl, inr, refl, sym, subst, arith, ◌∙◌}
 use Rattle.std.specs.Io.KnownBytes.{Appends}
+use Rattle.std.specs.Result.{IsErrAnd}
 use Rattle.std.specs.String.{string_bytes}
 use Rattle.command_line.specs.Words.{IsReadAs}
 use Rattle.command_line.specs.declared.words.Asked.{Asked}
@@ -11,17 +13,21 @@ use Rattle.command_line.specs.declared.words.Job.{Job}
 use Rattle.command_line.specs.declared.words.Job.TheVariants as jobs
 use Rattle.command_line.specs.declared.words.Live.{Live}
 use Rattle.command_files.specs.Answers.{IsUndelivered, files_of}
-use Rattle.bench_commands.specs.Command.{Ends, IsAnswerTo, IsCutJob, IsDebugCut, IsDebugged, IsDebuggedJob}
-use Rattle.bench_commands.specs.Command.{IsFinished, IsFormOf, IsRefused, IsToldIn, IsUnfinished, wants_json}
+use Rattle.bench_commands.specs.Command.{Ends, IsAnswerTo, IsAnswered, IsCutJob, IsDebugCut, IsDebugged, IsDebuggedJob}
+use Rattle.bench_commands.specs.Command.{IsFinished, IsFormOf, IsLogAnswered, IsLogLost, IsLogRefused, IsLogUnprinted}
+use Rattle.bench_commands.specs.Command.{IsLost, IsRefused, IsToldIn, IsUnfinished, wants_json}
 use Rattle.command_files.specs.Files.{Grows, most_bytes}
 use Rattle.command_files.specs.Input.{IsWithin, WhereKnown}
-use Rattle.command_fleet.specs.Fleet.{IsFleetDone, IsFleetFault}
+use Rattle.command_fleet.specs.Fleet.{IsFleetDone, IsFleetFault, IsSessionBroken, IsSessionFault, telling_for}
+use Rattle.command_fleet.specs.Telling.{IsCut, IsRefused as IsSecondRefused, Passed}
+use Rattle.command_fleet.specs.declared.telling.Telling.{Telling}
+use Rattle.command_fleet.specs.declared.telling.Telling.TheVariants.{Nothing, Objects, Progress}
 use Rattle.command_live.specs.Live.{IsLiveDone, IsLiveFault}
 use Rattle.command_words.specs.Inputs.{IsInputRefused, IsInputSaid}
-use Rattle.command_files.specs.World.{FilesKnown, IsAside, IsIdle, StreamFaults, Streams, World}
+use Rattle.command_files.specs.World.{FilesKnown, IsAside, IsIdle, IsSilent, StreamFaults, Streams, World}
 use Rattle.command_files.specs.declared.answer.Answer.{Answer}
 use Rattle.command_files.specs.declared.fault.Fault.{Fault}
-use Rattle.command_files.specs.declared.fault.Fault.TheVariants.{Memory}
+use Rattle.command_files.specs.declared.fault.Fault.TheVariants.{Bind, Memory}
 use Rattle.command_files.specs.declared.refusal.Refusal.{Refusal}
 use Rattle.command_files.specs.declared.status.Status.{Status}
 use Rattle.command_files.specs.declared.status.Status.TheVariants as ends
@@ -33,6 +39,20 @@ aside_faults faults = record { input_fails = ⊥; output_refuses = faults.output
 
 abbrev pub aside_streams : Option (List ℕ) → Streams
 aside_streams output = record { input = None; output = output; errors = None }
+
+abbrev pub aside_world : World → World
+aside_world world = record { made = world.made; streams = aside_streams world.streams.output }
+
+-- what is known of a call that has no standard error
+abbrev pub silent_faults : StreamFaults → StreamFaults
+silent_faults faults =
+    record { input_fails = faults.input_fails; output_refuses = faults.output_refuses; errors_refuse = λ _. ⊥ }
+
+abbrev pub silent_world : World → World
+silent_world world = record {
+  made = world.made;
+  streams = record { input = world.streams.input; output = world.streams.output; errors = None };
+}
 
 -- what is known of a call that has no input
 abbrev pub beside_faults : StreamFaults → StreamFaults
@@ -46,15 +66,15 @@ beside_input streams = record { input = None; output = streams.output; errors = 
 
 -- a delivery that may have failed, of an answer for which nothing was read or printed
 pub answered_if : {E : Type 0}
-    → (files : FilesKnown) (faults : StreamFaults) (before after : World) (between : Option (List ℕ))
+    → (files : FilesKnown) (faults : StreamFaults) (before after : World) (terminal : Bool) (between : Option (List ℕ))
     (words : List (List ℕ)) (asked : Asked) (answer : Answer) (delivered : Result Status E) → IsReadAs words asked
     → IsAnswerTo files.holds asked answer
     → IsAside before.streams after.streams → between ≡ before.streams.output
     → IfOk delivered (λ status. status ≡ answer.status)
     → OnOk delivered (Grows before.made after.made (files_of answer.file))
     → OnOk delivered (Appends between after.streams.output (string_bytes answer.text))
-    → IfOk delivered (IsFinished files faults before after words)
-answered_if files faults before after between words asked answer (Ok status) read right aside silent ended made
+    → IfOk delivered (IsFinished files faults before after terminal words)
+answered_if files faults before after terminal between words asked answer (Ok status) read right aside silent ended made
     printed =
     inl (
       inl (record {
@@ -68,14 +88,55 @@ answered_if files faults before after between words asked answer (Ok status) rea
       }),
       aside,
     )
-answered_if files faults before after between words asked answer (Err e) read right aside silent ended made printed = tt
+answered_if files faults before after terminal between words asked answer
+    (Err e) read right aside silent ended made printed = tt
+
+-- the same of a text on how to use the program, of which nothing else is known
+pub text_answered_if : {E : Type 0}
+    → (files : FilesKnown) (before after : World) (words : List (List ℕ)) (asked : Asked) (answer : Answer)
+    (delivered : Result Status E) → IsReadAs words asked → IsAnswerTo files.holds asked answer
+    → IfOk delivered (λ status. status ≡ answer.status)
+    → OnOk delivered (Grows before.made after.made (files_of answer.file))
+    → OnOk delivered (Appends before.streams.output after.streams.output (string_bytes answer.text))
+    → IfOk delivered (IsAnswered files before after words)
+text_answered_if files before after words asked answer (Ok status) read right ended made printed = record {
+  asked = asked;
+  read = read;
+  answer = answer;
+  right = right;
+  made = made;
+  printed = printed;
+  ended = ended;
+}
+text_answered_if files before after words asked answer (Err e) read right ended made printed = tt
+
+-- and then all of the streams
+pub text_done_if : {E : Type 0}
+    → (files : FilesKnown) (faults : StreamFaults) (before after : World) (terminal : Bool) (words : List (List ℕ))
+    (result : Result Status E) → IfOk result (IsAnswered files (aside_world before) (aside_world after) words)
+    → IsAside before.streams after.streams → IfOk result (IsFinished files faults before after terminal words)
+text_done_if files faults before after terminal words (Ok status) done aside =
+    inl (
+      inl (record {
+        asked = done.asked;
+        read = done.read;
+        answer = done.answer;
+        right = done.right;
+        made = done.made;
+        printed = done.printed;
+        ended = done.ended;
+      }),
+      aside,
+    )
+text_done_if files faults before after terminal words (Err e) done aside = tt
 
 -- a conversation came to its end
-pub conversed_so : (files : FilesKnown) (faults : StreamFaults) (before after : World) (words : List (List ℕ))
+pub conversed_so : (files : FilesKnown) (faults : StreamFaults) (before after : World) (terminal : Bool)
+    (words : List (List ℕ))
     (asked : Asked) (status : Status) → IsReadAs words asked
     → IsDebugged files.holds faults asked before.streams after.streams → status ≡ ends.Done → after.made ≡ before.made
-    → IsFinished files faults before after words status
-conversed_so files faults before after words asked status read debugged ended none =
+    → IsFinished files faults before after terminal words status
+conversed_so files faults before after terminal words asked status read debugged ended none =
     inr (inl (record { asked = asked; read = read; debugged = debugged; ended = ended }, none))
 
 -- a session was concluded
@@ -83,8 +144,9 @@ lived : (files : FilesKnown) (faults : StreamFaults) (before after : World) (wor
     (status : Status) → IsReadAs words (asked.Live live)
     → IsLiveDone files (record { made = before.made; streams = aside_streams before.streams.output })
     (record { made = after.made; streams = aside_streams after.streams.output }) live
-    → status ≡ ends.Done → IsAside before.streams after.streams → IsFinished files faults before after words status
-lived files faults before after words live status read done ended aside =
+    → status ≡ ends.Done → IsAside before.streams after.streams
+    → IsFinished files faults before after terminal words status
+lived files faults before after terminal words live status read done ended aside =
     inl (
       inr (record {
         live = live;
@@ -110,49 +172,59 @@ pub lived_if : {E : Type 0}
     → OnOk result (IsLiveDone files (record { made = before.made; streams = aside_streams before.streams.output })
     (record { made = after.made; streams = aside_streams after.streams.output }) live)
     → IfOk result (λ status. status ≡ ends.Done) → IsAside before.streams after.streams
-    → IfOk result (IsFinished files faults before after words)
-lived_if files faults before after words live (Ok status) read done ended aside =
-    lived files faults before after words live status read done ended aside
-lived_if files faults before after words live (Err e) read done ended aside = tt
+    → IfOk result (IsFinished files faults before after terminal words)
+lived_if files faults before after terminal words live (Ok status) read done ended aside =
+    lived files faults before after terminal words live status read done ended aside
+lived_if files faults before after terminal words live (Err e) read done ended aside = tt
 
 -- a session of several devices that may have been lost
 pub served_if : {E : Type 0}
-    → (files : FilesKnown) (faults : StreamFaults) (before after : World) (words : List (List ℕ)) (fleet : AskedFleet)
-    (result : Result Status E) → IsReadAs words (asked.Fleet fleet)
+    → (files : FilesKnown) (faults : StreamFaults) (before after : World) (terminal : Bool) (words : List (List ℕ))
+    (fleet : AskedFleet) (result : Result Status E) → IsReadAs words (asked.Fleet fleet)
     → IfOk result (IsFleetDone files (record { made = before.made; streams = beside_input before.streams })
-    (record { made = after.made; streams = beside_input after.streams }) fleet)
-    → after.streams.input ≡ before.streams.input → IfOk result (IsFinished files faults before after words)
-served_if files faults before after words fleet (Ok status) read done unread =
+    (record { made = after.made; streams = beside_input after.streams }) fleet terminal)
+    → after.streams.input ≡ before.streams.input → IfOk result (IsFinished files faults before after terminal words)
+served_if files faults before after terminal words fleet (Ok status) read served unread =
+    let done = served.done in
     inr (inr (inr (
       record {
         fleet = fleet;
         read = read;
         done = record {
-          part = done.part;
-          ready = done.ready;
-          session = done.session;
-          served = done.served;
-          concluded = record {
-            printed = done.concluded.printed;
-            saved = done.concluded.saved;
-            ended = done.concluded.ended;
+          part = served.part;
+          place = served.place;
+          ready = served.ready;
+          done = record {
+            first = done.first;
+            ready_told = record { shown = done.ready_told.shown; printed = done.ready_told.printed };
+            session = done.session;
+            served = done.served;
+            last = done.last;
+            told = done.told;
+            concluded = record {
+              printed = done.concluded.printed;
+              saved = done.concluded.saved;
+              ended = done.concluded.ended;
+            };
+            quiet = done.quiet;
           };
         };
       },
       unread,
     )))
-served_if files faults before after words fleet (Err e) read done unread = tt
+served_if files faults before after terminal words fleet (Err e) read served unread = tt
 
 -- ---- not done
 
 -- a session was not concluded
-live_lost : (files : FilesKnown) (faults : StreamFaults) (before after : World) (words : List (List ℕ))
+live_lost : (files : FilesKnown) (faults : StreamFaults) (before after : World) (terminal : Bool)
+    (words : List (List ℕ))
     (live : Live) (fault : Fault) → IsReadAs words (asked.Live live)
     → IsLiveFault files (aside_faults faults) (aside_streams before.streams.output)
     (aside_streams after.streams.output) live fault
     → IsAside before.streams after.streams → after.made ≡ before.made
-    → IsUnfinished files faults before after words fault
-live_lost files faults before after words live fault read lost aside none =
+    → IsUnfinished files faults before after terminal words fault
+live_lost files faults before after terminal words live fault read lost aside none =
     inr (inl (inr (record { live = live; read = read; lost = so lost }, aside), none))
   where
     so : IsLiveFault files (aside_faults faults) (aside_streams before.streams.output)
@@ -179,67 +251,117 @@ live_lost files faults before after words live fault read lost aside none =
         }))
 
 -- the same of a session that may have been concluded
-pub live_lost_if : (files : FilesKnown) (faults : StreamFaults) (before after : World) (words : List (List ℕ))
+pub live_lost_if : (files : FilesKnown) (faults : StreamFaults) (before after : World) (terminal : Bool)
+    (words : List (List ℕ))
     (live : Live) (result : Result Status Refusal) → IsReadAs words (asked.Live live)
     → IfErr result (λ r. IsLiveFault files (aside_faults faults) (aside_streams before.streams.output)
     (aside_streams after.streams.output) live r.fault)
     → IsAside before.streams after.streams → OnErr result (after.made ≡ before.made)
-    → IfErr result (λ r. IsUnfinished files faults before after words r.fault)
-live_lost_if files faults before after words live (Ok status) read lost aside none = tt
-live_lost_if files faults before after words live (Err r) read lost aside none =
-    live_lost files faults before after words live r.fault read lost aside none
+    → IfErr result (λ r. IsUnfinished files faults before after terminal words r.fault)
+live_lost_if files faults before after terminal words live (Ok status) read lost aside none = tt
+live_lost_if files faults before after terminal words live (Err r) read lost aside none =
+    live_lost files faults before after terminal words live r.fault read lost aside none
+
+-- a second that was not told is the same beside an input
+refused_so : (telling : Telling) (faults : StreamFaults) (passed : Passed) (between after : Streams) (fault : Fault)
+    → IsSecondRefused telling (beside_faults faults) passed between (beside_input after) fault
+    → IsSecondRefused telling faults passed between after fault
+refused_so Nothing faults passed between after fault refused = absurd refused
+refused_so (Progress devices) faults passed between after fault refused = refused
+refused_so Objects faults passed between after fault refused = refused
+
+-- and so is a session that was broken off
+cut_so : (telling : Telling) (faults : StreamFaults) (first after : Streams) (fault : Fault)
+    → IsCut telling (beside_faults faults) first (beside_input after) fault → IsCut telling faults first after fault
+cut_so telling faults first after fault cut =
+    record { second = cut.second; between = cut.between; told = cut.told; why = so cut.second cut.between cut.why }
+  where
+    so : (second : ℕ) (between : Streams)
+        → (IsSilent between (beside_input after) × ((fault ≡ Memory) ⊎ (fault ≡ Bind)))
+        ⊎ ((passed : Passed) × (second < passed.second)
+        × IsSecondRefused telling (beside_faults faults) passed between (beside_input after) fault)
+        → (IsSilent between after × ((fault ≡ Memory) ⊎ (fault ≡ Bind)))
+        ⊎ ((passed : Passed) × (second < passed.second) × IsSecondRefused telling faults passed between after fault)
+    so second between (inl silent) = inl silent
+    so second between (inr (passed, later, refused)) =
+        inr (passed, later, refused_so telling faults passed between after fault refused)
+
+session_so : (files : FilesKnown) (faults : StreamFaults) (before after : Streams) (fleet : AskedFleet)
+    (terminal : Bool) (fault : Fault)
+    → IsSessionBroken files (beside_faults faults) (beside_input before) (beside_input after) fleet terminal fault
+    → IsSessionBroken files faults before after fleet terminal fault
+session_so files faults before after fleet terminal fault broken =
+    record { part = broken.part; place = broken.place; ready = broken.ready; why = so broken.why }
+  where
+    so : IsSessionFault files (beside_faults faults) (beside_input before) (beside_input after) fleet terminal
+        broken.part broken.place fault
+        → IsSessionFault files faults before after fleet terminal broken.part broken.place fault
+    so (inl untold) = inl untold
+    so (inr (inl lost)) =
+        inr (inl (record {
+          first = lost.first;
+          ready_told = record { shown = lost.ready_told.shown; printed = lost.ready_told.printed };
+          cut = cut_so (telling_for fleet terminal broken.part) faults lost.first after fault lost.cut;
+        }))
+    so (inr (inr lost)) =
+        inr (inr (record {
+          first = lost.first;
+          ready_told = record { shown = lost.ready_told.shown; printed = lost.ready_told.printed };
+          session = lost.session;
+          served = lost.served;
+          last = lost.last;
+          told = lost.told;
+          why = lost.why;
+          quiet = lost.quiet;
+        }))
 
 -- a session of several devices that may have been concluded
-pub fleet_lost_if : (files : FilesKnown) (faults : StreamFaults) (before after : World) (words : List (List ℕ))
-    (fleet : AskedFleet) (result : Result Status Refusal) → IsReadAs words (asked.Fleet fleet)
+pub fleet_lost_if : (files : FilesKnown) (faults : StreamFaults) (before after : World) (terminal : Bool)
+    (words : List (List ℕ)) (fleet : AskedFleet) (result : Result Status Refusal) → IsReadAs words (asked.Fleet fleet)
     → IfErr result (λ r. IsFleetFault files (beside_faults faults) (beside_input before.streams)
-    (beside_input after.streams) fleet r.fault)
+    (beside_input after.streams) fleet terminal r.fault)
     → after.streams.input ≡ before.streams.input → OnErr result (after.made ≡ before.made)
-    → IfErr result (λ r. IsUnfinished files faults before after words r.fault)
-fleet_lost_if files faults before after words fleet (Ok status) read lost unread none = tt
-fleet_lost_if files faults before after words fleet (Err r) read lost unread none =
+    → IfErr result (λ r. IsUnfinished files faults before after terminal words r.fault)
+fleet_lost_if files faults before after terminal words fleet (Ok status) read lost unread none = tt
+fleet_lost_if files faults before after terminal words fleet (Err r) read lost unread none =
     inr (inr (inr (record { fleet = fleet; read = read; lost = so lost; none_made = none }, unread)))
   where
     so : IsFleetFault files (beside_faults faults) (beside_input before.streams) (beside_input after.streams) fleet
-        r.fault → IsFleetFault files faults before.streams after.streams fleet r.fault
+        terminal r.fault → IsFleetFault files faults before.streams after.streams fleet terminal r.fault
     so (inl none) = inl (record { why = none.why; silent = none.silent; untold = none.untold })
-    so (inr (inl untold)) =
-        inr (inl (record {
-          scenario = untold.scenario;
-          devices = untold.devices;
-          asked_for = untold.asked_for;
-          place = untold.place;
-          place_is = untold.place_is;
-          why = untold.why;
-          silent = untold.silent;
-        }))
-    so (inr (inr (inl cut))) =
-        inr (inr (inl (record { part = cut.part; ready = cut.ready; why = cut.why; silent = cut.silent })))
-    so (inr (inr (inr lost))) =
-        inr (inr (inr (record {
-          part = lost.part;
-          ready = lost.ready;
-          session = lost.session;
-          served = lost.served;
-          why = lost.why;
-        })))
+    so (inr broken) = inr (session_so files faults before.streams after.streams fleet terminal r.fault broken)
 
-pub no_memory : (files : FilesKnown) (faults : StreamFaults) (before after : World) (words : List (List ℕ))
+pub no_memory : (files : FilesKnown) (faults : StreamFaults) (before after : World) (terminal : Bool)
+    (words : List (List ℕ))
     (fault : Fault) → fault ≡ Memory → after.made ≡ before.made → IsIdle before.streams after.streams
-    → IsUnfinished files faults before after words fault
-no_memory files faults before after words fault memory none idle =
+    → IsUnfinished files faults before after terminal words fault
+no_memory files faults before after terminal words fault memory none idle =
     inl (inl (inl memory, none, idle.1), (idle.0, idle.2))
 
 -- there was no answer, or a conversation was cut short
-pub unanswered : (files : FilesKnown) (faults : StreamFaults) (before after : World) (words : List (List ℕ))
+pub unanswered : (files : FilesKnown) (faults : StreamFaults) (before after : World) (terminal : Bool)
+    (words : List (List ℕ))
     (asked : Asked) (fault : Fault) → IsReadAs words asked
     → (IsRefused files.holds files.fails asked fault × IsIdle before.streams after.streams)
     ⊎ IsDebugCut files.holds faults asked before.streams after.streams fault
-    → after.made ≡ before.made → IsUnfinished files faults before after words fault
-unanswered files faults before after words asked fault read (inl (refused, idle)) none =
+    → after.made ≡ before.made → IsUnfinished files faults before after terminal words fault
+unanswered files faults before after terminal words asked fault read (inl (refused, idle)) none =
     inl (inl (inr (record { asked = asked; read = read; refused = refused }), none, idle.1), (idle.0, idle.2))
-unanswered files faults before after words asked fault read (inr cut) none =
+unanswered files faults before after terminal words asked fault read (inr cut) none =
     inr (inl (inl (record { asked = asked; read = read; cut = cut }), none))
+
+-- the same of a call that gave no answer
+pub unanswered_if : {T : Type 0}
+    → (files : FilesKnown) (faults : StreamFaults) (before after : World) (terminal : Bool) (words : List (List ℕ))
+    (asked : Asked)
+    (result : Result T Refusal) (refusal : Refusal) → IsErrAnd result (λ r. r ≡ refusal) → IsReadAs words asked
+    → (IsRefused files.holds files.fails asked refusal.fault × IsIdle before.streams after.streams)
+    ⊎ IsDebugCut files.holds faults asked before.streams after.streams refusal.fault
+    → after.made ≡ before.made → IfErr result (λ r. IsUnfinished files faults before after terminal words r.fault)
+unanswered_if files faults before after terminal words asked (Ok x) refusal told read refused none = tt
+unanswered_if files faults before after terminal words asked (Err r) refusal told read refused none =
+    subst (λ e. IsUnfinished files faults before after terminal words e.fault) (sym told)
+    (unanswered files faults before after terminal words asked refusal.fault read refused none)
 
 -- a delivery is the same beside an input and standard error
 undelivered_so : (files : FilesKnown) (faults : StreamFaults) (before after : World) (between : Option (List ℕ))
@@ -261,9 +383,10 @@ pub undelivered_if : (files : FilesKnown) (faults : StreamFaults) (before after 
     → IfErr delivered (λ r. IsUndelivered files (aside_faults faults)
     (record { made = before.made; streams = aside_streams between })
     (record { made = after.made; streams = aside_streams after.streams.output }) answer r.fault)
-    → IfErr delivered (λ r. IsUnfinished files faults before after words r.fault)
-undelivered_if files faults before after between words asked answer (Ok status) read right aside silent lost = tt
-undelivered_if files faults before after between words asked answer (Err r) read right aside silent lost =
+    → IfErr delivered (λ r. IsUnfinished files faults before after terminal words r.fault)
+undelivered_if files faults before after terminal between words asked answer
+    (Ok status) read right aside silent lost = tt
+undelivered_if files faults before after terminal between words asked answer (Err r) read right aside silent lost =
     inl (
       inr (record {
         asked = asked;
@@ -275,71 +398,142 @@ undelivered_if files faults before after between words asked answer (Err r) read
       aside,
     )
 
+-- a text on how to use the program, which may have been printed
+pub text_lost_if : (files : FilesKnown) (faults : StreamFaults) (before after : World) (words : List (List ℕ))
+    (asked : Asked) (answer : Answer) (delivered : Result Status Refusal) → IsReadAs words asked
+    → IsAnswerTo files.holds asked answer
+    → IfErr delivered (λ r. IsUndelivered files faults before after answer r.fault)
+    → IfErr delivered (λ r. IsLost files faults before after words r.fault)
+text_lost_if files faults before after words asked answer (Ok status) read right lost = tt
+text_lost_if files faults before after words asked answer (Err r) read right lost =
+    record { asked = asked; read = read; answer = answer; right = right; undelivered = lost }
+
+-- and then all of the streams
+pub text_unprinted_if : (files : FilesKnown) (faults : StreamFaults) (before after : World) (terminal : Bool)
+    (words : List (List ℕ))
+    (result : Result Status Refusal)
+    → IfErr result (λ r. IsLost files (aside_faults faults) (aside_world before) (aside_world after) words r.fault)
+    → IsAside before.streams after.streams
+    → IfErr result (λ r. IsUnfinished files faults before after terminal words r.fault)
+text_unprinted_if files faults before after terminal words (Ok status) lost aside = tt
+text_unprinted_if files faults before after terminal words (Err r) lost aside =
+    inl (
+      inr (record {
+        asked = lost.asked;
+        read = lost.read;
+        answer = lost.answer;
+        right = lost.right;
+        undelivered =
+            undelivered_so files faults before after before.streams.output lost.answer r.fault refl lost.undelivered;
+      }),
+      aside,
+    )
+
 -- ---- a log
 
-pub log_said_if : {E : Type 0}
-    → (files : FilesKnown) (faults : StreamFaults) (before after : World) (words : List (List ℕ)) (server : ℕ)
-    (answer : Answer) (delivered : Result Status E) → IsReadAs words (asked.Log server)
-    → IsInputSaid before.streams.input after.streams.input server answer
+pub log_answered_if : {E : Type 0}
+    → (before after : World) (words : List (List ℕ)) (server : ℕ) (answer : Answer) (delivered : Result Status E)
+    → IsReadAs words (asked.Log server) → IsInputSaid before.streams.input after.streams.input server answer
     → WhereKnown (IsWithin most_bytes) before.streams.input after.streams.input
-    → after.streams.errors ≡ before.streams.errors
     → IfOk delivered (λ status. status ≡ answer.status)
     → OnOk delivered (Grows before.made after.made (files_of answer.file))
     → OnOk delivered (Appends before.streams.output after.streams.output (string_bytes answer.text))
-    → IfOk delivered (IsFinished files faults before after words)
-log_said_if files faults before after words server answer (Ok status) read said within silent ended made printed =
+    → IfOk delivered (IsLogAnswered before after words)
+log_answered_if before after words server answer (Ok status) read said within ended made printed = record {
+  server = server;
+  read = read;
+  answer = answer;
+  said = said;
+  within = within;
+  made = made;
+  printed = printed;
+  ended = ended;
+}
+log_answered_if before after words server answer (Err e) read said within ended made printed = tt
+
+-- and then all of the streams
+pub log_done_if : {E : Type 0}
+    → (files : FilesKnown) (faults : StreamFaults) (before after : World) (terminal : Bool) (words : List (List ℕ))
+    (result : Result Status E) → IfOk result (IsLogAnswered (silent_world before) (silent_world after) words)
+    → after.streams.errors ≡ before.streams.errors → IfOk result (IsFinished files faults before after terminal words)
+log_done_if files faults before after terminal words (Ok status) done silent =
     inr (inr (inl (
       record {
-        server = server;
-        read = read;
-        answer = answer;
-        said = said;
-        within = within;
-        made = made;
-        printed = printed;
-        ended = ended;
+        server = done.server;
+        read = done.read;
+        answer = done.answer;
+        said = done.said;
+        within = done.within;
+        made = done.made;
+        printed = done.printed;
+        ended = done.ended;
       },
       silent,
     )))
-log_said_if files faults before after words server answer (Err e) read said within silent ended made printed = tt
+log_done_if files faults before after terminal words (Err e) done silent = tt
 
+-- a log was read, and what it says may have been printed
 pub log_unprinted_if : (files : FilesKnown) (faults : StreamFaults) (before after : World) (words : List (List ℕ))
     (server : ℕ) (answer : Answer) (delivered : Result Status Refusal) → IsReadAs words (asked.Log server)
     → IsInputSaid before.streams.input after.streams.input server answer
     → WhereKnown (IsWithin most_bytes) before.streams.input after.streams.input
-    → after.streams.errors ≡ before.streams.errors
-    → IfErr delivered (λ r. IsUndelivered files (aside_faults faults)
-    (record { made = before.made; streams = aside_streams before.streams.output })
-    (record { made = after.made; streams = aside_streams after.streams.output }) answer r.fault)
-    → IfErr delivered (λ r. IsUnfinished files faults before after words r.fault)
-log_unprinted_if files faults before after words server answer (Ok status) read said within silent lost = tt
-log_unprinted_if files faults before after words server answer (Err r) read said within silent lost =
+    → IfErr delivered (λ r. IsUndelivered files (aside_faults faults) (aside_world before) (aside_world after) answer
+    r.fault)
+    → IfErr delivered (λ r. IsLogLost files faults before after words r.fault)
+log_unprinted_if files faults before after words server answer (Ok status) read said within lost = tt
+log_unprinted_if files faults before after words server answer (Err r) read said within lost =
     let so = undelivered_so files faults before after before.streams.output answer r.fault refl lost in
-    inr (inr (inl (
-      record {
-        server = server;
-        read = read;
-        lost = inr (record { answer = answer; said = said; undelivered = so });
-        within = within;
-      },
-      silent,
-    )))
+    record {
+      server = server;
+      read = read;
+      lost = inr (record { answer = answer; said = said; undelivered = so });
+      within = within;
+    }
 
-pub log_refused : (files : FilesKnown) (faults : StreamFaults) (before after : World) (words : List (List ℕ))
-    (server : ℕ) (fault : Fault) → IsReadAs words (asked.Log server)
-    → IsInputRefused faults.input_fails before.streams.input after.streams.input fault
+pub log_refused_if : {T : Type 0}
+    → (files : FilesKnown) (faults : StreamFaults) (before after : World) (words : List (List ℕ)) (server : ℕ)
+    (result : Result T Refusal) (refusal : Refusal) → IsErrAnd result (λ r. r ≡ refusal)
+    → IsReadAs words (asked.Log server)
+    → IsInputRefused faults.input_fails before.streams.input after.streams.input refusal.fault
     → WhereKnown (IsWithin most_bytes) before.streams.input after.streams.input
     → after.made ≡ before.made → after.streams.output ≡ before.streams.output
-    → after.streams.errors ≡ before.streams.errors → IsUnfinished files faults before after words fault
-log_refused files faults before after words server fault read refused within none unprinted silent =
+    → IfErr result (λ r. IsLogLost files faults before after words r.fault)
+log_refused_if files faults before after words server (Ok x) refusal told read refused within none unprinted = tt
+log_refused_if files faults before after words server (Err r) refusal told read refused within none unprinted =
+    subst (λ e. IsLogLost files faults before after words e.fault) (sym told)
+    (record { server = server; read = read; lost = inl (refused, none, unprinted); within = within })
+
+-- and then all of the streams
+pub log_lost_if : (files : FilesKnown) (faults : StreamFaults) (before after : World) (terminal : Bool)
+    (words : List (List ℕ))
+    (result : Result Status Refusal)
+    → IfErr result (λ r. IsLogLost files (silent_faults faults) (silent_world before) (silent_world after) words
+    r.fault)
+    → after.streams.errors ≡ before.streams.errors
+    → IfErr result (λ r. IsUnfinished files faults before after terminal words r.fault)
+log_lost_if files faults before after terminal words (Ok status) lost silent = tt
+log_lost_if files faults before after terminal words (Err r) lost silent =
     inr (inr (inl (
-      record { server = server; read = read; lost = inl (refused, none, unprinted); within = within },
+      record { server = lost.server; read = lost.read; lost = so lost.server lost.lost; within = lost.within },
       silent,
     )))
+  where
+    whole : (answer : Answer)
+        → IsUndelivered files (silent_faults faults) (silent_world before) (silent_world after) answer r.fault
+        → IsUndelivered files faults before after answer r.fault
+    whole answer (inl none) = inl (record { failed = none.failed; none = none.none; silent = none.silent })
+    whole answer (inr unprinted) = inr (record { failed = unprinted.failed; made = unprinted.made })
+
+    so : (server : ℕ) → IsLogRefused (silent_faults faults) (silent_world before) (silent_world after) r.fault
+        ⊎ IsLogUnprinted files (silent_faults faults) (silent_world before) (silent_world after) server r.fault
+        → IsLogRefused faults before after r.fault ⊎ IsLogUnprinted files faults before after server r.fault
+    so server (inl (refused, none, unprinted)) = inl (refused, none, unprinted)
+    so server (inr read) =
+        inr (record { answer = read.answer; said = read.said; undelivered = whole read.answer read.undelivered })
 
 -- ---- what was read
 
-unread : (a b : Option (List ℕ)) → b ≡ a → WhereKnown (IsWithin most_bytes) a b
+pub unread : (a b : Option (List ℕ)) → b ≡ a → WhereKnown (IsWithin most_bytes) a b
 unread a b same = subst (λ x. WhereKnown (IsWithin most_bytes) a x) (sym same) (none a)
   where
     none : (a : Option (List ℕ)) → WhereKnown (IsWithin most_bytes) a a
@@ -408,11 +602,13 @@ unread_form words fault json memory words_alone = inr (memory, words_alone)
 
 -- ---- the end
 
-pub finished : (files : FilesKnown) (faults : StreamFaults) (before after : World) (words : List (List ℕ))
-    (status : Status) → IsFinished files faults before after words status → Ends files faults before after words status
-finished files faults before after words status done = record { ended = inl done; within = so done }
+pub finished : (files : FilesKnown) (faults : StreamFaults) (before after : World) (terminal : Bool)
+    (words : List (List ℕ))
+    (status : Status) → IsFinished files faults before after terminal words status
+    → Ends files faults before after terminal words status
+finished files faults before after terminal words status done = record { ended = inl done; within = so done }
   where
-    so : IsFinished files faults before after words status
+    so : IsFinished files faults before after terminal words status
         → WhereKnown (IsWithin most_bytes) before.streams.input after.streams.input
     so (inl (answered, aside)) = unread before.streams.input after.streams.input aside.0
     so (inr (inl (conversed, none))) =
@@ -432,14 +628,15 @@ told_in true faults between after about fault told = told
 
 pub faulted : (files : FilesKnown) (faults : StreamFaults) (before between after : World) (about : Option (List ℕ))
     (words : List (List ℕ)) (fault : Fault) (json : Bool) (status : Status) → status ≡ ends.Fault
-    → IsUnfinished files faults before between words fault → IsFormOf words fault json
+    → IsUnfinished files faults before between terminal words fault → IsFormOf words fault json
     → IsToldIn json
     (record { input_fails = ⊥; output_refuses = faults.output_refuses; errors_refuse = faults.errors_refuse })
     (record { input = None; output = between.streams.output; errors = between.streams.errors })
     (record { input = None; output = after.streams.output; errors = after.streams.errors }) about fault
     → after.made ≡ between.made → after.streams.input ≡ between.streams.input
-    → Ends files faults before after words status
-faulted files faults before between after about words fault json status ended undone form told none_made none_read =
+    → Ends files faults before after terminal words status
+faulted files faults before between after terminal about words fault json status ended undone form told none_made
+    none_read =
     record {
       ended = inr (
         ended,
@@ -459,7 +656,7 @@ faulted files faults before between after about words fault json status ended un
           subst (λ x. WhereKnown (IsWithin most_bytes) before.streams.input x) (sym none_read) (so undone);
     }
   where
-    so : IsUnfinished files faults before between words fault
+    so : IsUnfinished files faults before between terminal words fault
         → WhereKnown (IsWithin most_bytes) before.streams.input between.streams.input
     so (inl (undone, aside)) = unread before.streams.input between.streams.input aside.0
     so (inr (inl (inl lost, none))) =

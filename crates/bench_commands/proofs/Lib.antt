@@ -1,2 +1,4 @@
+pub mod AtOnce
 pub mod Ended
+pub mod Started
 pub mod Unread

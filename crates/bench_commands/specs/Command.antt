@@ -19,7 +19,7 @@ use Rattle.command_files.specs.Files.{Grows, most_bytes}
 use Rattle.command_files.specs.Input.{IsWithin, WhereKnown}
 use Rattle.command_scenarios.specs.Jobs.{IsAsmDone, IsCheckJsonDone, IsDisDone, IsRunDone, IsRunRefused}
 use Rattle.command_files.specs.Verdicts.{IsCheckDone}
-use Rattle.command_files.specs.Loading.{IsCheckRefused, IsImageFault}
+use Rattle.command_files.specs.Loading.{IsCheckRefused, IsImageFault, RunPaths}
 use Rattle.command_demo.specs.InJson.{IsOneJsonDone}
 use Rattle.command_demo.specs.One.{IsOneDone, IsOneFault}
 use Rattle.command_demo.specs.Why.{IsOneWhyDone}
@@ -67,11 +67,19 @@ report_form case_forms.Text = report_forms.Text
 report_form case_forms.Tap = report_forms.Tap
 report_form case_forms.JsonLines = report_forms.JsonLines
 
+-- what `one` and `check` are answered with, in the form that is asked for
+abbrev pub IsOneAnswer : List ℕ → AskedForm → Answer → Type 0
+IsOneAnswer hex asked_forms.Text answer = IsOneDone hex answer
+IsOneAnswer hex asked_forms.Reasons answer = IsOneWhyDone hex answer
+IsOneAnswer hex asked_forms.JsonLines answer = IsOneJsonDone hex answer
+
+abbrev pub IsCheckAnswer : (List ℕ → List ℕ → Type 0) → RunPaths → Bool → Answer → Type 0
+IsCheckAnswer holds paths false answer = IsCheckDone holds paths answer
+IsCheckAnswer holds paths true answer = IsCheckJsonDone holds paths answer
+
 -- what a job is answered with
 abbrev pub IsDone : (List ℕ → List ℕ → Type 0) → Job → Answer → Type 0
-IsDone holds (jobs.One hex asked_forms.Text) answer = IsOneDone hex.now answer
-IsDone holds (jobs.One hex asked_forms.Reasons) answer = IsOneWhyDone hex.now answer
-IsDone holds (jobs.One hex asked_forms.JsonLines) answer = IsOneJsonDone hex.now answer
+IsDone holds (jobs.One hex form) answer = IsOneAnswer hex.now form answer
 IsDone holds (jobs.Say hex server) answer = IsSayDone hex.now server answer
 IsDone holds (jobs.Spell statement) answer = IsSpellDone (map (λ w. w.now) statement.items) answer
 IsDone holds (jobs.Play file device from to form) answer =
@@ -80,10 +88,8 @@ IsDone holds (jobs.Asm input output) answer = IsAsmDone holds (record { text = i
 IsDone holds (jobs.Dis input) answer = IsDisDone holds input.now answer
 IsDone holds (jobs.Run image workers batch trace) answer =
     IsRunDone holds image.now (record { workers = workers; batch = batch }) (option_map (λ p. p.now) trace) answer
-IsDone holds (jobs.Check image trace false) answer =
-    IsCheckDone holds (record { image = image.now; trace = trace.now }) answer
-IsDone holds (jobs.Check image trace true) answer =
-    IsCheckJsonDone holds (record { image = image.now; trace = trace.now }) answer
+IsDone holds (jobs.Check image trace json) answer =
+    IsCheckAnswer holds (record { image = image.now; trace = trace.now }) json answer
 IsDone holds (jobs.Show image trace device from to form) answer =
     IsShowDone holds (record { image = image.now; trace = trace.now }) (form_of form)
     (record { device = device; from = from; to = to }) answer
@@ -232,19 +238,19 @@ pub record IsLiveLost (files : FilesKnown) (faults : StreamFaults) (before after
   pub read : IsReadAs words (asked.Live live)
   pub lost : IsLiveFault files faults before.streams after.streams live fault
 
--- the words ask for devices on UDP, whose session was concluded
-pub record AreServed (files : FilesKnown) (before after : World) (words : List (List ℕ)) (status : Status) : Type 0
-  where
-    pub fleet : AskedFleet
-    pub read : IsReadAs words (asked.Fleet fleet)
-    pub done : IsFleetDone files before after fleet status
-
--- the words ask for devices on UDP, and this fault kept them from a session or from its conclusion
-pub record IsFleetLost (files : FilesKnown) (faults : StreamFaults) (before after : World) (words : List (List ℕ))
-    (fault : Fault) : Type 0 where
+-- the words ask for devices on UDP, whose session was concluded; standard error was a terminal, or was not
+pub record AreServed (files : FilesKnown) (before after : World) (terminal : Bool) (words : List (List ℕ))
+    (status : Status) : Type 0 where
   pub fleet : AskedFleet
   pub read : IsReadAs words (asked.Fleet fleet)
-  pub lost : IsFleetFault files faults before.streams after.streams fleet fault
+  pub done : IsFleetDone files before after fleet terminal status
+
+-- the words ask for devices on UDP, and this fault kept them from a session or from its conclusion
+pub record IsFleetLost (files : FilesKnown) (faults : StreamFaults) (before after : World) (terminal : Bool)
+    (words : List (List ℕ)) (fault : Fault) : Type 0 where
+  pub fleet : AskedFleet
+  pub read : IsReadAs words (asked.Fleet fleet)
+  pub lost : IsFleetFault files faults before.streams after.streams fleet terminal fault
   pub none_made : after.made ≡ before.made
 
 -- the words ask for what a log says, which standard input has; all of it was read, and that was printed
@@ -282,25 +288,25 @@ pub record IsLogLost (files : FilesKnown) (faults : StreamFaults) (before after 
 -- the words were answered, or a session was concluded, and nothing was read from standard input, and standard error got
 -- nothing; or a conversation came to its end, and no file was made; or a log was answered, and standard error got
 -- nothing; or a session of several devices was concluded, and nothing was read
-abbrev pub IsFinished : FilesKnown → StreamFaults → World → World → List (List ℕ) → Status → Type 0
-IsFinished files faults before after words status =
+abbrev pub IsFinished : FilesKnown → StreamFaults → World → World → Bool → List (List ℕ) → Status → Type 0
+IsFinished files faults before after terminal words status =
     ((IsAnswered files before after words status ⊎ IsLived files before after words status)
     × IsAside before.streams after.streams)
     ⊎ ((IsConversed files faults before after words status × (after.made ≡ before.made))
     ⊎ ((IsLogAnswered before after words status × (after.streams.errors ≡ before.streams.errors))
-    ⊎ (AreServed files before after words status × (after.streams.input ≡ before.streams.input))))
+    ⊎ (AreServed files before after terminal words status × (after.streams.input ≡ before.streams.input))))
 
 -- there was no answer, or it was lost, and nothing was read from standard input, and standard error got nothing; or a
 -- conversation was cut short, or a session lost likewise, and no file was made; or a log was not answered, and standard
 -- error got nothing; or a session of several devices was lost, and nothing was read
-abbrev pub IsUnfinished : FilesKnown → StreamFaults → World → World → List (List ℕ) → Fault → Type 0
-IsUnfinished files faults before after words fault =
+abbrev pub IsUnfinished : FilesKnown → StreamFaults → World → World → Bool → List (List ℕ) → Fault → Type 0
+IsUnfinished files faults before after terminal words fault =
     (IsUndone files faults before after words fault × IsAside before.streams after.streams)
     ⊎ (((IsConversationLost files faults before after words fault
     ⊎ (IsLiveLost files faults before after words fault × IsAside before.streams after.streams))
     × (after.made ≡ before.made))
     ⊎ ((IsLogLost files faults before after words fault × (after.streams.errors ≡ before.streams.errors))
-    ⊎ (IsFleetLost files faults before after words fault × (after.streams.input ≡ before.streams.input))))
+    ⊎ (IsFleetLost files faults before after terminal words fault × (after.streams.input ≡ before.streams.input))))
 
 -- ---- the form of a fault
 
@@ -327,7 +333,7 @@ job_wants_json _ = false
 abbrev pub wants_json : Asked → Bool
 wants_json (asked.Job job) = job_wants_json job
 wants_json (asked.Live live) = false
-wants_json (asked.Fleet fleet) = false
+wants_json (asked.Fleet fleet) = fleet.json
 wants_json (asked.Log server) = false
 wants_json (asked.Text help is_mistake) = false
 
@@ -346,12 +352,12 @@ IsToldIn false faults before after about fault = IsTold faults before after abou
 IsToldIn true faults before after about fault = IsToldInJson faults before after about fault
 
 -- what the words ask for was not done, and that was told
-pub record IsFaulted (files : FilesKnown) (faults : StreamFaults) (before after : World) (words : List (List ℕ))
-    : Type 0 where
+pub record IsFaulted (files : FilesKnown) (faults : StreamFaults) (before after : World) (terminal : Bool)
+    (words : List (List ℕ)) : Type 0 where
   pub fault : Fault
   -- the files and the streams when the fault was met
   pub between : World
-  pub undone : IsUnfinished files faults before between words fault
+  pub undone : IsUnfinished files faults before between terminal words fault
   -- the file or the word that standard error names
   pub about : Option (List ℕ)
   -- whether it is told in JSON
@@ -363,9 +369,9 @@ pub record IsFaulted (files : FilesKnown) (faults : StreamFaults) (before after 
 
 -- a command ends: what the words ask for was done, or there was a fault; and of standard input at most 64 MiB were
 -- taken, whatever the end
-pub record Ends (files : FilesKnown) (faults : StreamFaults) (before after : World) (words : List (List ℕ))
-    (status : Status) : Type 0 where
+pub record Ends (files : FilesKnown) (faults : StreamFaults) (before after : World) (terminal : Bool)
+    (words : List (List ℕ)) (status : Status) : Type 0 where
   pub ended :
-      IsFinished files faults before after words status
-      ⊎ ((status ≡ ends.Fault) × IsFaulted files faults before after words)
+      IsFinished files faults before after terminal words status
+      ⊎ ((status ≡ ends.Fault) × IsFaulted files faults before after terminal words)
   pub within : WhereKnown (IsWithin most_bytes) before.streams.input after.streams.input

@@ -17,6 +17,9 @@
 //! `IsDebugged`, `IsLived`, `AreServed`, `IsLogAnswered`), and why it is refused (`IsRefusedJob`).
 #![tactic(auto)]
 
+mod asked;
+mod forms;
+mod jobs;
 mod program;
 mod system;
 

@@ -3,6 +3,8 @@ ghost use Rattle.std.specs.Prelude.{◌≡◌, IfErr, IfOk, map};
 ghost use Rattle.std.specs.Process.{exit_status};
 ghost use Rattle.std.specs.String.{string_bytes};
 ghost use Rattle.bench_commands.specs.Command.{Ends};
+ghost use Rattle.command_files.specs.Files.{most_bytes};
+ghost use Rattle.command_files.specs.Input.{IsWithin, WhereKnown};
 ghost use Rattle.command_files.specs.Status.{exit_code};
 ghost use Rattle.bench_commands.specs.Unread.{EndsUnread, IsToldUnread};
 ghost use Rattle.command_files.specs.declared.status.Status.{Status as Ending};
@@ -21,18 +23,23 @@ use std::thread::Threads;
 use std::{env, io};
 
 /// Gives `conclude` the words of the command line, the system's files and standard output. Lines come from `input`, and
-/// what is for a person goes to `errors`. It has no contract: that it does so is read, and run by the gate.
+/// what is for a person goes to `errors`. That it does so is read, and run by the gate; its contract has what holds
+/// whatever the words: the status is one of four, and at most 64 MiB of `input` are taken.
 pub fn start<
     R: Threads + Wait + Sync + Net + Clock + Env + std::rt::Files + Print + AllocGlobal,
     I: Input,
     E: Output,
->(rt: &R, input: &mut I, errors: &mut E) -> ExitCode {
+>(rt: &R, terminal: bool, input: &mut I, errors: &mut E) -> ExitCode
+    ensures ended { (status : Ending) × (exit_status result ≡ exit_code status) }
+    ensures within { WhereKnown (IsWithin most_bytes) (I.rest input.old) (I.rest input.new) }
+{
     let alloc = rt.alloc();
     let words = words_of(rt);
     conclude(
         rt,
         alloc,
         words,
+        terminal,
         &mut SystemFiles { rt, alloc },
         input,
         &mut io::writer(rt),
@@ -58,6 +65,7 @@ pub fn conclude<R: Threads + Wait + Sync + Net + Clock, F: Files, I: Input, O: O
     rt: &R,
     alloc: Global,
     words: Result<Vec<String>, ErrorKind>,
+    terminal: bool,
     files: &mut F,
     input: &mut I,
     output: &mut O,
@@ -82,7 +90,7 @@ pub fn conclude<R: Threads + Wait + Sync + Net + Clock, F: Files, I: Input, O: O
             errors = E.taken errors.new;
           };
         })
-        (map string_bytes words.items) status) }
+        terminal (map string_bytes words.items) status) }
     ensures unread { IfErr words (λ why. (status : Ending) × (exit_status result ≡ exit_code status) × EndsUnread
         (record { input_fails = I.fails; output_refuses = O.refuses; errors_refuse = E.refuses })
         (record {
@@ -104,7 +112,16 @@ pub fn conclude<R: Threads + Wait + Sync + Net + Clock, F: Files, I: Input, O: O
         NO_TEXT.now why status) }
 {
     let status = match words {
-        Ok(words) => command(rt, alloc, words.as_slice(), files, input, output, errors),
+        Ok(words) => command(
+            rt,
+            alloc,
+            words.as_slice(),
+            terminal,
+            files,
+            input,
+            output,
+            errors,
+        ),
         Err(why) => refuse(alloc, why, output, errors),
     };
     ExitCode::from(status.code())

@@ -1,9 +1,13 @@
 //! `lwbench`: a bench of emulated LwM2M devices. `bench_commands` is what it does.
 #![tactic(auto)]
 
+use std::io::IsTerminal;
 use std::process::ExitCode;
 
-/// Gives `start` the system, with its reader of standard input and its standard error.
+/// Gives `start` the system, with its reader of standard input and its standard error, and says whether that is a
+/// terminal.
 fn main(rt: HostRuntime) -> ExitCode {
-    bench_commands::start(&rt, &mut rt.reader(), &mut rt.stderr())
+    let mut errors = rt.stderr();
+    let terminal = errors.is_terminal();
+    bench_commands::start(&rt, terminal, &mut rt.reader(), &mut errors)
 }

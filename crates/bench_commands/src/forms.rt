@@ -1,0 +1,92 @@
+//! The forms that the words ask for.
+ghost use Rattle.std.specs.Prelude.{◌≡◌};
+ghost use Rattle.bench_commands.specs.Command.{form_of, is_case_json, is_json, job_wants_json, play_form};
+ghost use Rattle.bench_commands.specs.Command.{report_form, wants_json};
+
+use command_line::{Asked, CaseForm, Job, TraceForm as AskedForm};
+use command_play::PlayForm;
+use command_test::ReportForm;
+use command_traces::TraceForm;
+
+/// Whether a trace or outputs are asked for in JSON.
+pub(crate) fn is_json(form: AskedForm) -> bool
+    ensures { result ≡ is_json form }
+{
+    match form {
+        AskedForm::Text | AskedForm::Reasons => false,
+        AskedForm::JsonLines => true,
+    }
+}
+
+/// Whether it is asked for in JSON what came of cases.
+pub(crate) fn is_case_json(form: CaseForm) -> bool
+    ensures { result ≡ is_case_json form }
+{
+    match form {
+        CaseForm::Text | CaseForm::Tap => false,
+        CaseForm::JsonLines => true,
+    }
+}
+
+/// Whether a job asks for JSON.
+pub(crate) fn job_wants_json(job: &Job) -> bool
+    ensures { result ≡ job_wants_json job.now }
+{
+    match job {
+        Job::One { form, .. } | Job::Play { form, .. } | Job::Show { form, .. } => is_json(*form),
+        Job::Check { json, .. } => *json,
+        Job::Test { form, .. } => is_case_json(*form),
+        Job::Say { .. }
+        | Job::Spell { .. }
+        | Job::Asm { .. }
+        | Job::Dis { .. }
+        | Job::Run { .. }
+        | Job::Pcap { .. }
+        | Job::Debug { .. }
+        | Job::Titles { .. } => false,
+    }
+}
+
+/// Whether the words ask for JSON.
+pub(crate) fn wants_json(asked: &Asked) -> bool
+    ensures { result ≡ wants_json asked.now }
+{
+    match asked {
+        Asked::Job(job) => job_wants_json(job),
+        Asked::Fleet(fleet) => fleet.json,
+        Asked::Live(_) | Asked::Log { .. } | Asked::Text { .. } => false,
+    }
+}
+
+/// The form of the entries of a run that is asked for.
+pub(crate) fn play_form(form: AskedForm) -> PlayForm
+    ensures { result ≡ play_form form }
+{
+    match form {
+        AskedForm::Text => PlayForm::Text,
+        AskedForm::Reasons => PlayForm::Reasons,
+        AskedForm::JsonLines => PlayForm::JsonLines,
+    }
+}
+
+/// The form of what came of cases that is asked for.
+pub(crate) fn report_form(form: CaseForm) -> ReportForm
+    ensures { result ≡ report_form form }
+{
+    match form {
+        CaseForm::Text => ReportForm::Text,
+        CaseForm::Tap => ReportForm::Tap,
+        CaseForm::JsonLines => ReportForm::JsonLines,
+    }
+}
+
+/// The form of a trace that is asked for.
+pub(crate) fn form_of(form: AskedForm) -> TraceForm
+    ensures { result ≡ form_of form }
+{
+    match form {
+        AskedForm::Text => TraceForm::Text,
+        AskedForm::Reasons => TraceForm::Reasons,
+        AskedForm::JsonLines => TraceForm::JsonLines,
+    }
+}
