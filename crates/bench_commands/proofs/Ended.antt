@@ -140,8 +140,8 @@ conversed_so files faults before after terminal words asked status read debugged
     inr (inl (record { asked = asked; read = read; debugged = debugged; ended = ended }, none))
 
 -- a session was concluded
-lived : (files : FilesKnown) (faults : StreamFaults) (before after : World) (words : List (List ℕ)) (live : Live)
-    (status : Status) → IsReadAs words (asked.Live live)
+lived : (files : FilesKnown) (faults : StreamFaults) (before after : World) (terminal : Bool) (words : List (List ℕ))
+    (live : Live) (status : Status) → IsReadAs words (asked.Live live)
     → IsLiveDone files (record { made = before.made; streams = aside_streams before.streams.output })
     (record { made = after.made; streams = aside_streams after.streams.output }) live
     → status ≡ ends.Done → IsAside before.streams after.streams
@@ -167,8 +167,8 @@ lived files faults before after terminal words live status read done ended aside
 
 -- the same of a session that may have been lost
 pub lived_if : {E : Type 0}
-    → (files : FilesKnown) (faults : StreamFaults) (before after : World) (words : List (List ℕ)) (live : Live)
-    (result : Result Status E) → IsReadAs words (asked.Live live)
+    → (files : FilesKnown) (faults : StreamFaults) (before after : World) (terminal : Bool) (words : List (List ℕ))
+    (live : Live) (result : Result Status E) → IsReadAs words (asked.Live live)
     → OnOk result (IsLiveDone files (record { made = before.made; streams = aside_streams before.streams.output })
     (record { made = after.made; streams = aside_streams after.streams.output }) live)
     → IfOk result (λ status. status ≡ ends.Done) → IsAside before.streams after.streams
@@ -375,7 +375,8 @@ undelivered_so files faults before after between answer fault silent (inr unprin
     inr (record { failed = unprinted.failed; made = unprinted.made })
 
 -- a delivery that may have gone well, of an answer for which nothing was read or printed
-pub undelivered_if : (files : FilesKnown) (faults : StreamFaults) (before after : World) (between : Option (List ℕ))
+pub undelivered_if : (files : FilesKnown) (faults : StreamFaults) (before after : World) (terminal : Bool)
+    (between : Option (List ℕ))
     (words : List (List ℕ)) (asked : Asked) (answer : Answer) (delivered : Result Status Refusal)
     → IsReadAs words asked
     → IsAnswerTo files.holds asked answer
@@ -626,8 +627,8 @@ told_in : (json : Bool) (faults : StreamFaults) (between after : World) (about :
 told_in false faults between after about fault told = told
 told_in true faults between after about fault told = told
 
-pub faulted : (files : FilesKnown) (faults : StreamFaults) (before between after : World) (about : Option (List ℕ))
-    (words : List (List ℕ)) (fault : Fault) (json : Bool) (status : Status) → status ≡ ends.Fault
+pub faulted : (files : FilesKnown) (faults : StreamFaults) (before between after : World) (terminal : Bool)
+    (about : Option (List ℕ)) (words : List (List ℕ)) (fault : Fault) (json : Bool) (status : Status) → status ≡ ends.Fault
     → IsUnfinished files faults before between terminal words fault → IsFormOf words fault json
     → IsToldIn json
     (record { input_fails = ⊥; output_refuses = faults.output_refuses; errors_refuse = faults.errors_refuse })
