@@ -628,7 +628,8 @@ told_in false faults between after about fault told = told
 told_in true faults between after about fault told = told
 
 pub faulted : (files : FilesKnown) (faults : StreamFaults) (before between after : World) (terminal : Bool)
-    (about : Option (List ℕ)) (words : List (List ℕ)) (fault : Fault) (json : Bool) (status : Status) → status ≡ ends.Fault
+    (about : Option (List ℕ)) (words : List (List ℕ)) (fault : Fault) (json : Bool) (status : Status)
+    → status ≡ ends.Fault
     → IsUnfinished files faults before between terminal words fault → IsFormOf words fault json
     → IsToldIn json
     (record { input_fails = ⊥; output_refuses = faults.output_refuses; errors_refuse = faults.errors_refuse })

@@ -30,9 +30,9 @@ use std::thread::Threads;
 /// - `live`: a device of the row's class makes at most as many turns as were asked for, from its start; the line of its
 ///   session is printed, and the image of its steps is made, if that was asked for.
 /// - `fleet`: devices of a scenario are served for a session, each from the start of its class; the line that says that
-///   their ports are there goes to `errors`, and so does one for each second, where that is a terminal (`terminal`); the
-///   line of the session goes to `output`, and with JSON an object for each of these; the image of their steps is made,
-///   if that was asked for; and the status is 3 where datagrams were dropped or lost, if that was asked for.
+///   their ports are there goes to `errors`, and so does one for each second, where that is a terminal (`terminal`);
+///   the line of the session goes to `output`, and with JSON an object for each of these; the image of their steps is
+///   made, if that was asked for; and the status is 3 where datagrams were dropped or lost, if that was asked for.
 /// - Status 1, and a fault: exactly its line is printed, where the words ask for JSON its object as a line, and then at
 ///   most one line goes to `errors`, or the stream did not take it, and `errors` got nothing. What was left at it is
 ///   said too: nothing made and nothing printed where memory ran out or the words were refused; the file made where its
