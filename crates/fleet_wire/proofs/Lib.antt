@@ -1,0 +1,5 @@
+pub mod Held
+pub mod OneLane
+pub mod Lanes
+pub mod Wires
+pub mod Schedules

@@ -1,0 +1,4 @@
+pub mod Schedule
+pub mod Lane
+pub mod Wire
+pub mod Noting
