@@ -3,3 +3,4 @@ pub mod OneLane
 pub mod Lanes
 pub mod Wires
 pub mod Schedules
+pub mod Spans

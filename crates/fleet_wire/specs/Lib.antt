@@ -2,3 +2,4 @@ pub mod Schedule
 pub mod Lane
 pub mod Wire
 pub mod Noting
+pub mod Reading

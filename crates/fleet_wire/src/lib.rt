@@ -7,6 +7,7 @@ mod laws;
 mod lossy;
 mod note;
 mod plan;
+mod reading;
 mod wire;
 
 pub use choice::{Choice, Span};
@@ -14,3 +15,4 @@ pub use laws::{nothing_chosen_passes, streams_differ};
 pub use lossy::LossyPorts;
 pub use note::{Note, Notes};
 pub use plan::{Direction, Fate, Plan};
+pub use reading::ChoiceFault;
