@@ -1,0 +1,6 @@
+pub mod Held
+pub mod OneLane
+pub mod Lanes
+pub mod Wires
+pub mod Schedules
+pub mod Spans

@@ -1,0 +1,5 @@
+pub mod Schedule
+pub mod Lane
+pub mod Wire
+pub mod Noting
+pub mod Reading
