@@ -36,8 +36,8 @@ count_of devices = devices.last + 1 - devices.first
 abbrev pub row_to_play : Bool → Row → Row
 row_to_play played row = record row { steps = played_steps played row.steps }
 
--- a scenario has the classes of another and the rows of these devices, one after another; with `--copies` so many, over
--- and over
+-- a scenario has the classes of another and the rows of these devices, one after another; with `--copies N`, N rows,
+-- which are those over and over
 pub record IsPart (s : Scenario) (devices : Devices) (copies : Option ℕ) (played : Bool) (part : Scenario) : Type 0
   where
     pub classes : part.classes ≡ s.classes

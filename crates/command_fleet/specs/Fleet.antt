@@ -98,7 +98,7 @@ pub record AreReady (files : FilesKnown) (asked : AskedFleet) (part : Scenario) 
   pub part_is : IsPart scenario devices asked.copies asked.play part
   pub place_is : IsPlace asked.bind.now asked.port place
 
--- it was told that so many devices are there, the first of them at this place
+-- it was told that n devices are there, the first of them at this place
 pub record IsReadyTold (json : Bool) (devices : ℕ) (place : SocketAddr) (before after : Streams) : Type 0 where
   pub shown : Appends before.errors after.errors (ready_line devices place)
   pub printed : Appends before.output after.output (ready_text json devices place)
@@ -129,7 +129,7 @@ abbrev pub cut_of : Option (List ℕ) → List Slot → ℕ
 cut_of None slots = 0
 cut_of (Some path) slots = count_by (λ (slot : Slot). not slot.recording.complete) slots
 
--- the line of a session of which so many rows are cut, or its object
+-- the line of a session of which n rows are cut, or its object
 abbrev pub line_of : Bool → ℕ → Session → List ℕ
 line_of false cut session = done_line session.second (length session.slots) session.counts cut
 line_of true cut session = json_line (done_json session.second (length session.slots) session.counts cut)

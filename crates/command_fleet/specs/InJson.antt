@@ -7,7 +7,7 @@ use Rattle.serde_json.specs.Data.{Data, string}
 use Rattle.trace_json.specs.Json.{Field, number_json, object_json}
 use Rattle.fleet_link.specs.declared.udp.Counts.{Counts}
 
--- the ports of so many devices are there, the first of them at this place
+-- the ports of n devices are there, the first of them at this place
 unfoldable pub ready_json : ℕ → SocketAddr → Data
 ready_json devices place =
     object_json
@@ -26,7 +26,7 @@ second_json second counts =
     object_json
     ((codes "event", string (codes "second")) ∷ (codes "second", number_json second) ∷ counts_fields counts)
 
--- the session is over, and so many rows of what is saved are cut
+-- the session is over, and n rows of what is saved are cut
 unfoldable pub done_json : ℕ → ℕ → Counts → ℕ → Data
 done_json seconds devices counts cut =
     object_json

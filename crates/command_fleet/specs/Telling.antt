@@ -14,7 +14,7 @@ use Rattle.command_fleet.specs.declared.telling.Telling.{Telling}
 use Rattle.command_fleet.specs.declared.telling.Telling.TheVariants.{Nothing, Objects, Progress}
 use Rattle.command_fleet.specs.InJson.{second_json}
 
--- how the seconds of a session of so many devices are told: as objects, if JSON is asked for; else as lines for a
+-- how the seconds of a session of n devices are told: as objects, if JSON is asked for; else as lines for a
 -- person, where standard error is a terminal
 abbrev pub telling_of : Bool → Bool → ℕ → Telling
 telling_of true terminal devices = Objects
@@ -66,7 +66,8 @@ abbrev pub AreSeconds : ℕ → List Passed → ℕ → Type 0
 AreSeconds before [] last = before ≡ last
 AreSeconds before (p ∷ ps) last = (before < p.second) × AreSeconds p.second ps last
 
--- the seconds up to this one were told, each at most once
+-- Seconds up to this one were told, in their order, each at most once, and this one last. One that no turn came to is
+-- left out. Of the counts that were told with each nothing is known here.
 pub record AreTold (telling : Telling) (second : ℕ) (before after : Streams) : Type 0 where
   pub passed : List Passed
   pub seconds : AreSeconds 0 passed second

@@ -109,8 +109,8 @@ fn row_at(devices: Devices, place: usize) -> u16
     row as u16
 }
 
-/// The classes of a scenario and the rows of these devices, one after another; so many of them, over and over, if a
-/// number is given. They have the steps that are played, if they are. A part of a valid scenario is valid: only memory
+/// The classes of a scenario and the rows of these devices, one after another; if a number is given, this many rows,
+/// over and over. They have the steps that are played, if they are. A part of a valid scenario is valid: only memory
 /// may lack for it.
 pub fn part_of(
     alloc: Global,

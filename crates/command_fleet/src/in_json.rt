@@ -2,38 +2,16 @@
 ghost use Rattle.std.specs.Prelude.{◌≡◌, ◌++◌, IfOk, OnOk};
 ghost use Rattle.std.specs.Net.Socket.{socket_ip};
 ghost use Rattle.std.specs.Net.Text.{ip_text};
-ghost use Rattle.std.specs.Str.{IsUtf8};
 ghost use Rattle.std.specs.String.{string_bytes};
-ghost use Rattle.json.specs.Print.{print};
-ghost use Rattle.scenario_words.specs.Words.{ended_line};
-ghost use Rattle.serde_json.specs.Data.{string};
-ghost use Rattle.trace_json.specs.Json.{number_json, object_json};
-ghost use Rattle.trace_json.specs.Writing.{Has64Bits, IsReadAgain, fields_tokens, json_line, member_tokens, tokens_of};
+ghost use Rattle.trace_json.specs.Json.{object_json};
+ghost use Rattle.trace_json.specs.Writing.{Has64Bits, IsReadAgain, fields_tokens, json_line, tokens_of};
 ghost use Rattle.command_fleet.specs.InJson.{counts_fields, done_json, ready_json, second_json};
 
 use fleet_link::Counts;
 use json::Writer;
 use std::alloc::{AllocError, Global};
 use std::net::{IpAddr, SocketAddr};
-
-/// Writes a number.
-fn put_number(out: &mut Writer, key: &str, number: u64) -> Result<(), AllocError>
-    ensures adds { OnOk result (out.new.tokens ≡ out.old.tokens ++ member_tokens key.now (number_json number)) }
-    ensures before { out.new.before ≡ out.old.before }
-    ensures exact { Has64Bits (number_json number) }
-{
-    out.key(key)?;
-    out.u64(number)
-}
-
-/// Writes a text.
-fn put_text(out: &mut Writer, key: &str, text: &str) -> Result<(), AllocError>
-    ensures adds { OnOk result (out.new.tokens ≡ out.old.tokens ++ member_tokens key.now (string text.now)) }
-    ensures before { out.new.before ≡ out.old.before }
-{
-    out.key(key)?;
-    out.string(text)
-}
+use trace_json::{end_line, put_number, put_string, text_of};
 
 /// Writes how many datagrams went through ports.
 fn put_counts(out: &mut Writer, counts: Counts) -> Result<(), AllocError>
@@ -48,28 +26,6 @@ fn put_counts(out: &mut Writer, counts: Counts) -> Result<(), AllocError>
     Ok(())
 }
 
-/// Ends the line of the object that a writer has written.
-fn end_line(writer: Writer) -> Result<Vec<u8>, AllocError>
-    requires { IsUtf8 writer.before }
-    ensures line { IfOk result (λ v. v.items ≡ writer.before ++ ended_line (print writer.tokens)) }
-    ensures utf8 { IfOk result (λ v. IsUtf8 v.items) }
-{
-    let mut bytes = writer.into_inner();
-    bytes.push(b'\n')?;
-    Ok(bytes)
-}
-
-/// The text that bytes are.
-fn text_of(bytes: Vec<u8>) -> String
-    requires { IsUtf8 bytes.items }
-    ensures { string_bytes result ≡ bytes.items }
-{
-    match String::from_utf8(bytes) {
-        Ok(text) => text,
-        Err(_) => unreachable!(),
-    }
-}
-
 /// Writes that a second has come.
 #[tactic(auto, unfolding(crate::specs::InJson::second_json))]
 fn put_second(out: &mut Writer, second: u64, counts: Counts) -> Result<(), AllocError>
@@ -78,7 +34,7 @@ fn put_second(out: &mut Writer, second: u64, counts: Counts) -> Result<(), Alloc
     ensures exact { OnOk result (Has64Bits (second_json second counts)) }
 {
     out.begin_object()?;
-    put_text(out, "event", "second")?;
+    put_string(out, "event", "second")?;
     put_number(out, "second", second)?;
     put_counts(out, counts)?;
     out.end_object()?;
@@ -97,7 +53,7 @@ pub fn second_line(alloc: Global, second: u64, counts: Counts) -> Result<String,
     Ok(text_of(bytes))
 }
 
-/// Writes that a session is over, of which so many rows are cut.
+/// Writes that a session is over, and how many rows are cut.
 #[tactic(auto, unfolding(crate::specs::InJson::done_json))]
 fn put_done(
     out: &mut Writer,
@@ -111,7 +67,7 @@ fn put_done(
     ensures exact { OnOk result (Has64Bits (done_json seconds devices counts cut)) }
 {
     out.begin_object()?;
-    put_text(out, "event", "done")?;
+    put_string(out, "event", "done")?;
     put_number(out, "seconds", seconds)?;
     put_number(out, "devices", devices as u64)?;
     put_counts(out, counts)?;
@@ -120,7 +76,7 @@ fn put_done(
     Ok(())
 }
 
-/// The line of the end of a session, of which so many rows are cut.
+/// The line of the end of a session, with how many rows are cut.
 #[tactic(auto, using(crate::proofs::Objects::done_again))]
 pub fn done_object(
     alloc: Global,
@@ -159,9 +115,9 @@ fn put_ready(
 {
     out.begin_object()?;
     put_number(out, "version", 1)?;
-    put_text(out, "event", "ready")?;
+    put_string(out, "event", "ready")?;
     put_number(out, "devices", devices as u64)?;
-    put_text(out, "address", address)?;
+    put_string(out, "address", address)?;
     put_number(out, "port", u64::from(place.port()))?;
     out.end_object()?;
     Ok(())

@@ -107,7 +107,7 @@ fn tell_if_later<'a, P: Counted, O: Output, E: Output>(
     tell_second(alloc, telling, second, ports, output, errors)
 }
 
-/// Makes turns until this second of the session, at most so many, and tells each second that comes.
+/// Makes turns until this second of the session, `turns` at most, and tells each second that one comes to.
 fn go_on<'a, P: Counted, C: Seconds, O: Output, E: Output>(
     alloc: Global,
     telling: Telling,
@@ -148,8 +148,8 @@ fn go_on<'a, P: Counted, C: Seconds, O: Output, E: Output>(
     Ok(())
 }
 
-/// All devices of a scenario are served on these ports, for so many seconds of this clock as are asked for, and each
-/// second is told. Their rows are played, and their steps recorded, if that is asked for.
+/// All devices of a scenario are served on these ports, for the seconds that are asked for by this clock, and each
+/// second that a turn comes to is told. Their rows are played, and their steps recorded, if that is asked for.
 #[tactic(auto, using(crate::proofs::Told::cut_at_start))]
 pub fn serve_part<'a, P: Counted, C: Seconds, O: Output, E: Output>(
     alloc: Global,

@@ -27,7 +27,7 @@ pub enum Telling {
     Objects,
 }
 
-/// How the seconds of a session of so many devices are told: in JSON, if that is asked for; else for a person, where
+/// How the seconds of a session of n devices are told: in JSON, if that is asked for; else for a person, where
 /// standard error is a terminal.
 pub fn telling_of(json: bool, terminal: bool, devices: usize) -> Telling
     ensures { result ≡ telling_of json terminal devices }

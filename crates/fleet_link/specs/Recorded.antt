@@ -24,7 +24,7 @@ size_of_step (Need group count) = 0
 abbrev pub size_of_steps : List Step → ℕ
 size_of_steps steps = sum_by size_of_step steps
 
--- how many bytes each of so many devices may take, where they are saved: of 64 MiB an equal part
+-- how many bytes each of n devices may take, where they are saved: of 64 MiB an equal part
 abbrev pub share_of : ℕ → Bool → ℕ
 share_of rows true = 67108864 / rows
 share_of rows false = 0

@@ -165,7 +165,7 @@ ArePassed before after now =
     (e group : ℕ) (slot : Slot) → slice_get before e ≡ Some slot → slot.end ≡ None
     → CanPass group (posts_of before group now) now slot.row → slot.row.place < place_in (slice_get after e)
 
--- each device may record so many bytes of an image
+-- each device may record this many bytes of an image
 abbrev pub HaveShare : List Slot → ℕ → Type 0
 HaveShare slots share =
     (e : ℕ) (slot : Slot) → slice_get slots e ≡ Some slot → slot.recording.share ≡ share

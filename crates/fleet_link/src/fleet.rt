@@ -24,7 +24,7 @@ pub struct Fleet {
     pub(crate) second: u64,
 }
 
-/// What is recorded of each of so many rows: each has an equal part of the bytes, if they are saved, and none if they
+/// What is recorded of each of n rows: each has an equal part of the bytes, if they are saved, and none if they
 /// are not.
 fn recording_of(alloc: Global, rows: usize, saved: bool) -> Recording
     ensures steps { result.steps.items ≡ [] }

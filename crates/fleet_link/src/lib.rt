@@ -27,6 +27,6 @@ pub use laws::{
 pub use memory::{ScriptedPorts, Sending};
 pub use ports::{Arrival, Ports, PortsFault, Receipt};
 pub use recording::Recording;
-pub use row::{PlayedRow, RowState};
+pub use row::{PlayedRow, RowState, own_steps};
 pub use slot::{DeviceEnd, Slot};
 pub use udp::{BindFault, Counts, UdpPorts};

@@ -42,7 +42,7 @@ fn size_of_event(event: &Event) -> usize
 }
 
 impl Recording {
-    /// One without a step, which may take so many bytes.
+    /// An empty one, which may take this many bytes.
     pub(crate) fn new(alloc: Global, share: usize) -> Recording
         ensures steps { result.steps.items ≡ [] }
         ensures share { result.share ≡ share }

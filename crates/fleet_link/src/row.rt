@@ -68,7 +68,7 @@ fn push_own(own: &mut Vec<Step>, step: &Step) -> Result<(), AllocError>
 }
 
 /// Copies of the steps that are no datagrams.
-fn own_steps(alloc: Global, steps: &[Step]) -> Result<Vec<Step>, AllocError>
+pub fn own_steps(alloc: Global, steps: &[Step]) -> Result<Vec<Step>, AllocError>
     ensures { IfOk result (λ own. own.items ≡ filter is_own steps.now) }
 {
     let mut own = Vec::new(alloc);

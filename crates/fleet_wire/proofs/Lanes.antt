@@ -52,30 +52,30 @@ with_own xs ys d e x is h = h ∙ ap (λ t. xs ++ t) (of_own d e x is)
 -- ---- what waits
 
 -- what is not to go on now, of one device
-quiet_of : (behind : Option ℕ) (late_by second e : ℕ) (held : List Held)
-    → AllByRecursion (λ h. is_wanted behind late_by second h ≡ false) held
-    → AllByRecursion (IsQuiet (is_freed behind e)) (held_by e held)
-quiet_of behind late_by second e [] w = tt
-quiet_of behind late_by second e (h ∷ held) w =
-    at (cases_eq h.device e) (quiet_of behind late_by second e held w.1)
+quiet_of : (free : Option ℕ) (late_by second e : ℕ) (held : List Held)
+    → AllByRecursion (λ h. is_wanted free late_by second h ≡ false) held
+    → AllByRecursion (IsQuiet (is_freed free e)) (held_by e held)
+quiet_of free late_by second e [] w = tt
+quiet_of free late_by second e (h ∷ held) w =
+    at (cases_eq h.device e) (quiet_of free late_by second e held w.1)
   where
-    at : (h.device ≡ e) ⊎ (h.device ≡ e → ⊥) → AllByRecursion (IsQuiet (is_freed behind e)) (held_by e held)
-        → AllByRecursion (IsQuiet (is_freed behind e)) (held_by e (h ∷ held))
+    at : (h.device ≡ e) ⊎ (h.device ≡ e → ⊥) → AllByRecursion (IsQuiet (is_freed free e)) (held_by e held)
+        → AllByRecursion (IsQuiet (is_freed free e)) (held_by e (h ∷ held))
     at (inl same) rest =
-        subst (AllByRecursion (IsQuiet (is_freed behind e))) (sym (own_one e h held same)) (
-          subst (λ i. IsQuiet (is_freed behind i) h) same
-              (quiet h.fate (is_freed behind h.device) (is_over late_by h.second second) w.0),
+        subst (AllByRecursion (IsQuiet (is_freed free e))) (sym (own_one e h held same)) (
+          subst (λ i. IsQuiet (is_freed free i) h) same
+              (quiet h.fate (is_freed free h.device) (is_over late_by h.second second) w.0),
           rest,
         )
     at (inr other) rest =
-        subst (AllByRecursion (IsQuiet (is_freed behind e))) (sym (other_one e h held other)) rest
+        subst (AllByRecursion (IsQuiet (is_freed free e))) (sym (other_one e h held other)) rest
 
-all_quiet : (behind : Option ℕ) (late_by second : ℕ) (held : List Held)
-    → AllByRecursion (λ h. is_wanted behind late_by second h ≡ false) held → AllByRecursion Waits held
-all_quiet behind late_by second [] w = tt
-all_quiet behind late_by second (h ∷ held) w =
-    let q = quiet h.fate (is_freed behind h.device) (is_over late_by h.second second) w.0 in
-    (q.0, all_quiet behind late_by second held w.1)
+all_quiet : (free : Option ℕ) (late_by second : ℕ) (held : List Held)
+    → AllByRecursion (λ h. is_wanted free late_by second h ≡ false) held → AllByRecursion Waits held
+all_quiet free late_by second [] w = tt
+all_quiet free late_by second (h ∷ held) w =
+    let q = quiet h.fate (is_freed free h.device) (is_over late_by h.second second) w.0 in
+    (q.0, all_quiet free late_by second held w.1)
 
 -- ---- one goes on
 
@@ -84,9 +84,9 @@ waits_unless f freed over h = let q = quiet f freed over h in q.0
 
 pub lanes_later : (plan : Plan) (direction : Direction) (devices now second : ℕ) (lane new : Lane)
     → AreLanes plan direction devices now lane → now ≤ second → new.direction ≡ lane.direction
-    → new.counts.items ≡ lane.counts.items → new.held.items ≡ lane.held.items → new.behind ≡ lane.behind
+    → new.counts.items ≡ lane.counts.items → new.held.items ≡ lane.held.items → new.free ≡ lane.free
     → new.log ≡ lane.log → AreLanes plan direction devices second new
-lanes_later plan direction devices now second lane new l later dir counts held behind log =
+lanes_later plan direction devices now second lane new l later dir counts held free log =
     record {
       direction_is = dir ∙ l.direction_is;
       count = ap length counts ∙ l.count;
@@ -94,21 +94,21 @@ lanes_later plan direction devices now second lane new l later dir counts held b
       each = λ e.
           lane_is (fate_at plan direction devices e) plan.late_by second (came_by lane.log e) (came_by new.log e)
           (went_by lane.log e) (went_by new.log e) (held_by e lane.held.items) (held_by e new.held.items)
-          (is_freed lane.behind e) (is_freed new.behind e) (ap (λ g. came_by g e) log) (ap (λ g. went_by g e) log)
-          (ap (held_by e) held) (ap (λ b. is_freed b e) behind)
+          (is_freed lane.free e) (is_freed new.free e) (ap (λ g. came_by g e) log) (ap (λ g. went_by g e) log)
+          (ap (held_by e) held) (ap (λ b. is_freed b e) free)
           (lane_later (fate_at plan direction devices e) plan.late_by now second (came_by lane.log e)
-          (went_by lane.log e) (held_by e lane.held.items) (is_freed lane.behind e) later (l.each e));
+          (went_by lane.log e) (held_by e lane.held.items) (is_freed lane.free e) later (l.each e));
       in_order = subst AreInOrder (sym held) l.in_order;
     }
 
 pub lanes_gone : (plan : Plan) (direction : Direction) (devices now second : ℕ) (lane new : Lane) (h : Held)
     → AreLanes plan direction devices now lane → now ≤ second
-    → IsFirst (is_wanted lane.behind plan.late_by second) lane.held.items h new.held.items
-    → new.direction ≡ lane.direction → new.counts.items ≡ lane.counts.items → new.behind ≡ lane.behind
+    → IsFirst (is_wanted lane.free plan.late_by second) lane.held.items h new.held.items
+    → new.direction ≡ lane.direction → new.counts.items ≡ lane.counts.items → new.free ≡ lane.free
     → ((e : ℕ) → came_by new.log e ≡ came_by lane.log e)
     → ((e : ℕ) → went_by new.log e ≡ went_by lane.log e ++ of_device h.device e (gone_of second h))
     → AreLanes plan direction devices second new
-lanes_gone plan direction devices now second lane new h l later first dir counts behind came went =
+lanes_gone plan direction devices now second lane new h l later first dir counts free came went =
     record {
       direction_is = dir ∙ l.direction_is;
       count = ap length counts ∙ l.count;
@@ -135,30 +135,30 @@ lanes_gone plan direction devices now second lane new h l later first dir counts
         of_all [] w = tt
         of_all (x ∷ xs) w = of_one x (held_by e xs) (x.device == e) w.0 (of_all xs w.1)
 
-    front_waits : (front : List Held) → AllByRecursion (λ x. is_wanted lane.behind plan.late_by second x ≡ false) front
+    front_waits : (front : List Held) → AllByRecursion (λ x. is_wanted lane.free plan.late_by second x ≡ false) front
         → AllByRecursion Waits front
-    front_waits front w = all_quiet lane.behind plan.late_by second front w
+    front_waits front w = all_quiet lane.free plan.late_by second front w
 
     at : (e : ℕ) → (h.device ≡ e) ⊎ (h.device ≡ e → ⊥)
         → IsLane (fate_at plan direction devices e) plan.late_by second (came_by new.log e) (went_by new.log e)
-        (held_by e new.held.items) (is_freed new.behind e)
+        (held_by e new.held.items) (is_freed new.free e)
     at e (inl same) =
         let own : held_by e lane.held.items ≡ held_by e first.front ++ h ∷ held_by e first.back =
         ap (held_by e) first.all_is ∙ own_around e first.front h first.back same in
         let left : held_by e new.held.items ≡ held_by e first.front ++ held_by e first.back =
         ap (held_by e) first.others_is ∙ by_append e first.front first.back in
         let before = subst (λ x. IsLane (fate_at plan direction devices e) plan.late_by now (came_by lane.log e)
-        (went_by lane.log e) x (is_freed lane.behind e)) own (l.each e) in
-        let due = subst (λ i. is_due h.fate (is_freed lane.behind i) (is_over plan.late_by h.second second) ≡ true) same
+        (went_by lane.log e) x (is_freed lane.free e)) own (l.each e) in
+        let due = subst (λ i. is_due h.fate (is_freed lane.free i) (is_over plan.late_by h.second second) ≡ true) same
         first.passes in
         lane_is (fate_at plan direction devices e) plan.late_by second (came_by lane.log e) (came_by new.log e)
         (went_by lane.log e ++ gone_of second h ∷ []) (went_by new.log e)
-        (held_by e first.front ++ held_by e first.back) (held_by e new.held.items) (is_freed lane.behind e)
-        (is_freed new.behind e) (came e)
+        (held_by e first.front ++ held_by e first.back) (held_by e new.held.items) (is_freed lane.free e)
+        (is_freed new.free e) (came e)
         (with_own (went_by lane.log e) (went_by new.log e) h.device e (gone_of second h) same (went e)) left
-        (ap (λ b. is_freed b e) behind)
+        (ap (λ b. is_freed b e) free)
         (lane_goes (fate_at plan direction devices e) plan.late_by now second (came_by lane.log e) (went_by lane.log e)
-        (held_by e first.front) h (held_by e first.back) (is_freed lane.behind e) later before due
+        (held_by e first.front) h (held_by e first.back) (is_freed lane.free e) later before due
         (λ waits.
         let all = all_wait first.front h first.back order (front_waits first.front first.none) waits in
         subst (λ t. AllByRecursion Waits (held_by e first.front ++ t)) (own_one e h first.back same) (all_of e all)))
@@ -168,11 +168,11 @@ lanes_gone plan direction devices now second lane new h l later first dir counts
         ∙ ap (held_by e) (sym first.all_is) in
         lane_is (fate_at plan direction devices e) plan.late_by second (came_by lane.log e) (came_by new.log e)
         (went_by lane.log e) (went_by new.log e) (held_by e lane.held.items) (held_by e new.held.items)
-        (is_freed lane.behind e) (is_freed new.behind e) (came e)
+        (is_freed lane.free e) (is_freed new.free e) (came e)
         (with_other (went_by lane.log e) (went_by new.log e) h.device e (gone_of second h) other (went e)) left
-        (ap (λ b. is_freed b e) behind)
+        (ap (λ b. is_freed b e) free)
         (lane_later (fate_at plan direction devices e) plan.late_by now second (came_by lane.log e)
-        (went_by lane.log e) (held_by e lane.held.items) (is_freed lane.behind e) later (l.each e))
+        (went_by lane.log e) (held_by e lane.held.items) (is_freed lane.free e) later (l.each e))
 
 -- ---- one comes
 
@@ -181,40 +181,40 @@ came_each : (plan : Plan) (direction : Direction) (devices now second : ℕ) (la
     → AreLanes plan direction devices now lane → now ≤ second → IsIdle plan.late_by second lane
     → IsNew (fate_at plan direction devices h.device) second (came_by lane.log h.device) x h
     → new.held.items ≡ held_with h.fate h lane.held.items
-    → is_freed new.behind h.device ≡ goes_at_once h.fate
-    → ((e : ℕ) → (h.device ≡ e → ⊥) → is_freed new.behind e ≡ false)
+    → is_freed new.free h.device ≡ goes_at_once h.fate
+    → ((e : ℕ) → (h.device ≡ e → ⊥) → is_freed new.free e ≡ false)
     → ((e : ℕ) → came_by new.log e ≡ came_by lane.log e ++ of_device h.device e x)
     → ((e : ℕ) → went_by new.log e ≡ went_by lane.log e) → (e : ℕ)
     → IsLane (fate_at plan direction devices e) plan.late_by second (came_by new.log e) (went_by new.log e)
-    (held_by e new.held.items) (is_freed new.behind e)
+    (held_by e new.held.items) (is_freed new.free e)
 came_each plan direction devices now second lane new h x l later idle is held freed others came went e =
     at (cases_eq h.device e)
   where
-    waits : AllByRecursion (IsQuiet (is_freed lane.behind e)) (held_by e lane.held.items)
-    waits = quiet_of lane.behind plan.late_by second e lane.held.items idle
+    waits : AllByRecursion (IsQuiet (is_freed lane.free e)) (held_by e lane.held.items)
+    waits = quiet_of lane.free plan.late_by second e lane.held.items idle
 
     at : (h.device ≡ e) ⊎ (h.device ≡ e → ⊥)
         → IsLane (fate_at plan direction devices e) plan.late_by second (came_by new.log e) (went_by new.log e)
-        (held_by e new.held.items) (is_freed new.behind e)
+        (held_by e new.held.items) (is_freed new.free e)
     at (inl same) =
         lane_is (fate_at plan direction devices e) plan.late_by second (came_by lane.log e ++ x ∷ [])
         (came_by new.log e) (went_by lane.log e) (went_by new.log e)
         (held_with h.fate h (held_by e lane.held.items)) (held_by e new.held.items) (goes_at_once h.fate)
-        (is_freed new.behind e)
+        (is_freed new.free e)
         (with_own (came_by lane.log e) (came_by new.log e) h.device e x same (came e)) (went e)
         (ap (held_by e) held ∙ own_with h.fate e h lane.held.items same)
-        (ap (is_freed new.behind) (sym same) ∙ freed)
+        (ap (is_freed new.free) (sym same) ∙ freed)
         (lane_comes (fate_at plan direction devices e) plan.late_by now second (came_by lane.log e)
-        (went_by lane.log e) (held_by e lane.held.items) (is_freed lane.behind e) x h later (l.each e) waits
+        (went_by lane.log e) (held_by e lane.held.items) (is_freed lane.free e) x h later (l.each e) waits
         (subst (λ i. IsNew (fate_at plan direction devices i) second (came_by lane.log i) x h) same is))
     at (inr other) =
         lane_is (fate_at plan direction devices e) plan.late_by second (came_by lane.log e) (came_by new.log e)
         (went_by lane.log e) (went_by new.log e) (held_by e lane.held.items) (held_by e new.held.items) false
-        (is_freed new.behind e)
+        (is_freed new.free e)
         (with_other (came_by lane.log e) (came_by new.log e) h.device e x other (came e)) (went e)
         (ap (held_by e) held ∙ other_with h.fate e h lane.held.items other) (others e other)
         (lane_elsewhere (fate_at plan direction devices e) plan.late_by now second (came_by lane.log e)
-        (went_by lane.log e) (held_by e lane.held.items) (is_freed lane.behind e) later (l.each e) waits)
+        (went_by lane.log e) (held_by e lane.held.items) (is_freed lane.free e) later (l.each e) waits)
 
 abbrev freed_after : Fate → ℕ → Option ℕ
 freed_after fate device = cond (goes_at_once fate) (Some device) None
@@ -232,21 +232,21 @@ pub lanes_came : (plan : Plan) (direction : Direction) (devices now second : ℕ
     → h.device < length lane.counts.items → h.place ≡ get_or lane.counts.items h.device 0 → h.second ≡ second
     → h.fate ≡ fate_of plan lane.direction h.device (h.place + 1) → new.direction ≡ lane.direction
     → new.counts.items ≡ set lane.counts.items h.device (h.place + 1)
-    → new.held.items ≡ held_with h.fate h lane.held.items → new.behind ≡ freed_after h.fate h.device
+    → new.held.items ≡ held_with h.fate h lane.held.items → new.free ≡ freed_after h.fate h.device
     → ((e : ℕ) → came_by new.log e
     ≡ came_by lane.log e ++ of_device h.device e (record { second = second; packet = h.packet }))
     → ((e : ℕ) → went_by new.log e ≡ went_by lane.log e) → AreLanes plan direction devices second new
-lanes_came plan direction devices now second lane new h l later idle known place when fate dir counts held behind came
+lanes_came plan direction devices now second lane new h l later idle known place when fate dir counts held free came
     went =
     record {
       direction_is = dir ∙ l.direction_is;
       count = ap length counts ∙ length-set lane.counts.items h.device (h.place + 1) ∙ l.count;
       counts = λ e below. counted e below (cases_eq h.device e);
       each = came_each plan direction devices now second lane new h x l later idle is held
-          (ap (λ b. is_freed b h.device) behind ∙ freed_own (goes_at_once h.fate) h.device)
-          (λ e other. ap (λ b. is_freed b e) behind ∙ freed_other (goes_at_once h.fate) h.device e other) came went;
+          (ap (λ b. is_freed b h.device) free ∙ freed_own (goes_at_once h.fate) h.device)
+          (λ e other. ap (λ b. is_freed b e) free ∙ freed_other (goes_at_once h.fate) h.device e other) came went;
       in_order = subst AreInOrder (sym held)
-          (order_with h.fate h lane.held.items refl (all_quiet lane.behind plan.late_by second lane.held.items idle));
+          (order_with h.fate h lane.held.items refl (all_quiet lane.free plan.late_by second lane.held.items idle));
     }
   where
     x : Heard
@@ -292,11 +292,11 @@ lanes_came plan direction devices now second lane new h l later idle known place
 pub lanes_unknown : (plan : Plan) (direction : Direction) (devices now second device : ℕ) (packet : Packet)
     (lane new : Lane) → AreLanes plan direction devices now lane → now ≤ second → IsIdle plan.late_by second lane
     → length lane.counts.items ≤ device → new.direction ≡ lane.direction → new.counts.items ≡ lane.counts.items
-    → new.held.items ≡ lane.held.items → new.behind ≡ None
+    → new.held.items ≡ lane.held.items → new.free ≡ None
     → ((e : ℕ) → came_by new.log e
     ≡ came_by lane.log e ++ of_device device e (record { second = second; packet = packet }))
     → ((e : ℕ) → went_by new.log e ≡ went_by lane.log e) → AreLanes plan direction devices second new
-lanes_unknown plan direction devices now second device packet lane new l later idle unknown dir counts held behind came
+lanes_unknown plan direction devices now second device packet lane new l later idle unknown dir counts held free came
     went =
     record {
       direction_is = dir ∙ l.direction_is;
@@ -306,7 +306,7 @@ lanes_unknown plan direction devices now second device packet lane new l later i
           ap (λ c. get_or c e 0) counts ∙ l.counts e below
           ∙ ap length (sym (with_other (came_by lane.log e) (came_by new.log e) device e x other (came e)));
       each = came_each plan direction devices now second lane new h x l later idle is held
-          (ap (λ b. is_freed b device) behind) (λ e other. ap (λ b. is_freed b e) behind) came went;
+          (ap (λ b. is_freed b device) free) (λ e other. ap (λ b. is_freed b e) free) came went;
       in_order = subst AreInOrder (sym held) l.in_order;
     }
   where

@@ -14,7 +14,7 @@ use Rattle.fleet_wire.specs.declared.lane.Held.{Held}
 use Rattle.fleet_wire.specs.declared.plan.Fate.{Fate}
 use Rattle.fleet_wire.specs.declared.plan.Fate.TheVariants.{Late, Lost, Passes, Swapped, Twice}
 use Rattle.fleet_wire.specs.Schedule.{copies, goes_at_once}
-use Rattle.fleet_wire.specs.Lane.{held_with, is_due, is_over, Gone, IsAtOnce, IsBehind, IsGone, IsHeld, IsLane, IsOver}
+use Rattle.fleet_wire.specs.Lane.{held_with, is_due, is_over, Gone, IsAtOnce, IsRightAfter, IsGone, IsHeld, IsLane, IsOver}
 use Rattle.fleet_wire.proofs.Held.{each_here, each_without, Waits}
 
 -- ---- lists
@@ -256,8 +256,8 @@ lane_comes fate late_by now second came went held freed x h later l q n =
           late = g.late;
         }
 
-    over : (k : ℕ) (w : Gone) → IsOver late_by came w ⊎ IsBehind fate went k w
-        → IsOver late_by (came ++ x ∷ []) w ⊎ IsBehind fate went k w
+    over : (k : ℕ) (w : Gone) → IsOver late_by came w ⊎ IsRightAfter fate went k w
+        → IsOver late_by (came ++ x ∷ []) w ⊎ IsRightAfter fate went k w
     over k w (inl o) =
         inl (record { heard = o.heard; is = got_still came x w.place o.heard o.is; over = o.over })
     over k w (inr b) = inr b
@@ -341,7 +341,7 @@ own_swapped : (fate : ℕ → Fate) (late_by now second : ℕ) (came : List Hear
     → IsHeld fate now came freed h → is_due h.fate freed (is_over late_by h.second second) ≡ true
     → (goes_at_once h.fate ≡ false → AllByRecursion Waits held) → fate h.place ≡ Swapped
     → IsOver late_by came (gone_of second h)
-    ⊎ IsBehind fate (went ++ gone_of second h ∷ []) (length went) (gone_of second h)
+    ⊎ IsRightAfter fate (went ++ gone_of second h ∷ []) (length went) (gone_of second h)
 own_swapped fate late_by now second came went held freed h later l is due order swapped =
     at (split_or freed (is_over late_by h.second second)
     (subst (λ f. is_due f freed (is_over late_by h.second second) ≡ true) (is.fate_is ∙ swapped) due))
@@ -349,8 +349,8 @@ own_swapped fate late_by now second came went held freed h later l is due order 
     waits : AllByRecursion Waits held
     waits = order (ap goes_at_once (is.fate_is ∙ swapped))
 
-    behind : IsAtOnce fate came → IsBehind fate (went ++ gone_of second h ∷ []) (length went) (gone_of second h)
-    behind once = behind_it once
+    free : IsAtOnce fate came → IsRightAfter fate (went ++ gone_of second h ∷ []) (length went) (gone_of second h)
+    free once = behind_it once
         (sent_once fate late_by now came went held freed once.place l waits (omega (arith, once.last)) once.at_once)
       where
         alone : (once : IsAtOnce fate came) (j : ℕ) (v : Gone) → j < length went
@@ -364,7 +364,7 @@ own_swapped fate late_by now second came went held freed h later l is due order 
         alone once j v below (inr new) once_v after = absurd (omega (arith, below, new.0))
 
         behind_it : (once : IsAtOnce fate came) → IsAmong once.place went
-            → IsBehind fate (went ++ gone_of second h ∷ []) (length went) (gone_of second h)
+            → IsRightAfter fate (went ++ gone_of second h ∷ []) (length went) (gone_of second h)
         behind_it once a =
             let in_range = slice_get_within came h.place is.heard is.is in
             let apart : h.place ≡ once.place → ⊥ = λ e.
@@ -384,15 +384,15 @@ own_swapped fate late_by now second came went held freed h later l is due order 
 
     at : (is_over late_by h.second second ≡ true) ⊎ (freed ≡ true)
         → IsOver late_by came (gone_of second h)
-        ⊎ IsBehind fate (went ++ gone_of second h ∷ []) (length went) (gone_of second h)
+        ⊎ IsRightAfter fate (went ++ gone_of second h ∷ []) (length went) (gone_of second h)
     at (inl over) =
         let same = is.second in
         let until = is.until in
         inl (record { heard = is.heard; is = is.is; over = grind (arith, nat_tests) })
-    at (inr free) = inr (behind (l.last free))
+    at (inr is) = inr (free (l.last is))
 
 behind_still : (fate : ℕ → Fate) (went : List Gone) (new : Gone) (k : ℕ) (w : Gone) → slice_get went k ≡ Some w
-    → IsBehind fate went k w → IsBehind fate (went ++ new ∷ []) k w
+    → IsRightAfter fate went k w → IsRightAfter fate (went ++ new ∷ []) k w
 behind_still fate went new k w got b =
     record {
       next = b.next;
@@ -464,16 +464,16 @@ lane_goes fate late_by now second came went front h back freed later l due order
     ordered j k v w below (inr a) (inr b) once_v once_w = absurd (omega (arith, below, a.0, b.0))
 
     swapped : (k : ℕ) (w : Gone) → (slice_get went k ≡ Some w) ⊎ ((k ≡ length went) × (gone_of second h ≡ w))
-        → fate w.place ≡ Swapped → IsOver late_by came w ⊎ IsBehind fate (went ++ gone_of second h ∷ []) k w
+        → fate w.place ≡ Swapped → IsOver late_by came w ⊎ IsRightAfter fate (went ++ gone_of second h ∷ []) k w
     swapped k w (inl old) s = still (l.swapped k w old s)
       where
-        still : IsOver late_by came w ⊎ IsBehind fate went k w
-            → IsOver late_by came w ⊎ IsBehind fate (went ++ gone_of second h ∷ []) k w
+        still : IsOver late_by came w ⊎ IsRightAfter fate went k w
+            → IsOver late_by came w ⊎ IsRightAfter fate (went ++ gone_of second h ∷ []) k w
         still (inl o) = inl o
         still (inr b) = inr (behind_still fate went (gone_of second h) k w old b)
     swapped k w (inr new) s =
-        subst (λ (x : Gone). IsOver late_by came x ⊎ IsBehind fate (went ++ gone_of second h ∷ []) k x) new.1
+        subst (λ (x : Gone). IsOver late_by came x ⊎ IsRightAfter fate (went ++ gone_of second h ∷ []) k x) new.1
         (subst (λ i. IsOver late_by came (gone_of second h)
-        ⊎ IsBehind fate (went ++ gone_of second h ∷ []) i (gone_of second h)) (sym new.0)
+        ⊎ IsRightAfter fate (went ++ gone_of second h ∷ []) i (gone_of second h)) (sym new.0)
         (own_swapped fate late_by now second came went (front ++ h ∷ back) freed h later l is due order
         (ap (λ (x : Gone). fate x.place) new.1 ∙ s)))

@@ -8,13 +8,14 @@ use Rattle.fleet_link.specs.Traffic.{traffic_and}
 use Rattle.fleet_link.proofs.Told.{carries_both, carries_none, carries_same}
 use Rattle.fleet_link.specs.declared.ports.PortsFault.{PortsFault}
 use Rattle.fleet_link.specs.declared.ports.Receipt.{Receipt}
+use Rattle.fleet_link.specs.declared.ports.Receipt.TheVariants.{Arrived, Dropped, Failed, Nothing}
 use Rattle.fleet_wire.specs.declared.lane.Lane.{Lane}
 use Rattle.fleet_wire.proofs.Lanes.{lanes_later}
 use Rattle.fleet_wire.specs.declared.plan.Direction.TheVariants.{In, Out}
 use Rattle.fleet_wire.specs.declared.plan.Plan.{Plan}
 use Rattle.fleet_wire.specs.declared.wire.Wire.{Wire}
 use Rattle.fleet_wire.specs.Lane.{came_by, of_device, went_by, AreLanes, Gone, IsIdle}
-use Rattle.fleet_wire.specs.Wire.{failures_by, far_end, packet_of, IsWhole, IsWired}
+use Rattle.fleet_wire.specs.Wire.{failures_by, far_end, packet_of, IsQuietUnless, IsWhole, IsWired}
 
 -- ---- traffic
 
@@ -136,11 +137,11 @@ wired_later plan devices before after wire new w later plans incoming outgoing f
       plan_is = plans ∙ w.plan_is;
       incoming = lanes_later plan In devices wire.second new.second wire.incoming new.incoming w.incoming later
           (ap (λ (l : Lane). l.direction) incoming) (ap (λ (l : Lane). l.counts.items) incoming)
-          (ap (λ (l : Lane). l.held.items) incoming) (ap (λ (l : Lane). l.behind) incoming)
+          (ap (λ (l : Lane). l.held.items) incoming) (ap (λ (l : Lane). l.free) incoming)
           (ap (λ (l : Lane). l.log) incoming);
       outgoing = lanes_later plan Out devices wire.second new.second wire.outgoing new.outgoing w.outgoing later
           (ap (λ (l : Lane). l.direction) outgoing) (ap (λ (l : Lane). l.counts.items) outgoing)
-          (ap (λ (l : Lane). l.held.items) outgoing) (ap (λ (l : Lane). l.behind) outgoing)
+          (ap (λ (l : Lane). l.held.items) outgoing) (ap (λ (l : Lane). l.free) outgoing)
           (ap (λ (l : Lane). l.log) outgoing);
       carried = λ e.
           carries_same (before e) (after e) (far_end wire e) (far_end new e) (w.carried e)
@@ -250,3 +251,11 @@ whole_from plan devices before after wire new w is seconds outgoing =
       sent = subst (λ n. IsIdle plan.late_by n new.outgoing) (sym seconds)
           (subst (IsIdle plan.late_by wire.second) (sym outgoing) w.sent);
     }
+
+-- what holds in any case holds where nothing was handed out and nothing failed
+pub quiet_if : (r : Result Receipt PortsFault) (claim : Type 0) → claim → IsQuietUnless r claim
+quiet_if (Ok Nothing) claim h = h
+quiet_if (Ok (Arrived arrival)) claim h = tt
+quiet_if (Ok Dropped) claim h = h
+quiet_if (Ok (Failed device)) claim h = tt
+quiet_if (Err fault) claim h = tt

@@ -59,7 +59,7 @@ abbrev pub is_freed : Option ℕ → ℕ → Bool
 is_freed None e = false
 is_freed (Some device) e = device == e
 
--- so many seconds have passed from one to another
+-- this many seconds have passed from one to another
 abbrev pub is_over : ℕ → ℕ → ℕ → Bool
 is_over late_by came second = nat_le late_by (second - came)
 
@@ -72,9 +72,9 @@ is_due Passes freed over = true
 
 -- a datagram that is held is to go on at this second
 abbrev pub is_wanted : Option ℕ → ℕ → ℕ → Held → Bool
-is_wanted behind late_by second h = is_due h.fate (is_freed behind h.device) (is_over late_by h.second second)
+is_wanted free late_by second h = is_due h.fate (is_freed free h.device) (is_over late_by h.second second)
 
--- with one more: what goes on at once stands before all others, and what waits behind them
+-- with one more: what goes on at once stands before all others, and what waits after them
 abbrev pub held_with : Fate → Held → List Held → List Held
 held_with Lost h held = held
 held_with Twice h held = h ∷ h ∷ held
@@ -113,9 +113,9 @@ pub record IsOver (late_by : ℕ) (came : List Heard) (w : Gone) : Type 0 where
   pub is : slice_get came w.place ≡ Some heard
   pub over : heard.second + late_by ≤ w.second
 
--- The one that went on as number k went behind the next datagram, of those that came after it, that goes on at once:
+-- The one that went on as number k went after the next datagram, of those that came after it, that goes on at once:
 -- no other one of these went in between.
-pub record IsBehind (fate : ℕ → Fate) (went : List Gone) (k : ℕ) (w : Gone) : Type 0 where
+pub record IsRightAfter (fate : ℕ → Fate) (went : List Gone) (k : ℕ) (w : Gone) : Type 0 where
   pub next : Gone
   pub at : ℕ
   pub before : at < k
@@ -153,7 +153,7 @@ pub record IsLane (fate : ℕ → Fate) (late_by now : ℕ) (came : List Heard) 
   pub ordered : (j k : ℕ) (v w : Gone) → j < k → slice_get went j ≡ Some v → slice_get went k ≡ Some w
       → goes_at_once (fate v.place) ≡ true → goes_at_once (fate w.place) ≡ true → v.place ≤ w.place
   pub swapped : (k : ℕ) (w : Gone) → slice_get went k ≡ Some w → fate w.place ≡ Swapped
-      → IsOver late_by came w ⊎ IsBehind fate went k w
+      → IsOver late_by came w ⊎ IsRightAfter fate went k w
   pub waiting : AllByRecursion (IsHeld fate now came freed) held
   pub last : freed ≡ true → IsAtOnce fate came
 
@@ -170,9 +170,9 @@ pub record AreLanes (plan : Plan) (direction : Direction) (devices now : ℕ) (l
   pub count : length lane.counts.items ≡ devices
   pub counts : (e : ℕ) → e < devices → slice_index lane.counts.items e ≡ length (came_by lane.log e)
   pub each : (e : ℕ) → IsLane (fate_at plan direction devices e) plan.late_by now (came_by lane.log e)
-      (went_by lane.log e) (held_by e lane.held.items) (is_freed lane.behind e)
+      (went_by lane.log e) (held_by e lane.held.items) (is_freed lane.free e)
   pub in_order : AreInOrder lane.held.items
 
 -- nothing that is held is to go on at this second
 abbrev pub IsIdle : ℕ → ℕ → Lane → Type 0
-IsIdle late_by second lane = AllByRecursion (λ h. is_wanted lane.behind late_by second h ≡ false) lane.held.items
+IsIdle late_by second lane = AllByRecursion (λ h. is_wanted lane.free late_by second h ≡ false) lane.held.items

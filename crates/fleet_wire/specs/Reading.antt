@@ -1,8 +1,10 @@
 -- What a word says of which datagrams are chosen: `10%`, or `2,5-6`.
-use Rattle.std.specs.Prelude.{ℕ, ◌+◌, ◌-◌, ◌*◌, ◌^◌, ◌==◌, Bool, true, false, ◌||◌, ◌&&◌, nat_lt, nat_le, if◌then◌else◌}
-use Rattle.std.specs.Prelude.{List, [], ◌∷◌, Option, Some, None, fold, take, drop}
+use Rattle.std.specs.Prelude.{ℕ, ◌+◌, ◌-◌, ◌^◌, ◌==◌, Bool, true, false, ◌&&◌, nat_lt, nat_le, if◌then◌else◌}
+use Rattle.std.specs.Prelude.{List, [], ◌∷◌, Option, Some, None, take, drop}
 use Rattle.std.specs.Prelude.{◌≡◌, ◌++◌, Result, Ok, Err, length, slice_index}
-use Rattle.std.specs.List.{position, slice_split}
+use Rattle.std.specs.Char.{is_ascii_digit}
+use Rattle.std.specs.List.{list_all, position, slice_split}
+use Rattle.std.specs.Str.Parse.{digits_value}
 use Rattle.fleet_wire.specs.declared.choice.Choice.{Choice}
 use Rattle.fleet_wire.specs.declared.choice.Choice.TheVariants.{Listed, Never, Share}
 use Rattle.fleet_wire.specs.declared.reading.ChoiceFault.{ChoiceFault}
@@ -15,24 +17,14 @@ is_hyphen byte = byte == 45
 abbrev pub is_comma : ℕ → Bool
 is_comma byte = byte == 44
 
--- digits that write this number, or none, and then one byte more; a number of 2 ^ 32 or more goes no further
-abbrev pub more_of : Option ℕ → ℕ → Option ℕ
-more_of None byte = None
-more_of (Some number) byte =
-    if nat_lt byte 48 || nat_lt 57 byte || nat_le (2 ^ 32) number then None else Some (number * 10 + (byte - 48))
+-- decimal digits, at least one, which write a number below 2 ^ 32
+abbrev pub is_numeral : List ℕ → Bool
+is_numeral text =
+    list_all is_ascii_digit text && (nat_lt 0 (length text) && nat_lt (digits_value 10 text) (2 ^ 32))
 
--- the decimal number of digits
-abbrev pub digits_of : List ℕ → Option ℕ
-digits_of text = fold more_of (Some 0) text
-
-abbrev pub below_limit : Option ℕ → Option ℕ
-below_limit None = None
-below_limit (Some number) = if nat_le (2 ^ 32) number then None else Some number
-
--- at least one digit, and a number below 2 ^ 32
+-- the number that a text writes
 abbrev pub number_of : List ℕ → Option ℕ
-number_of [] = None
-number_of (byte ∷ rest) = below_limit (digits_of (byte ∷ rest))
+number_of text = if is_numeral text then Some (digits_value 10 text) else None
 
 abbrev pub span_from : Option ℕ → Option ℕ → Option Span
 span_from None b = None

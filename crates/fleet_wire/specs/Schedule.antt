@@ -41,7 +41,7 @@ drawn seed direction kind device number =
 abbrev pub is_in : ℕ → Span → Bool
 is_in number span = nat_le span.from number && nat_le number span.to
 
--- a share of so many hundredths chooses where the word is below so many hundredths of 2 ^ 32
+-- a share of n hundredths chooses where the word is below n hundredths of 2 ^ 32
 abbrev pub is_drawn : ℕ → ℕ → Bool
 is_drawn percent word = nat_lt (word * 100) (percent * 2 ^ 32)
 

@@ -37,10 +37,10 @@ pub(crate) struct Held {
 }
 
 /// Whether a device is the one whose swapped datagrams go next.
-fn is_freed(behind: Option<usize>, device: usize) -> bool
-    ensures { result ≡ is_freed behind device }
+fn is_freed(free: Option<usize>, device: usize) -> bool
+    ensures { result ≡ is_freed free device }
 {
-    match behind {
+    match free {
         None => false,
         Some(freed) => freed == device,
     }
@@ -59,10 +59,10 @@ fn freed_by(fate: Fate, device: usize) -> Option<usize>
 
 impl Held {
     /// Whether it is to go on at this second.
-    fn is_wanted(&self, behind: Option<usize>, late_by: u32, second: u64) -> bool
-        ensures { result ≡ is_wanted behind late_by second self.now }
+    fn is_wanted(&self, free: Option<usize>, late_by: u32, second: u64) -> bool
+        ensures { result ≡ is_wanted free late_by second self.now }
     {
-        let freed = is_freed(behind, self.device);
+        let freed = is_freed(free, self.device);
         let over = u64::from(late_by) <= second.saturating_sub(self.second);
         match self.fate {
             Fate::Lost => false,
@@ -74,26 +74,21 @@ impl Held {
 }
 
 /// The place of the first datagram that is to go on.
-fn find_wanted(held: &[Held], behind: Option<usize>, late_by: u32, second: u64) -> Option<usize>
-    ensures { result ≡ position (is_wanted behind late_by second) held.now }
+fn find_wanted(held: &[Held], free: Option<usize>, late_by: u32, second: u64) -> Option<usize>
+    ensures { result ≡ position (is_wanted free late_by second) held.now }
 {
     held.iter()
-        .position(|one| one.is_wanted(behind, late_by, second))
+        .position(|one| one.is_wanted(free, late_by, second))
 }
 
 /// Takes the first datagram that is to go on.
-fn take_first(
-    held: &mut Vec<Held>,
-    behind: Option<usize>,
-    late_by: u32,
-    second: u64,
-) -> Option<Held>
+fn take_first(held: &mut Vec<Held>, free: Option<usize>, late_by: u32, second: u64) -> Option<Held>
     ensures nothing { IfNone result (held.new.items ≡ held.old.items) }
     ensures first { MatchOption result
-        (AllByRecursion (λ h. is_wanted behind late_by second h ≡ false) held.old.items)
-        (λ h. IsFirst (is_wanted behind late_by second) held.old.items h held.new.items) }
+        (AllByRecursion (λ h. is_wanted free late_by second h ≡ false) held.old.items)
+        (λ h. IsFirst (is_wanted free late_by second) held.old.items h held.new.items) }
 {
-    match find_wanted(held.as_slice(), behind, late_by, second) {
+    match find_wanted(held.as_slice(), free, late_by, second) {
         None => None,
         Some(place) => Some(held.remove(place)),
     }
@@ -136,12 +131,12 @@ pub(crate) struct Lane {
     /// What still waits: first what goes on at once, and then, in order, what waits for its time or for the next one.
     held: Vec<Held>,
     /// The device whose swapped datagrams go next.
-    behind: Option<usize>,
+    free: Option<usize>,
     log: Log,
 }
 
 impl Lane {
-    /// A lane for so many devices, on which nothing has come yet.
+    /// A lane for n devices, on which nothing has come yet.
     pub(crate) fn new(
         alloc: Global,
         direction: Direction,
@@ -157,7 +152,7 @@ impl Lane {
             direction,
             counts: vec![in alloc; 0; devices]?,
             held: Vec::new(alloc),
-            behind: None,
+            free: None,
             log: Log::Begun,
         })
     }
@@ -166,7 +161,7 @@ impl Lane {
     pub(crate) fn is_ready(&self, late_by: u32, second: u64) -> bool
         ensures { result ≡ false → IsIdle late_by second self.now }
     {
-        find_wanted(self.held.as_slice(), self.behind, late_by, second).is_some()
+        find_wanted(self.held.as_slice(), self.free, late_by, second).is_some()
     }
 
     /// A datagram of a device has come. It is held, as its fate says; those of a device that is not known are lost.
@@ -191,7 +186,7 @@ impl Lane {
             Snapshot::of(&packet),
         );
         if device >= self.counts.len() {
-            self.behind = None;
+            self.free = None;
             self.log = came;
             return Ok(Drawn {
                 number: 0,
@@ -215,7 +210,7 @@ impl Lane {
             },
         )?;
         self.counts[device] = number;
-        self.behind = freed_by(fate, device);
+        self.free = freed_by(fate, device);
         self.log = came;
         Ok(Drawn { number, fate })
     }
@@ -230,7 +225,7 @@ impl Lane {
         ensures idle { IfNone result (IsIdle late_by second self.new) }
         ensures fewer { OnSome result (length self.new.held.items < length self.old.held.items) }
     {
-        match take_first(&mut self.held, self.behind, late_by, second) {
+        match take_first(&mut self.held, self.free, late_by, second) {
             None => None,
             Some(held) => {
                 self.log = Log::Went(

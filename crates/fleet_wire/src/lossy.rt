@@ -29,6 +29,7 @@ fn send_next<P: Ports>(wire: &mut Wire, ports: &mut P) -> bool
     ensures whole { wire.new.whole ≡ wire.old.whole }
     ensures calls { wire.new.calls ≡ wire.old.calls }
     ensures fixed { P.fixed ports.new ≡ P.fixed ports.old }
+    ensures asked { AreRead (P.asked ports.old) (P.asked ports.new) [] }
 {
     match wire.outgoing.go(wire.plan.late_by, wire.second) {
         None => false,
@@ -55,6 +56,7 @@ fn send_on<P: Ports>(wire: &mut Wire, ports: &mut P)
     ensures whole { wire.new.whole ≡ wire.old.whole }
     ensures calls { wire.new.calls ≡ wire.old.calls }
     ensures fixed { P.fixed ports.new ≡ P.fixed ports.old }
+    ensures asked { AreRead (P.asked ports.old) (P.asked ports.new) [] }
 {
     while send_next(wire, ports) {}
 }
@@ -67,7 +69,7 @@ pub struct LossyPorts<P> {
 }
 
 impl<P: Ports> LossyPorts<P> {
-    /// Puts a wire on ports, for so many devices. Nothing has gone through it yet.
+    /// Puts a wire on ports, for n devices. Nothing has gone through it yet.
     pub fn new(
         alloc: Global,
         ports: P,
@@ -131,6 +133,7 @@ impl<P: Ports> LossyPorts<P> {
             (traffic_of_receipt second result e) }
         ensures asked { asked_by self.new.wire ≡ asked_by self.old.wire }
         ensures fixed { P.fixed self.new.ports ≡ P.fixed self.old.ports }
+        ensures asked_below { AreRead (P.asked self.old.ports) (P.asked self.new.ports) (second ∷ []) }
         ensures kept { OnOk result (self.new.wire.whole ≡ self.old.wire.whole) }
         ensures prompt { IsIdle self.old.wire.plan.late_by second self.old.wire.incoming
             → IsQuietUnless result (IsIdle self.old.wire.plan.late_by second self.new.wire.incoming) }
@@ -171,6 +174,8 @@ impl<P: Ports> Ports for LossyPorts<P> {
         ensures kept { OnOk result (self.new.wire.whole ≡ self.old.wire.whole) }
         ensures prompt { self.old.wire.second ≤ second
             → IsQuietUnless result (IsIdle self.old.wire.plan.late_by second self.new.wire.incoming) }
+        ensures asked_below { self.old.wire.second ≤ second
+            → IsQuietUnless result (AreRead (P.asked self.old.ports) (P.asked self.new.ports) (second ∷ [])) }
     {
         self.wire.calls = Calls::Asked(Snapshot::of(&self.wire.calls), Snapshot::of(&second));
         if !self.wire.whole {

@@ -24,7 +24,7 @@ pub enum Fate {
     Lost,
     /// It goes on at once, and then once more.
     Twice,
-    /// It goes on right behind the next one that goes on at once, or late.
+    /// It goes on right after the next one that goes on at once, or late.
     Swapped,
     /// It goes on once the seconds of the plan have passed.
     Late,

@@ -1,11 +1,14 @@
 //! Choices as words: `10%`, or `2,5-6`.
-ghost use Rattle.std.specs.Prelude.{◌≡◌, ◌⊎◌, ◌<◌, ◌+◌, Err, IfSome, MatchResult, drop, length, take};
-ghost use Rattle.std.specs.List.{position};
-ghost use Rattle.fleet_wire.specs.Reading.{digits_of, is_comma, is_hyphen, is_share, more_of, next_span, number_of};
+ghost use Rattle.std.specs.Prelude.{◌≡◌, ◌⊎◌, ◌<◌, ◌+◌, true, Err, IfSome, MatchOption, MatchResult, drop, length, take};
+ghost use Rattle.std.specs.Char.{is_ascii_digit};
+ghost use Rattle.std.specs.List.{list_all, position};
+ghost use Rattle.std.specs.Str.{IsUtf8};
+ghost use Rattle.fleet_wire.specs.Reading.{is_comma, is_hyphen, is_share, next_span, number_of};
 ghost use Rattle.fleet_wire.specs.Reading.{share_of, span_of, spans_of, IsRefused, IsSaid, IsWithLast};
 
 use crate::choice::{Choice, Span};
 use std::alloc::Global;
+use std::str;
 
 /// Why a word is no choice.
 #[derive(Clone, Copy, Debug, PartialEq, Eq)]
@@ -20,47 +23,38 @@ pub enum ChoiceFault {
     Memory,
 }
 
-/// The number of the digits so far, with one byte more.
-fn more_of(number: Option<u64>, byte: u8) -> Option<u64>
-    ensures { result ≡ more_of number byte }
+fn are_digits(text: &[u8]) -> bool
+    ensures { result ≡ list_all is_ascii_digit text.now }
 {
-    match number {
-        None => None,
-        Some(number) => {
-            if byte < b'0' || byte > b'9' || number >= 1 << 32 {
-                return None;
-            }
-            Some(number * 10 + u64::from(byte - b'0'))
-        }
-    }
+    text.iter().all(|byte| byte.is_ascii_digit())
 }
 
-/// The number that digits write.
-fn digits_of(text: &[u8]) -> Option<u64>
-    ensures { result ≡ digits_of text.now }
+/// The text that bytes are, where they are UTF-8.
+fn utf8_of(bytes: &[u8]) -> Option<&str>
+    ensures { MatchOption result (¬ (IsUtf8 bytes.now)) (λ s. (s.now ≡ bytes.now) × IsUtf8 bytes.now) }
 {
-    let mut number = Some(0);
-    for byte in text {
-        number = more_of(number, *byte);
-    }
-    number
+    str::from_utf8(bytes).ok()
+}
+
+/// The number that digits write, if there is one, and it is below 2^32.
+fn value_of(digits: &[u8]) -> Option<u32>
+    requires { list_all is_ascii_digit digits.now ≡ true }
+    ensures { result ≡ number_of digits.now }
+{
+    let text = utf8_of(digits)?;
+    text.parse::<u32>().ok()
 }
 
 /// The number that a text writes.
 fn number_of(text: &[u8]) -> Option<u64>
     ensures { result ≡ number_of text.now }
 {
-    if text.is_empty() {
+    if !are_digits(text) {
         return None;
     }
-    match digits_of(text) {
+    match value_of(text) {
         None => None,
-        Some(number) => {
-            if number >= 1 << 32 {
-                return None;
-            }
-            Some(number)
-        }
+        Some(number) => Some(u64::from(number)),
     }
 }
 

@@ -18,7 +18,7 @@ use trace_file::Entry;
 use trace_text::Clocks;
 
 /// Ends the line of the object that a writer has written.
-pub(crate) fn end_line(writer: Writer) -> Result<Vec<u8>, AllocError>
+pub fn end_line(writer: Writer) -> Result<Vec<u8>, AllocError>
     requires { IsUtf8 writer.before }
     ensures line { IfOk result (λ v. v.items ≡ writer.before ++ ended_line (print writer.tokens)) }
     ensures utf8 { IfOk result (λ v. IsUtf8 v.items) }
@@ -29,7 +29,7 @@ pub(crate) fn end_line(writer: Writer) -> Result<Vec<u8>, AllocError>
 }
 
 /// The text that bytes are.
-pub(crate) fn text_of(bytes: Vec<u8>) -> String
+pub fn text_of(bytes: Vec<u8>) -> String
     requires { IsUtf8 bytes.items }
     ensures { string_bytes result ≡ bytes.items }
 {

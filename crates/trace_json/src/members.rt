@@ -12,7 +12,7 @@ use json::Writer;
 use std::alloc::{AllocError, Global};
 
 /// Writes a number from 0 on.
-pub(crate) fn put_number(out: &mut Writer, key: &str, number: u64) -> Result<(), AllocError>
+pub fn put_number(out: &mut Writer, key: &str, number: u64) -> Result<(), AllocError>
     ensures adds { OnOk result (out.new.tokens ≡ out.old.tokens ++ member_tokens key.now (number_json number)) }
     ensures before { out.new.before ≡ out.old.before }
     ensures exact { Has64Bits (number_json number) }
@@ -49,7 +49,7 @@ pub(crate) fn put_integer(out: &mut Writer, key: &str, number: i64) -> Result<()
 }
 
 /// Writes a text.
-pub(crate) fn put_string(out: &mut Writer, key: &str, text: &str) -> Result<(), AllocError>
+pub fn put_string(out: &mut Writer, key: &str, text: &str) -> Result<(), AllocError>
     ensures adds { OnOk result (out.new.tokens ≡ out.old.tokens ++ member_tokens key.now (string text.now)) }
     ensures before { out.new.before ≡ out.old.before }
 {

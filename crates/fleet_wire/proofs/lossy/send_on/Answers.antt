@@ -1,4 +1,5 @@
 use Rattle.std.proofs.Common.{sym, ◌∙◌}
+use Rattle.fleet_link.proofs.Told.{still_none}
 use Rattle.fleet_wire.proofs.Wires.{idle_at}
 use Rattle.fleet_wire.proofs.lossy.send_on.Goals as goal
 
@@ -14,6 +15,8 @@ loop-preserved g c =
       whole = c.send_next.ensures.whole ∙ c.loop.invariant.whole;
       calls = c.send_next.ensures.calls ∙ c.loop.invariant.calls;
       fixed = c.send_next.ensures.fixed ∙ c.loop.invariant.fixed;
+      asked = still_none (g.P.Ports.asked c.args.ports.now) (g.P.Ports.asked c.loop.ports)
+          (g.P.Ports.asked c.send_next.new.ports) c.loop.invariant.asked c.send_next.ensures.asked;
     }
 
 pub returns-clause-whole_one : goal.returns-clause-whole_one
@@ -27,3 +30,8 @@ returns-clause-whole_one g c =
           (sym c.send_next.ensures.plan ∙ now.plan_is) c.send_next.ensures.second
           (c.send_next.ensures.idle c.loop-test.false);
     }
+
+pub returns-clause-asked : goal.returns-clause-asked
+returns-clause-asked g c =
+    still_none (g.P.Ports.asked c.args.ports.now) (g.P.Ports.asked c.loop.ports) (g.P.Ports.asked c.send_next.new.ports)
+    c.loop.invariant.asked c.send_next.ensures.asked

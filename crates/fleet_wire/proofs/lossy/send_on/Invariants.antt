@@ -1,5 +1,6 @@
 -- What has been sent so far, and what stays as it was.
-use Rattle.std.proofs.Common.{◌≡◌, ℕ, Option, length}
+use Rattle.std.proofs.Common.{◌≡◌, ℕ, Option, length, []}
+use Rattle.live_link.specs.Wire.{AreRead}
 use Rattle.fleet_link.specs.Traffic.{Traffic}
 use Rattle.fleet_wire.specs.declared.plan.Plan.{Plan}
 use Rattle.fleet_wire.specs.Lane.{came_by}
@@ -19,6 +20,7 @@ invariant-loop g l =
       whole : l.wire.whole ≡ l.fn.wire.whole;
       calls : l.wire.calls ≡ l.fn.wire.calls;
       fixed : g.P.Ports.fixed l.ports ≡ g.P.Ports.fixed l.fn.ports;
+      asked : AreRead (g.P.Ports.asked l.fn.ports) (g.P.Ports.asked l.ports) [];
     }
 
 abbrev pub decreases-loop : goal.decreases-loop

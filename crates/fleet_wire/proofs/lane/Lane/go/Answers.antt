@@ -13,7 +13,7 @@ pub returns-in-Some-clause-lanes : goal.returns-in-Some-clause-lanes
 returns-in-Some-clause-lanes c =
     λ plan direction devices now late l later.
     lanes_gone plan direction devices now c.args.second c.args.self.now _ c.in-Some.held l later
-    (subst (λ n. IsFirst (is_wanted c.args.self.now.behind n c.args.second) c.args.self.now.held.items c.in-Some.held
+    (subst (λ n. IsFirst (is_wanted c.args.self.now.free n c.args.second) c.args.self.now.held.items c.in-Some.held
     c.take_first.new.held.items) (sym late) c.in-Some.ensures.first) refl refl refl
     (λ e. ap (λ g. came_by g e) c.of.ensures)
     (noted_gone c.of.result.value c.args.self.now.log c.of-in-Some.result.value c.in-Some.held.device

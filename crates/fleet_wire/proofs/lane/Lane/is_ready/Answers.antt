@@ -8,7 +8,7 @@ use Rattle.fleet_wire.proofs.lane.Lane.is_ready.Goals as goal
 pub returns : goal.returns
 returns c =
     λ h.
-    let p = is_wanted c.args.self.now.behind c.args.late_by c.args.second in
+    let p = is_wanted c.args.self.now.free c.args.late_by c.args.second in
     none_passes p c.args.self.now.held.items
     (sym (c.find_wanted.ensures ∙ ap (position p) c.as_slice.ensures.value)
     ∙ none_from_test c.find_wanted.result (sym c.is_some.ensures ∙ h))

@@ -1,6 +1,7 @@
-use Rattle.std.proofs.Common.{arith, refl, sym, ap, ◌∙◌}
+use Rattle.std.proofs.Common.{◌∷◌, [], arith, refl, sym, ap, ◌∙◌}
+use Rattle.fleet_link.proofs.Told.{read_both}
 use Rattle.fleet_wire.specs.Wire.{failures_by}
-use Rattle.fleet_wire.proofs.Wires.{idle_at, wired_later, whole_from}
+use Rattle.fleet_wire.proofs.Wires.{idle_at, quiet_if, wired_later, whole_from}
 use Rattle.fleet_wire.proofs.lossy.LossyPortsPorts.receive.Goals as goal
 
 pub returns-in-Some-clause-wire : goal.returns-in-Some-clause-wire
@@ -33,3 +34,11 @@ returns-in-None-clause-wire g c =
     (λ e. ap (λ k. failures_by k e) c.of.ensures)) in
     whole_from plan devices before after t u sent (c.hand_out.ensures.wired plan devices before after sent.wired)
     c.hand_out.ensures.second c.hand_out.ensures.outgoing)
+
+pub returns-in-None-clause-asked_below : goal.returns-in-None-clause-asked_below
+returns-in-None-clause-asked_below g c =
+    λ later.
+    quiet_if c.ask.result _
+    (read_both (g.P.Ports.asked c.args.self.now.ports) (g.P.Ports.asked c.send_on.new.ports)
+    (g.P.Ports.asked c.ask.new.self.ports) [] (c.args.second ∷ []) (c.args.second ∷ []) c.send_on.ensures.asked
+    c.ask.ensures.asked_below refl)
