@@ -53,8 +53,9 @@ pub trait Ports {
     ghost told: { Self → ℕ → Option Traffic };
     /// The seconds at which they were asked, in order, where they tell.
     ghost asked: { Self → Option (List ℕ) };
-    /// The servers that are fixed, for all devices. No call changes them.
-    ghost fixed: { Self → List FixedServer };
+    /// What no call changes of them, as the servers that are fixed, for all devices.
+    ghost Fixed: { Type 0 } = { List FixedServer };
+    ghost fixed: { Self → Self.Fixed };
 
     /// What has arrived next, at whichever port; it is asked for at this second of the session. It does not wait.
     fn receive(&mut self, second: u64) -> Result<Receipt, PortsFault>

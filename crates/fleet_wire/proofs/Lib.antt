@@ -1,7 +1,10 @@
 pub mod Held
 pub mod OneLane
 pub mod Lanes
+pub mod Notes
 pub mod Wires
+pub mod Overs
 pub mod Schedules
 pub mod Numbers
+pub mod Counts
 pub mod Spans

@@ -15,7 +15,10 @@ use Rattle.fleet_wire.specs.declared.plan.Direction.TheVariants.{In, Out}
 use Rattle.fleet_wire.specs.declared.plan.Plan.{Plan}
 use Rattle.fleet_wire.specs.declared.wire.Wire.{Wire}
 use Rattle.fleet_wire.specs.Lane.{came_by, of_device, went_by, AreLanes, Gone, IsIdle}
-use Rattle.fleet_wire.specs.Wire.{failures_by, far_end, packet_of, IsQuietUnless, IsWhole, IsWired}
+use Rattle.fleet_wire.specs.declared.note.Note.{Note}
+use Rattle.fleet_wire.specs.Noting.{noted_with, notes_by, notes_going}
+use Rattle.fleet_wire.specs.Wire.{all_notes, failures_by, far_end, packet_of, AreNoted, IsQuietUnless, IsWhole, IsWired}
+use Rattle.fleet_wire.proofs.Notes.{noted_in, noted_out, noted_same}
 
 -- ---- traffic
 
@@ -113,8 +116,9 @@ pub whole_new : (plan : Plan) (devices : ℕ) (before : ℕ → Option Traffic) 
     → AreLanes plan In devices wire.second wire.incoming → AreLanes plan Out devices wire.second wire.outgoing
     → IsIdle plan.late_by wire.second wire.outgoing → ((e : ℕ) → came_by wire.incoming.log e ≡ [])
     → ((e : ℕ) → went_by wire.outgoing.log e ≡ []) → ((e : ℕ) → failures_by wire.calls e ≡ 0)
-    → IsWhole plan devices before before wire
-whole_new plan devices before wire plans incoming outgoing idle came went failures =
+    → all_notes wire ≡ [] → notes_by plan In devices wire.incoming.log ≡ []
+    → notes_by plan Out devices wire.outgoing.log ≡ [] → IsWhole plan devices before before wire
+whole_new plan devices before wire plans incoming outgoing idle came went failures notes none_in none_out =
     record {
       wired = record {
         plan_is = plans;
@@ -123,6 +127,10 @@ whole_new plan devices before wire plans incoming outgoing idle came went failur
         carried = λ e.
             carries_same (before e) (before e) no_traffic (far_end wire e) (carries_none (before e))
             (far_none wire e (came e) (went e) (failures e));
+        noted = record {
+          incoming = ap (notes_going In) notes ∙ sym none_in;
+          outgoing = ap (notes_going Out) notes ∙ sym none_out;
+        };
       };
       sent = idle;
     }
@@ -131,8 +139,9 @@ whole_new plan devices before wire plans incoming outgoing idle came went failur
 pub wired_later : (plan : Plan) (devices : ℕ) (before after : ℕ → Option Traffic) (wire new : Wire)
     → IsWired plan devices before after wire → wire.second ≤ new.second → new.plan ≡ wire.plan
     → new.incoming ≡ wire.incoming → new.outgoing ≡ wire.outgoing
-    → ((e : ℕ) → failures_by new.calls e ≡ failures_by wire.calls e) → IsWired plan devices before after new
-wired_later plan devices before after wire new w later plans incoming outgoing failures =
+    → ((e : ℕ) → failures_by new.calls e ≡ failures_by wire.calls e) → all_notes new ≡ all_notes wire
+    → IsWired plan devices before after new
+wired_later plan devices before after wire new w later plans incoming outgoing failures notes =
     record {
       plan_is = plans ∙ w.plan_is;
       incoming = lanes_later plan In devices wire.second new.second wire.incoming new.incoming w.incoming later
@@ -149,6 +158,9 @@ wired_later plan devices before after wire new w later plans incoming outgoing f
           (map packet_of (went_by wire.outgoing.log e)) (map packet_of (went_by new.outgoing.log e))
           (failures_by wire.calls e) (failures_by new.calls e) (ap (λ (l : Lane). came_by l.log e) (sym incoming))
           (ap (λ (l : Lane). map packet_of (went_by l.log e)) (sym outgoing)) (sym (failures e)));
+      noted = noted_same plan devices wire new w.noted notes
+          (ap (λ (l : Lane). notes_by plan In devices l.log) incoming)
+          (ap (λ (l : Lane). notes_by plan Out devices l.log) outgoing);
     }
 
 pub idle_at : (plan a : Plan) (m n : ℕ) (lane : Lane) → a ≡ plan → n ≡ m → IsIdle a.late_by m lane
@@ -170,8 +182,9 @@ pub wired_on : (plan : Plan) (devices : ℕ) (before between after : ℕ → Opt
     (more : ℕ → Traffic) → IsWired plan devices before between wire → new.plan ≡ wire.plan
     → AreLanes plan In devices new.second new.incoming → AreLanes plan Out devices new.second new.outgoing
     → ((e : ℕ) → Carries (between e) (after e) (more e))
-    → ((e : ℕ) → traffic_and (far_end wire e) (more e) ≡ far_end new e) → IsWired plan devices before after new
-wired_on plan devices before between after wire new more w plans incoming outgoing carries ends =
+    → ((e : ℕ) → traffic_and (far_end wire e) (more e) ≡ far_end new e) → AreNoted plan devices new
+    → IsWired plan devices before after new
+wired_on plan devices before between after wire new more w plans incoming outgoing carries ends noted =
     record {
       plan_is = plans ∙ w.plan_is;
       incoming = incoming;
@@ -179,26 +192,34 @@ wired_on plan devices before between after wire new more w plans incoming outgoi
       carried = λ e.
           carries_both (before e) (between e) (after e) (far_end wire e) (more e) (far_end new e) (w.carried e)
           (carries e) (ends e);
+      noted = noted;
     }
 
 -- it goes on, and they carry nothing
 pub wired_still : (plan : Plan) (devices : ℕ) (before after : ℕ → Option Traffic) (wire new : Wire)
     → IsWired plan devices before after wire → new.plan ≡ wire.plan
     → AreLanes plan In devices new.second new.incoming → AreLanes plan Out devices new.second new.outgoing
-    → ((e : ℕ) → far_end wire e ≡ far_end new e) → IsWired plan devices before after new
-wired_still plan devices before after wire new w plans incoming outgoing ends =
+    → ((e : ℕ) → far_end wire e ≡ far_end new e) → AreNoted plan devices new → IsWired plan devices before after new
+wired_still plan devices before after wire new w plans incoming outgoing ends noted =
     record {
       plan_is = plans ∙ w.plan_is;
       incoming = incoming;
       outgoing = outgoing;
       carried = λ e.
           carries_same (before e) (after e) (far_end wire e) (far_end new e) (w.carried e) (ends e);
+      noted = noted;
     }
 
 abbrev pub Comes : Plan → ℕ → Wire → Wire → Type 0
 Comes plan devices wire new =
     AreLanes plan In devices wire.second wire.incoming → wire.second ≤ wire.second
     → IsIdle plan.late_by wire.second wire.incoming → AreLanes plan In devices wire.second new.incoming
+
+-- and it is noted
+abbrev pub IsNotedIn : Plan → ℕ → Wire → Wire → Note → Type 0
+IsNotedIn plan devices wire new note =
+    AreLanes plan In devices wire.second wire.incoming
+    → notes_by plan In devices new.incoming.log ≡ notes_by plan In devices wire.incoming.log ++ noted_with note
 
 -- a datagram has come for a device
 pub wired_in : (plan : Plan) (devices : ℕ) (before between after : ℕ → Option Traffic) (wire new : Wire) (d : ℕ)
@@ -207,9 +228,11 @@ pub wired_in : (plan : Plan) (devices : ℕ) (before between after : ℕ → Opt
     → new.second ≡ wire.second → new.outgoing ≡ wire.outgoing → new.calls ≡ wire.calls
     → ((e : ℕ) → came_by new.incoming.log e
     ≡ came_by wire.incoming.log e ++ of_device d e (record { second = wire.second; packet = packet }))
-    → ((e : ℕ) → Carries (between e) (after e) (at_port d e (handed_at wire.second packet)))
-    → IsWhole plan devices before after new
-wired_in plan devices before between after wire new d packet w idle comes plans seconds outgoing calls came carries =
+    → ((e : ℕ) → Carries (between e) (after e) (at_port d e (handed_at wire.second packet))) → (note : Note)
+    → note.direction ≡ In → all_notes new ≡ all_notes wire ++ noted_with note
+    → IsNotedIn wire.plan devices wire new note → IsWhole plan devices before after new
+wired_in plan devices before between after wire new d packet w idle comes plans seconds outgoing calls came carries note
+    way notes noted =
     record {
       wired = wired_on plan devices before between after wire new (λ e. at_port d e (handed_at wire.second packet))
           w.wired plans
@@ -218,7 +241,9 @@ wired_in plan devices before between after wire new d packet w idle comes plans 
           (subst (λ p. IsIdle p.late_by wire.second wire.incoming) w.wired.plan_is idle)))
           (subst (λ n. AreLanes plan Out devices n new.outgoing) (sym seconds)
           (subst (AreLanes plan Out devices wire.second) (sym outgoing) w.wired.outgoing)) carries
-          (λ e. far_came wire new d wire.second packet e (came e) (ap (λ l. went_by l.log e) outgoing) calls);
+          (λ e. far_came wire new d wire.second packet e (came e) (ap (λ l. went_by l.log e) outgoing) calls)
+          (noted_in plan devices wire new note w.wired.noted way notes
+          (subst (λ p. IsNotedIn p devices wire new note) w.wired.plan_is noted w.wired.incoming) outgoing);
       sent = subst (λ n. IsIdle plan.late_by n new.outgoing) (sym seconds)
           (subst (IsIdle plan.late_by wire.second) (sym outgoing) w.sent);
     }
@@ -228,18 +253,28 @@ ComesOut plan devices wire new =
     AreLanes plan Out devices wire.second wire.outgoing → wire.second ≤ wire.second
     → IsIdle plan.late_by wire.second wire.outgoing → AreLanes plan Out devices wire.second new.outgoing
 
+-- and it is noted
+abbrev pub IsNotedOut : Plan → ℕ → Wire → Wire → Note → Type 0
+IsNotedOut plan devices wire new note =
+    AreLanes plan Out devices wire.second wire.outgoing
+    → notes_by plan Out devices new.outgoing.log ≡ notes_by plan Out devices wire.outgoing.log ++ noted_with note
+
 -- a datagram has come from a device
 pub wired_out : (plan : Plan) (devices : ℕ) (before after : ℕ → Option Traffic) (wire new : Wire)
     → IsWhole plan devices before after wire → ComesOut wire.plan devices wire new → new.plan ≡ wire.plan
     → new.second ≡ wire.second → new.incoming ≡ wire.incoming → new.calls ≡ wire.calls
-    → ((e : ℕ) → went_by new.outgoing.log e ≡ went_by wire.outgoing.log e) → IsWired plan devices before after new
-wired_out plan devices before after wire new w comes plans seconds incoming calls went =
+    → ((e : ℕ) → went_by new.outgoing.log e ≡ went_by wire.outgoing.log e) → (note : Note)
+    → note.direction ≡ Out → all_notes new ≡ all_notes wire ++ noted_with note
+    → IsNotedOut wire.plan devices wire new note → IsWired plan devices before after new
+wired_out plan devices before after wire new w comes plans seconds incoming calls went note way notes noted =
     wired_still plan devices before after wire new w.wired plans
     (subst (λ n. AreLanes plan In devices n new.incoming) (sym seconds)
     (subst (AreLanes plan In devices wire.second) (sym incoming) w.wired.incoming))
     (subst (λ n. AreLanes plan Out devices n new.outgoing) (sym seconds)
     (subst (λ p. ComesOut p devices wire new) w.wired.plan_is comes w.wired.outgoing (omega arith) w.sent))
     (λ e. far_same wire new e (ap (λ l. came_by l.log e) incoming) (went e) calls)
+    (noted_out plan devices wire new note w.wired.noted way notes
+    (subst (λ p. IsNotedOut p devices wire new note) w.wired.plan_is noted w.wired.outgoing) incoming)
 
 -- nothing changes at the other end
 pub whole_from : (plan : Plan) (devices : ℕ) (before after : ℕ → Option Traffic) (wire new : Wire)
@@ -257,5 +292,9 @@ pub quiet_if : (r : Result Receipt PortsFault) (claim : Type 0) → claim → Is
 quiet_if (Ok Nothing) claim h = h
 quiet_if (Ok (Arrived arrival)) claim h = tt
 quiet_if (Ok Dropped) claim h = h
-quiet_if (Ok (Failed device)) claim h = tt
+quiet_if (Ok (Failed device)) claim h = h
 quiet_if (Err fault) claim h = tt
+
+pub if_ok : {T E : Type 0} (r : Result T E) (P Q : Type 0) → OnOk r Q → (Q → P) → OnOk r P
+if_ok (Ok x) P Q q f = f q
+if_ok (Err e) P Q q f = tt

@@ -1,5 +1,8 @@
 pub mod Schedule
 pub mod Lane
-pub mod Wire
 pub mod Noting
+pub mod Happened
+pub mod Wire
+pub mod Over
+pub mod Wired
 pub mod Reading

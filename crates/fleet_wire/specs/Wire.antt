@@ -11,7 +11,9 @@ use Rattle.fleet_wire.specs.declared.plan.Direction.TheVariants.{In, Out}
 use Rattle.fleet_wire.specs.declared.plan.Plan.{Plan}
 use Rattle.fleet_wire.specs.declared.wire.Calls.{Calls, Begun, Asked', Failed'}
 use Rattle.fleet_wire.specs.declared.wire.Wire.{Wire}
+use Rattle.fleet_wire.specs.declared.note.Note.{Note}
 use Rattle.fleet_wire.specs.Lane.{came_by, went_by, AreLanes, Gone, IsIdle}
+use Rattle.fleet_wire.specs.Noting.{notes_by, notes_going, taken_in}
 
 -- how often the port of a device failed
 abbrev pub failures_by : Calls → ℕ → ℕ
@@ -59,6 +61,15 @@ told_by wire e = if wire.whole then Some (near_end wire e) else None
 abbrev pub asked_by : Wire → Option (List ℕ)
 asked_by wire = Some (seconds_by wire.calls)
 
+-- the notes of a wire, those that were taken first
+abbrev pub all_notes : Wire → List Note
+all_notes wire = taken_in wire.taken ++ wire.notes.items
+
+-- each datagram that came and does not just go on has its note, and there is no other
+pub record AreNoted (plan : Plan) (devices : ℕ) (wire : Wire) : Type 0 where
+  pub incoming : notes_going In (all_notes wire) ≡ notes_by plan In devices wire.incoming.log
+  pub outgoing : notes_going Out (all_notes wire) ≡ notes_by plan Out devices wire.outgoing.log
+
 -- A wire was put on ports that told this before and tell that now: these carried what went through its other end, and
 -- what comes there and what goes on there, each way and for each device, is so as the plan says.
 pub record IsWired (plan : Plan) (devices : ℕ) (before after : ℕ → Option Traffic) (wire : Wire) : Type 0 where
@@ -66,6 +77,7 @@ pub record IsWired (plan : Plan) (devices : ℕ) (before after : ℕ → Option 
   pub incoming : AreLanes plan In devices wire.second wire.incoming
   pub outgoing : AreLanes plan Out devices wire.second wire.outgoing
   pub carried : (e : ℕ) → Carries (before e) (after e) (far_end wire e)
+  pub noted : AreNoted plan devices wire
 
 -- and nothing that was to be sent by now is held
 pub record IsWhole (plan : Plan) (devices : ℕ) (before after : ℕ → Option Traffic) (wire : Wire) : Type 0 where

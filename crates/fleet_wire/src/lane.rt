@@ -8,6 +8,7 @@ ghost use Rattle.fleet_wire.specs.declared.plan.Plan.{Plan};
 ghost use Rattle.fleet_wire.specs.Schedule.{goes_at_once};
 ghost use Rattle.fleet_wire.specs.Lane.{came_by, gone_with, held_with, is_freed, is_wanted, of_device, went_by};
 ghost use Rattle.fleet_wire.specs.Lane.{AreLanes, IsFirst, IsIdle};
+ghost use Rattle.fleet_wire.specs.Noting.{notes_by, noted_with};
 
 use crate::plan::{Direction, Fate, Plan};
 use live_link::Packet;
@@ -147,6 +148,7 @@ impl Lane {
         ensures idle { (late_by second : ℕ) → IfOk result (λ lane. IsIdle late_by second lane) }
         ensures came { (e : ℕ) → IfOk result (λ lane. came_by lane.log e ≡ []) }
         ensures went { (e : ℕ) → IfOk result (λ lane. went_by lane.log e ≡ []) }
+        ensures notes { (plan : Plan) (n : ℕ) → IfOk result (λ lane. notes_by plan direction n lane.log ≡ []) }
     {
         Ok(Lane {
             direction,
@@ -178,6 +180,15 @@ impl Lane {
         ensures came { OnOk result ((e : ℕ) → came_by self.new.log e
             ≡ came_by self.old.log e ++ of_device device e (record { second = second; packet = packet })) }
         ensures went { OnOk result ((e : ℕ) → went_by self.new.log e ≡ went_by self.old.log e) }
+        ensures notes { (direction : Direction) (devices now : ℕ) → AreLanes plan.now direction devices now self.old
+            → IfOk result (λ drawn. notes_by plan.now direction devices self.new.log
+            ≡ notes_by plan.now direction devices self.old.log ++ noted_with (record {
+              device = device;
+              direction = direction;
+              number = drawn.number;
+              second = second;
+              fate = drawn.fate;
+            })) }
     {
         let came = Log::Came(
             Snapshot::of(&self.log),
@@ -222,6 +233,9 @@ impl Lane {
             → AreLanes plan direction devices second self.new }
         ensures came { (e : ℕ) → came_by self.new.log e ≡ came_by self.old.log e }
         ensures went { (e : ℕ) → went_by self.new.log e ≡ went_by self.old.log e ++ gone_with second result e }
+        ensures notes { (plan : Plan) (direction : Direction) (devices : ℕ)
+            → notes_by plan direction devices self.new.log
+            ≡ notes_by plan direction devices self.old.log }
         ensures idle { IfNone result (IsIdle late_by second self.new) }
         ensures fewer { OnSome result (length self.new.held.items < length self.old.held.items) }
     {

@@ -1,13 +1,14 @@
 //! Ports over a wire: a decorator of ports.
-ghost use Rattle.std.specs.Prelude.{◌≡◌, ◌⊎◌, ◌≤◌, ◌<◌, ◌∷◌, [], ℕ, List, Option, Some, IfOk, OnOk, IsOk};
+ghost use Rattle.std.specs.Prelude.{◌≡◌, ◌⊎◌, ◌≤◌, ◌<◌, ◌++◌, ◌∷◌, [], ℕ, List, Option, Some, IfOk, OnOk, IsOk};
 ghost use Rattle.std.specs.Prelude.{length, false, true};
 ghost use Rattle.live_link.specs.Wire.{AreRead};
 ghost use Rattle.fleet_link.specs.Traffic.{Carries, Traffic, at_port, no_traffic, sent_all, traffic_of_receipt};
 ghost use Rattle.fleet_wire.specs.Lane.{came_by, IsIdle};
+ghost use Rattle.fleet_wire.specs.Noting.{taken_in};
 ghost use Rattle.fleet_wire.specs.Wire.{asked_by, near_end, told_by, IsQuietUnless, IsWhole, IsWire, IsWired};
 
 use crate::lane::Lane;
-use crate::note::Notes;
+use crate::note::{Note, Taken};
 use crate::plan::{Direction, Plan};
 use crate::wire::{Calls, Wire};
 use fleet_link::{Ports, PortsFault, Receipt};
@@ -28,6 +29,7 @@ fn send_next<P: Ports>(wire: &mut Wire, ports: &mut P) -> bool
     ensures incoming { wire.new.incoming ≡ wire.old.incoming }
     ensures whole { wire.new.whole ≡ wire.old.whole }
     ensures calls { wire.new.calls ≡ wire.old.calls }
+    ensures taken { wire.new.taken ≡ wire.old.taken }
     ensures fixed { P.fixed ports.new ≡ P.fixed ports.old }
     ensures asked { AreRead (P.asked ports.old) (P.asked ports.new) [] }
 {
@@ -55,6 +57,7 @@ fn send_on<P: Ports>(wire: &mut Wire, ports: &mut P)
     ensures incoming { wire.new.incoming ≡ wire.old.incoming }
     ensures whole { wire.new.whole ≡ wire.old.whole }
     ensures calls { wire.new.calls ≡ wire.old.calls }
+    ensures taken { wire.new.taken ≡ wire.old.taken }
     ensures fixed { P.fixed ports.new ≡ P.fixed ports.old }
     ensures asked { AreRead (P.asked ports.old) (P.asked ports.new) [] }
 {
@@ -64,8 +67,8 @@ fn send_on<P: Ports>(wire: &mut Wire, ports: &mut P)
 /// Ports over a wire.
 #[derive(Drop)]
 pub struct LossyPorts<P> {
-    ports: P,
-    wire: Wire,
+    pub(crate) ports: P,
+    pub(crate) wire: Wire,
 }
 
 impl<P: Ports> LossyPorts<P> {
@@ -82,6 +85,10 @@ impl<P: Ports> LossyPorts<P> {
             (λ lossy. IsWire plan devices (P.told ports) (P.told lossy.ports) lossy.wire) }
         ensures told { IfOk result (λ lossy. (e : ℕ) → told_by lossy.wire e ≡ Some no_traffic) }
         ensures asked { IfOk result (λ lossy. asked_by lossy.wire ≡ Some []) }
+        ensures plan { IfOk result (λ lossy. lossy.wire.plan ≡ plan) }
+        ensures taken { IfOk result (λ lossy. taken_in lossy.wire.taken ≡ []) }
+        ensures notes { IfOk result (λ lossy. lossy.wire.notes.items ≡ []) }
+        ensures ports { IfOk result (λ lossy. lossy.ports ≡ ports) }
     {
         let incoming = Lane::new(alloc, Direction::In, devices)?;
         let outgoing = Lane::new(alloc, Direction::Out, devices)?;
@@ -95,31 +102,29 @@ impl<P: Ports> LossyPorts<P> {
                 outgoing,
                 whole: true,
                 calls: Calls::Begun,
-                notes: Notes {
-                    kept: Vec::new(alloc),
-                    lost: 0,
-                },
+                notes: Vec::new(alloc),
+                taken: Taken::Nothing,
             },
         })
     }
 
     /// What happened to datagrams since this was asked last.
-    pub fn take_notes(&mut self) -> Notes
-        ensures notes { result ≡ self.old.wire.notes }
-        ensures taken { self.new.wire.notes.kept.items ≡ [] }
+    pub fn take_notes(&mut self) -> Vec<Note>
+        ensures notes { result.items ≡ self.old.wire.notes.items }
+        ensures left { self.new.wire.notes.items ≡ [] }
+        ensures taken { taken_in self.new.wire.taken ≡ taken_in self.old.wire.taken ++ result.items }
         ensures wire { (plan : Plan) (devices : ℕ) (before : ℕ → Option Traffic)
             → IsWire plan devices before (P.told self.old.ports) self.old.wire
             → IsWire plan devices before (P.told self.new.ports) self.new.wire }
         ensures told { (e : ℕ) → told_by self.new.wire e ≡ told_by self.old.wire e }
         ensures asked { asked_by self.new.wire ≡ asked_by self.old.wire }
+        ensures plan { self.new.wire.plan ≡ self.old.wire.plan }
+        ensures whole { self.new.wire.whole ≡ self.old.wire.whole }
+        ensures ports { self.new.ports ≡ self.old.ports }
     {
-        std::mem::replace(
-            &mut self.wire.notes,
-            Notes {
-                kept: Vec::new(self.wire.alloc),
-                lost: 0,
-            },
-        )
+        let notes = std::mem::replace(&mut self.wire.notes, Vec::new(self.wire.alloc));
+        self.wire.taken = Taken::Then(Snapshot::of(&self.wire.taken), Snapshot::of(&notes));
+        notes
     }
 
     /// Asks the ports below, where nothing that waits is to go on.
@@ -134,6 +139,8 @@ impl<P: Ports> LossyPorts<P> {
         ensures asked { asked_by self.new.wire ≡ asked_by self.old.wire }
         ensures fixed { P.fixed self.new.ports ≡ P.fixed self.old.ports }
         ensures asked_below { AreRead (P.asked self.old.ports) (P.asked self.new.ports) (second ∷ []) }
+        ensures plan { self.new.wire.plan ≡ self.old.wire.plan }
+        ensures taken { self.new.wire.taken ≡ self.old.wire.taken }
         ensures kept { OnOk result (self.new.wire.whole ≡ self.old.wire.whole) }
         ensures prompt { IsIdle self.old.wire.plan.late_by second self.old.wire.incoming
             → IsQuietUnless result (IsIdle self.old.wire.plan.late_by second self.new.wire.incoming) }
@@ -159,6 +166,8 @@ impl<P: Ports> Ports for LossyPorts<P> {
 
     ghost asked = { λ lossy. asked_by lossy.wire };
 
+    ghost Fixed = { P.Fixed };
+
     ghost fixed = { λ lossy. P.fixed lossy.ports };
 
     /// It sends what is to go on by now, gives what is to go on to a device, and else asks the ports below. A second
@@ -171,6 +180,8 @@ impl<P: Ports> Ports for LossyPorts<P> {
         ensures wire { (plan : Plan) (devices : ℕ) (before : ℕ → Option Traffic)
             → IsWire plan devices before (P.told self.old.ports) self.old.wire
             → IsWire plan devices before (P.told self.new.ports) self.new.wire }
+        ensures plan { self.new.wire.plan ≡ self.old.wire.plan }
+        ensures taken { self.new.wire.taken ≡ self.old.wire.taken }
         ensures kept { OnOk result (self.new.wire.whole ≡ self.old.wire.whole) }
         ensures prompt { self.old.wire.second ≤ second
             → IsQuietUnless result (IsIdle self.old.wire.plan.late_by second self.new.wire.incoming) }
@@ -202,6 +213,8 @@ impl<P: Ports> Ports for LossyPorts<P> {
         ensures wire { (plan : Plan) (devices : ℕ) (before : ℕ → Option Traffic)
             → IsWire plan devices before (P.told self.old.ports) self.old.wire
             → IsWire plan devices before (P.told self.new.ports) self.new.wire }
+        ensures plan { self.new.wire.plan ≡ self.old.wire.plan }
+        ensures taken { self.new.wire.taken ≡ self.old.wire.taken }
     {
         match self.wire.take_out(device, server, bytes) {
             Ok(()) => send_on(&mut self.wire, &mut self.ports),

@@ -1,7 +1,7 @@
 //! What happened to a datagram, for a person who asks.
-ghost use Rattle.fleet_wire.specs.Noting.{IsAdded};
 
 use crate::plan::{Direction, Fate};
+use std::snapshot::Snapshot;
 
 /// What happened to a datagram that did not just go on.
 #[derive(Clone, Copy, Debug)]
@@ -9,26 +9,18 @@ pub struct Note {
     /// The place of the device in its fleet.
     pub device: usize,
     pub direction: Direction,
-    /// Its number among those of its device that go this way, the first being 1.
+    /// Its number among those of its device that go this way, the first being 1; 0 where the wire does not know the
+    /// device.
     pub number: u64,
+    /// The second at which it came.
+    pub second: u64,
     pub fate: Fate,
 }
 
-/// Notes, and how many of them there was no memory for.
+/// The notes that were taken, one time after another. It takes no memory: contracts alone see it.
 #[derive(Drop)]
-pub struct Notes {
-    pub kept: Vec<Note>,
-    pub lost: u64,
-}
-
-impl Notes {
-    /// Notes one more, if there is memory for it.
-    pub(crate) fn add(&mut self, note: Note)
-        ensures { IsAdded self.old self.new note }
-    {
-        match self.kept.push(note) {
-            Ok(()) => {}
-            Err(_) => self.lost = self.lost.saturating_add(1),
-        }
-    }
+pub(crate) enum Taken {
+    Nothing,
+    /// After these, these were.
+    Then(Snapshot<Taken>, Snapshot<Vec<Note>>),
 }

@@ -1,12 +1,12 @@
 //! A wire between the devices of a fleet and their ports.
-ghost use Rattle.std.specs.Prelude.{◌≡◌, ◌∷◌, [], ℕ, Option, OnOk, IfErr, IfNone, false};
+ghost use Rattle.std.specs.Prelude.{◌≡◌, ◌++◌, ◌∷◌, [], ℕ, Option, OnOk, IfErr, IfNone, false};
 ghost use Rattle.fleet_link.specs.Traffic.{Carries, Traffic, at_port, handed_at, sent_all, traffic_of_receipt};
 ghost use Rattle.fleet_wire.specs.Lane.{came_by, went_by, IsIdle};
-ghost use Rattle.fleet_wire.specs.Noting.{IsNoted};
+ghost use Rattle.fleet_wire.specs.Noting.{noted_with};
 ghost use Rattle.fleet_wire.specs.Wire.{told_by, IsWhole, IsWired, hands, IsQuietUnless};
 
 use crate::lane::{Drawn, Lane};
-use crate::note::{Note, Notes};
+use crate::note::{Note, Taken};
 use crate::plan::{Direction, Fate, Plan};
 use fleet_link::{Arrival, PortsFault, Receipt};
 use live_link::Packet;
@@ -38,18 +38,22 @@ pub(crate) struct Wire {
     /// Whether there was memory for each datagram. A wire that lacked it tells no more.
     pub(crate) whole: bool,
     pub(crate) calls: Calls,
-    pub(crate) notes: Notes,
+    /// What happened to datagrams since that was asked last.
+    pub(crate) notes: Vec<Note>,
+    pub(crate) taken: Taken,
 }
 
 impl Wire {
     /// Notes what became of a datagram, unless it just goes on.
-    fn note(&mut self, direction: Direction, device: usize, drawn: Drawn)
-        ensures noted { IsNoted drawn.fate self.old.notes self.new.notes (record {
+    fn note(&mut self, direction: Direction, device: usize, drawn: Drawn) -> Result<(), AllocError>
+        ensures noted { OnOk result (self.new.notes.items ≡ self.old.notes.items ++ noted_with (record {
           device = device;
           direction = direction;
           number = drawn.number;
+          second = self.old.second;
           fate = drawn.fate;
-        }) }
+        })) }
+        ensures taken { self.new.taken ≡ self.old.taken }
         ensures plan { self.new.plan ≡ self.old.plan }
         ensures second { self.new.second ≡ self.old.second }
         ensures incoming { self.new.incoming ≡ self.old.incoming }
@@ -59,13 +63,15 @@ impl Wire {
     {
         match drawn.fate {
             Fate::Passes => {}
-            Fate::Lost | Fate::Twice | Fate::Swapped | Fate::Late => self.notes.add(Note {
+            Fate::Lost | Fate::Twice | Fate::Swapped | Fate::Late => self.notes.push(Note {
                 device,
                 direction,
                 number: drawn.number,
+                second: self.second,
                 fate: drawn.fate,
-            }),
+            })?,
         }
+        Ok(())
     }
 
     /// What goes on to a device next, at the second of the wire.
@@ -80,6 +86,7 @@ impl Wire {
         ensures outgoing { self.new.outgoing ≡ self.old.outgoing }
         ensures whole { self.new.whole ≡ self.old.whole }
         ensures calls { self.new.calls ≡ self.old.calls }
+        ensures taken { self.new.taken ≡ self.old.taken }
     {
         match self.incoming.go(self.plan.late_by, self.second) {
             None => None,
@@ -104,6 +111,8 @@ impl Wire {
         ensures broken { IfErr result (λ _. self.new.whole ≡ false) }
         ensures whole { OnOk result (self.new.whole ≡ self.old.whole) }
         ensures calls { self.new.calls ≡ self.old.calls }
+        ensures plan { self.new.plan ≡ self.old.plan }
+        ensures taken { self.new.taken ≡ self.old.taken }
     {
         let device = arrival.device;
         match self
@@ -114,13 +123,16 @@ impl Wire {
                 self.whole = false;
                 Err(PortsFault::Memory)
             }
-            Ok(drawn) => {
-                self.note(Direction::In, device, drawn);
-                match self.hand_out() {
+            Ok(drawn) => match self.note(Direction::In, device, drawn) {
+                Err(_) => {
+                    self.whole = false;
+                    Err(PortsFault::Memory)
+                }
+                Ok(()) => match self.hand_out() {
                     None => Ok(Receipt::Dropped),
                     Some(arrival) => Ok(Receipt::Arrived(arrival)),
-                }
-            }
+                },
+            },
         }
     }
 
@@ -139,12 +151,13 @@ impl Wire {
         ensures whole { self.new.whole ≡ self.old.whole }
         ensures calls { self.new.calls ≡ self.old.calls }
         ensures incoming { self.new.incoming ≡ self.old.incoming }
+        ensures plan { self.new.plan ≡ self.old.plan }
+        ensures taken { self.new.taken ≡ self.old.taken }
     {
         let bytes = Bytes::from_slice(self.alloc, bytes)?;
         let drawn = self
             .outgoing
             .come(&self.plan, device, Packet { server, bytes }, self.second)?;
-        self.note(Direction::Out, device, drawn);
-        Ok(())
+        self.note(Direction::Out, device, drawn)
     }
 }

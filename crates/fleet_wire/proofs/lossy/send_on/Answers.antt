@@ -14,6 +14,7 @@ loop-preserved g c =
       incoming = c.send_next.ensures.incoming ∙ c.loop.invariant.incoming;
       whole = c.send_next.ensures.whole ∙ c.loop.invariant.whole;
       calls = c.send_next.ensures.calls ∙ c.loop.invariant.calls;
+      taken = c.send_next.ensures.taken ∙ c.loop.invariant.taken;
       fixed = c.send_next.ensures.fixed ∙ c.loop.invariant.fixed;
       asked = still_none (g.P.Ports.asked c.args.ports.now) (g.P.Ports.asked c.loop.ports)
           (g.P.Ports.asked c.send_next.new.ports) c.loop.invariant.asked c.send_next.ensures.asked;

@@ -19,6 +19,7 @@ invariant-loop g l =
       incoming : l.wire.incoming ≡ l.fn.wire.incoming;
       whole : l.wire.whole ≡ l.fn.wire.whole;
       calls : l.wire.calls ≡ l.fn.wire.calls;
+      taken : l.wire.taken ≡ l.fn.wire.taken;
       fixed : g.P.Ports.fixed l.ports ≡ g.P.Ports.fixed l.fn.ports;
       asked : AreRead (g.P.Ports.asked l.fn.ports) (g.P.Ports.asked l.ports) [];
     }

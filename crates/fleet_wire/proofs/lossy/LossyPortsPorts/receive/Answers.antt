@@ -12,7 +12,7 @@ returns-in-Some-clause-wire g c =
     let after = g.P.Ports.told c.send_on.new.ports in
     let sent = c.send_on.ensures.whole_one plan devices before
     (wired_later plan devices before (g.P.Ports.told c.args.self.now.ports) s _ old.wired (omega arith) refl refl refl
-    (λ e. ap (λ k. failures_by k e) c.of.ensures)) in
+    (λ e. ap (λ k. failures_by k e) c.of.ensures) refl) in
     whole_from plan devices before after c.send_on.new.wire c.hand_out.new.self sent
     (c.hand_out.ensures.wired plan devices before after sent.wired) c.hand_out.ensures.second
     c.hand_out.ensures.outgoing
@@ -31,7 +31,7 @@ returns-in-None-clause-wire g c =
     let old = w (sym (c.hand_out.ensures.whole ∙ c.send_on.ensures.whole) ∙ whole) in
     let sent = c.send_on.ensures.whole_one plan devices before
     (wired_later plan devices before (g.P.Ports.told c.args.self.now.ports) s _ old.wired (omega arith) refl refl refl
-    (λ e. ap (λ k. failures_by k e) c.of.ensures)) in
+    (λ e. ap (λ k. failures_by k e) c.of.ensures) refl) in
     whole_from plan devices before after t u sent (c.hand_out.ensures.wired plan devices before after sent.wired)
     c.hand_out.ensures.second c.hand_out.ensures.outgoing)
 
