@@ -55,6 +55,7 @@ pub trait Ports {
     ghost asked: { Self → Option (List ℕ) };
     /// What no call changes of them, as the servers that are fixed, for all devices.
     ghost Fixed: { Type 0 } = { List FixedServer };
+
     ghost fixed: { Self → Self.Fixed };
 
     /// What has arrived next, at whichever port; it is asked for at this second of the session. It does not wait.
