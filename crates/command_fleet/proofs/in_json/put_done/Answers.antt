@@ -11,6 +11,6 @@ returns-clause-adds c =
       c.in_ok-put_counts.ensures.adds,
       c.in_ok-put_number-2.ensures.adds,
       c.in_ok-put_number.ensures.adds,
-      c.in_ok-put_text.ensures.adds,
+      c.in_ok-put_string.ensures.adds,
       c.in_ok-begin_object.ensures.ok,
     ) (simp append_assoc)

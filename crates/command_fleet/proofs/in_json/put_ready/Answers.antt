@@ -8,10 +8,10 @@ returns-clause-adds c =
     rw (
       c.in_ok-end_object.ensures.ok,
       c.in_ok-put_number-3.ensures.adds,
-      c.in_ok-put_text-2.ensures.adds,
+      c.in_ok-put_string-2.ensures.adds,
       c.requires,
       c.in_ok-put_number-2.ensures.adds,
-      c.in_ok-put_text.ensures.adds,
+      c.in_ok-put_string.ensures.adds,
       c.in_ok-put_number.ensures.adds,
       c.in_ok-begin_object.ensures.ok,
       c.from.ensures,

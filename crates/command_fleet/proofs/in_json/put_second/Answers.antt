@@ -9,6 +9,6 @@ returns-clause-adds c =
       c.in_ok-end_object.ensures.ok,
       c.in_ok-put_counts.ensures.adds,
       c.in_ok-put_number.ensures.adds,
-      c.in_ok-put_text.ensures.adds,
+      c.in_ok-put_string.ensures.adds,
       c.in_ok-begin_object.ensures.ok,
     ) (simp append_assoc)
