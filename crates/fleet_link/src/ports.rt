@@ -53,9 +53,10 @@ pub trait Ports {
     ghost told: { Self → ℕ → Option Traffic };
     /// The seconds at which they were asked, in order, where they tell.
     ghost asked: { Self → Option (List ℕ) };
-    /// What no call changes of them, as the servers that are fixed, for all devices.
+    /// What kind of thing is fixed of them: the servers, for all devices, where nothing else is said.
     ghost Fixed: { Type 0 } = { List FixedServer };
 
+    /// What is fixed of them. No call changes it.
     ghost fixed: { Self → Self.Fixed };
 
     /// What has arrived next, at whichever port; it is asked for at this second of the session. It does not wait.
