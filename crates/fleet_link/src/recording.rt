@@ -1,6 +1,6 @@
 //! What is recorded of a device's steps, so that they can be saved as the row of a scenario.
 ghost use Rattle.std.specs.Prelude.{◌≡◌, ◌≤◌, ◌<◌, ◌∷◌, ◌++◌, [], List, true, false};
-ghost use Rattle.std.specs.Prelude.{OnOk, vec_capacity, vec_len};
+ghost use Rattle.std.specs.Prelude.{IfOk, OnOk, vec_capacity, vec_len};
 ghost use Rattle.scenario_image.specs.declared.step.Step.{Step};
 ghost use Rattle.scenario_image.specs.declared.step.Step.TheVariants.{Event as event_step};
 ghost use Rattle.fleet_link.specs.Recorded.{size_of_event, HasNoRoom, HasRoom, IsRecorded};
@@ -39,6 +39,38 @@ fn size_of_event(event: &Event) -> usize
         Event::Put { .. } => PUT_BYTES,
         Event::Firmware(_) | Event::Tick(_) => STEP_BYTES,
     }
+}
+
+/// A copy of a step.
+fn copy_step(step: &Step) -> Result<Step, AllocError>
+    ensures { IfOk result (λ copy. copy ≡ step.now) }
+{
+    match step {
+        Step::Event(Event::Recv { server, bytes }) => {
+            let bytes = bytes.clone()?;
+            let server = *server;
+            Ok(Step::Event(Event::Recv { server, bytes }))
+        }
+        Step::Event(Event::Put { path, value }) => {
+            let value = value.copy()?;
+            Ok(Step::Event(Event::Put { path: *path, value }))
+        }
+        Step::Event(Event::Firmware(code)) => Ok(Step::Event(Event::Firmware(*code))),
+        Step::Event(Event::Tick(seconds)) => Ok(Step::Event(Event::Tick(*seconds))),
+        Step::Post(group) => Ok(Step::Post(*group)),
+        Step::Need(group, count) => Ok(Step::Need(*group, *count)),
+    }
+}
+
+/// Copies of steps.
+fn copies_of(alloc: Global, steps: &[Step]) -> Result<Vec<Step>, AllocError>
+    ensures { IfOk result (λ copies. copies.items ≡ steps.now) }
+{
+    let mut copies = Vec::with_capacity(alloc, steps.len())?;
+    for step in steps {
+        copies.push(copy_step(step)?)?;
+    }
+    Ok(copies)
 }
 
 impl Recording {
@@ -107,6 +139,13 @@ impl Recording {
         ensures { result ≡ self.now.complete }
     {
         self.complete
+    }
+
+    /// Copies of the recorded steps.
+    pub(crate) fn copy_steps(&self, alloc: Global) -> Result<Vec<Step>, AllocError>
+        ensures { IfOk result (λ steps. steps.items ≡ self.now.steps.items) }
+    {
+        copies_of(alloc, self.steps.as_slice())
     }
 
     /// The recorded steps.

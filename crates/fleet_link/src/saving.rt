@@ -58,6 +58,25 @@ impl Fleet {
         cut
     }
 
+    /// A scenario of the same classes, with a row for each device, which has copies of the steps that it has recorded
+    /// so far; so a session can be saved while it goes on. It is refused as by `into_scenario`.
+    pub fn to_scenario(&self, alloc: Global, scenario: &Scenario) -> Result<Scenario, ScenarioFault>
+        ensures { IfOk result (λ saved. IsSaved scenario.now self.now.slots.items saved) }
+    {
+        // The proof needs that the scenario is valid, which this call says.
+        let _valid = scenario.rows();
+        let mut saved = copy_classes(alloc, scenario)?;
+        let mut device = 0u16;
+        for slot in &self.slots {
+            let Some((class, _)) = scenario.row(device) else {
+                return Err(ScenarioFault::Missing);
+            };
+            add_row(&mut saved, class, slot.copy_steps(alloc)?)?;
+            device = device.saturating_add(1);
+        }
+        Ok(saved)
+    }
+
     /// A scenario of the same classes, with a row for each device, which has its recorded steps. It is refused where a
     /// step cannot be one of a scenario: a datagram of a server that is no account of the device, or of over 1,500
     /// bytes.

@@ -21,7 +21,7 @@ use crate::sending::send_all;
 use device_machine::{Device, Event, Outputs, StepFault};
 use live_link::Packet;
 use scenario_image::Step;
-use std::alloc::{AllocError, AllocFailed};
+use std::alloc::{AllocError, AllocFailed, Global};
 
 /// The most seconds that pass in a step: a day.
 const MOST_SECONDS: u64 = 86_400;
@@ -117,6 +117,13 @@ impl Slot {
         ensures { result ≡ self.now.recording.complete }
     {
         self.recording.is_complete()
+    }
+
+    /// Copies of its recorded steps.
+    pub(crate) fn copy_steps(&self, alloc: Global) -> Result<Vec<Step>, AllocError>
+        ensures { IfOk result (λ steps. steps.items ≡ self.now.recording.steps.items) }
+    {
+        self.recording.copy_steps(alloc)
     }
 
     /// Its recorded steps.

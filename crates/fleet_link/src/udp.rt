@@ -1,10 +1,10 @@
 //! Ports over UDP: a socket for each device. These ports tell what they handed out, and what they were given to send;
 //! nothing is claimed of what a socket carries.
-ghost use Rattle.std.specs.Prelude.{◌≡◌, ◌∷◌, [], ℕ, Some, IfOk, length};
+ghost use Rattle.std.specs.Prelude.{◌≡◌, ◌≢◌, ◌+◌, ◌<◌, ◌≤◌, ◌∷◌, [], ℕ, Some, Err, IfErr, IfOk, false, length, true};
 ghost use Rattle.live_link.specs.Wire.{AreRead};
 ghost use Rattle.fleet_link.specs.Counting.{counts_after, none_counted, AreCountsOf, IsSentOrLost};
 ghost use Rattle.fleet_link.specs.Traffic.{Carries, at_port, no_traffic, sent_all, traffic_of_receipt};
-ghost use Rattle.fleet_link.specs.Udp.{asked_over_udp, fixed_over_udp, told_over_udp};
+ghost use Rattle.fleet_link.specs.Udp.{asked_over_udp, fixed_over_udp, ports_over_udp, told_over_udp, AreFrom};
 
 use crate::directory::{Directory, FixedServer};
 use crate::ports::{Arrival, Ports, PortsFault, Receipt};
@@ -73,6 +73,8 @@ pub struct UdpPorts {
     poll: Poll,
     events: Events,
     doors: Vec<Door>,
+    /// At which port each of them is.
+    numbers: Vec<u16>,
     servers: Vec<FixedServer>,
     /// The places of those that may have a datagram: the system names each once, until it was read to its end.
     queue: VecDeque<usize>,
@@ -82,12 +84,22 @@ pub struct UdpPorts {
 }
 
 impl From<AllocError> for BindFault {
+    ghost use Rattle.std.specs.Prelude.{◌≡◌};
+    ghost use Rattle.fleet_link.specs.declared.udp.BindFault.TheVariants.{Memory};
+
+    ghost from_gives = { λ _ e. e ≡ Memory };
+
     fn from(_e: AllocError) -> BindFault {
         BindFault::Memory
     }
 }
 
 impl<T: Drop> From<AllocFailed<T>> for BindFault {
+    ghost use Rattle.std.specs.Prelude.{◌≡◌};
+    ghost use Rattle.fleet_link.specs.declared.udp.BindFault.TheVariants.{Memory};
+
+    ghost from_gives = { λ _ e. e ≡ Memory };
+
     fn from(_refused: AllocFailed<T>) -> BindFault {
         BindFault::Memory
     }
@@ -106,7 +118,9 @@ impl<T: Drop> From<AllocFailed<T>> for PortsFault {
 }
 
 /// Why a port could not be had.
-fn refusal(port: u16, error: &io::Error) -> BindFault {
+fn refusal(port: u16, error: &io::Error) -> BindFault
+    ensures { result ≢ BindFault.PastLast }
+{
     if error.raw_os_error() == Some(TOO_MANY_FILES) {
         return BindFault::TooManyFiles(port);
     }
@@ -137,7 +151,9 @@ fn open_door<R: Net>(
     place: usize,
     accounts: &[u16],
     servers: &[FixedServer],
-) -> Result<Door, BindFault> {
+) -> Result<Door, BindFault>
+    ensures { IfErr result (λ fault. fault ≢ BindFault.PastLast) }
+{
     let directory = Directory::new(alloc, accounts, servers)?;
     let mut socket = match UdpSocket::bind(rt, address) {
         Ok(socket) => socket,
@@ -155,6 +171,41 @@ fn open_door<R: Net>(
         directory,
         queued: false,
     })
+}
+
+/// Whether so many ports, of which this is the first, would go past 65,535.
+fn is_past_last(first: u16, devices: usize) -> bool
+    ensures past { result ≡ true → (0 < first) × (65536 < first + devices) }
+    ensures within { result ≡ false → 0 < first → first + devices ≤ 65536 }
+{
+    if first == 0 {
+        return false;
+    }
+    devices > usize::from(u16::MAX - first) + 1
+}
+
+/// The port that is asked for at this place, where this is the first one; 0 has the system choose.
+fn wanted_port(first: u16, place: u16) -> u16
+    ensures { 0 < first → first + place < 65536 → result ≡ first + place }
+{
+    if first == 0 {
+        return 0;
+    }
+    first.saturating_add(place)
+}
+
+/// At which port a socket is that was bound at this one: the system knows it where it chose.
+fn bound_port(socket: &UdpSocket, wanted: u16) -> Result<u16, BindFault>
+    ensures wanted { 0 < wanted → IfOk result (λ port. port ≡ wanted) }
+    ensures refused { IfErr result (λ fault. fault ≢ BindFault.PastLast) }
+{
+    if wanted > 0 {
+        return Ok(wanted);
+    }
+    match socket.local_addr() {
+        Ok(address) => Ok(address.port()),
+        Err(error) => Err(refusal(wanted, &error)),
+    }
 }
 
 /// What the system gave when a socket was asked.
@@ -182,7 +233,8 @@ fn ask_socket(socket: &UdpSocket, buffer: &mut [u8]) -> Given {
 
 impl UdpPorts {
     /// A socket for each device of a scenario, at this address: the first at this port, the next at the one after it,
-    /// and so on. No address of an account is known but those of servers that are fixed at a port.
+    /// and so on; at port 0 the system chooses a port for each. No address of an account is known but those of servers
+    /// that are fixed at a port.
     pub fn bind<R: Net>(
         rt: &R,
         alloc: Global,
@@ -193,12 +245,16 @@ impl UdpPorts {
     ) -> Result<UdpPorts, BindFault>
         ensures counts { IfOk result (λ ports. ports.tally.counts ≡ none_counted) }
         ensures count { IfOk result (λ ports. length ports.doors.items ≡ length scenario.now.rows) }
+        ensures ports { IfOk result (λ ports. length (ports_over_udp ports) ≡ length scenario.now.rows) }
+        ensures from { 0 < port → IfOk result (λ ports. AreFrom port (ports_over_udp ports)) }
+        ensures past { 0 < port → 65536 < port + length scenario.now.rows → result ≡ Err BindFault.PastLast }
+        ensures refused { result ≡ Err BindFault.PastLast → (0 < port) × (65536 < port + length scenario.now.rows) }
         ensures fixed { IfOk result (λ ports. fixed_over_udp ports ≡ servers.items) }
         ensures told { IfOk result (λ ports. (e : ℕ) → told_over_udp ports e ≡ Some no_traffic) }
         ensures asked { IfOk result (λ ports. asked_over_udp ports ≡ Some []) }
     {
         let devices = scenario.rows();
-        if devices > usize::from(u16::MAX - port) + 1 {
+        if is_past_last(port, devices) {
             return Err(BindFault::PastLast);
         }
         let poll = match Poll::new(rt) {
@@ -206,10 +262,12 @@ impl UdpPorts {
             Err(_) => return Err(BindFault::Failed),
         };
         let mut doors = Vec::with_capacity(alloc, devices)?;
+        let mut numbers = Vec::with_capacity(alloc, devices)?;
         for place in 0..devices {
-            let address = SocketAddr::new(ip, port.saturating_add(place as u16));
+            let wanted = wanted_port(port, place as u16);
+            let address = SocketAddr::new(ip, wanted);
             let accounts = accounts_of(scenario, place as u16);
-            doors.push(open_door(
+            let door = open_door(
                 rt,
                 alloc,
                 &poll,
@@ -217,18 +275,28 @@ impl UdpPorts {
                 place,
                 accounts,
                 servers.as_slice(),
-            )?)?;
+            )?;
+            numbers.push(bound_port(&door.socket, wanted)?)?;
+            doors.push(door)?;
         }
         Ok(UdpPorts {
             alloc,
             poll,
             events: Events::with_capacity(alloc, MOST_EVENTS)?,
             doors,
+            numbers,
             servers,
             queue: VecDeque::with_capacity(alloc, devices)?,
             buffer: Vec::from_elem(alloc, 0u8, MOST_BYTES + 1)?,
             tally: Tally::new(),
         })
+    }
+
+    /// At which port each device is.
+    pub fn ports(&self) -> &[u16]
+        ensures { result.now ≡ ports_over_udp self.now }
+    {
+        self.numbers.as_slice()
     }
 
     /// How many datagrams went through the ports.
@@ -243,6 +311,7 @@ impl UdpPorts {
     fn queue_named(&mut self) -> Result<(), AllocError>
         ensures tally { self.new.tally ≡ self.old.tally }
         ensures servers { self.new.servers ≡ self.old.servers }
+        ensures numbers { self.new.numbers ≡ self.old.numbers }
     {
         for event in self.events.iter() {
             let place = event.token().0;
@@ -265,6 +334,7 @@ impl UdpPorts {
     ) -> Result<Receipt, AllocError>
         ensures tally { self.new.tally ≡ self.old.tally }
         ensures servers { self.new.servers ≡ self.old.servers }
+        ensures numbers { self.new.numbers ≡ self.old.numbers }
     {
         let account = match self.doors.get_mut(place) {
             Some(door) if count <= MOST_BYTES => {
@@ -288,6 +358,7 @@ impl UdpPorts {
     fn ask_at(&mut self, place: usize) -> Result<Option<Receipt>, AllocError>
         ensures tally { self.new.tally ≡ self.old.tally }
         ensures servers { self.new.servers ≡ self.old.servers }
+        ensures numbers { self.new.numbers ≡ self.old.numbers }
     {
         let Some(door) = self.doors.get_mut(place) else {
             return Ok(None);
@@ -313,6 +384,7 @@ impl UdpPorts {
     fn next_receipt(&mut self) -> Result<Receipt, PortsFault>
         ensures tally { self.new.tally ≡ self.old.tally }
         ensures servers { self.new.servers ≡ self.old.servers }
+        ensures numbers { self.new.numbers ≡ self.old.numbers }
     {
         for _asked in 0..self.queue.len() {
             let Some(place) = self.queue.pop_front() else {
@@ -340,6 +412,7 @@ impl Ports for UdpPorts {
         ensures fixed { fixed_over_udp self.new ≡ fixed_over_udp self.old }
         ensures asked { AreRead (asked_over_udp self.old) (asked_over_udp self.new) (second ∷ []) }
         ensures counts { self.new.tally.counts ≡ counts_after self.old.tally.counts result }
+        ensures ports { ports_over_udp self.new ≡ ports_over_udp self.old }
     {
         let given = self.next_receipt();
         self.tally.note_receipt(second, &given);
@@ -353,6 +426,7 @@ impl Ports for UdpPorts {
         ensures fixed { fixed_over_udp self.new ≡ fixed_over_udp self.old }
         ensures asked { AreRead (asked_over_udp self.old) (asked_over_udp self.new) [] }
         ensures counts { IsSentOrLost self.old.tally.counts self.new.tally.counts }
+        ensures ports { ports_over_udp self.new ≡ ports_over_udp self.old }
     {
         let taken = match self.doors.get(device) {
             None => false,
@@ -370,6 +444,7 @@ impl Ports for UdpPorts {
         ensures fixed { fixed_over_udp self.new ≡ fixed_over_udp self.old }
         ensures asked { AreRead (asked_over_udp self.old) (asked_over_udp self.new) [] }
         ensures counts { self.new.tally.counts ≡ self.old.tally.counts }
+        ensures ports { ports_over_udp self.new ≡ ports_over_udp self.old }
     {
         let millis = if self.queue.is_empty() { millis } else { 0 };
         match self.poll.poll(
