@@ -90,7 +90,9 @@ impl WiredPorts {
 }
 
 impl Ports for WiredPorts {
-    ghost use Rattle.std.specs.Prelude.{◌≡◌, ◌∷◌, [], ℕ};
+    ghost use Rattle.std.specs.Prelude.{◌≡◌, ◌∷◌, [], ℕ, OnOk};
+    ghost use Rattle.live_link.specs.Wire.{AreRead};
+    ghost use Rattle.fleet_link.specs.Traffic.{Carries, no_traffic, traffic_of_receipt};
     ghost use Rattle.fleet_wire.specs.Over.{Fixed as OnWire};
     ghost use Rattle.fleet_wire.specs.Wire.{asked_by, told_by};
     ghost use Rattle.fleet_wire.specs.Wired.{fixed_on};
@@ -103,7 +105,14 @@ impl Ports for WiredPorts {
 
     ghost fixed = { λ wired. fixed_on wired };
 
-    fn receive(&mut self, second: u64) -> Result<Receipt, PortsFault> {
+    /// Where it gives something, or nothing, the wire is whole if it was.
+    fn receive(&mut self, second: u64) -> Result<Receipt, PortsFault>
+        ensures told { (e : ℕ) → Carries (told_by self.old.lossy.wire e) (told_by self.new.lossy.wire e)
+            (traffic_of_receipt second result e) }
+        ensures fixed { fixed_on self.new ≡ fixed_on self.old }
+        ensures asked { AreRead (asked_by self.old.lossy.wire) (asked_by self.new.lossy.wire) (second ∷ []) }
+        ensures kept { OnOk result (self.new.lossy.wire.whole ≡ self.old.lossy.wire.whole) }
+    {
         self.lossy.receive(second)
     }
 
@@ -111,7 +120,12 @@ impl Ports for WiredPorts {
         self.lossy.send(device, server, bytes);
     }
 
-    fn wait(&mut self, millis: u32) -> Result<(), PortsFault> {
+    fn wait(&mut self, millis: u32) -> Result<(), PortsFault>
+        ensures told { (e : ℕ) → Carries (told_by self.old.lossy.wire e) (told_by self.new.lossy.wire e) no_traffic }
+        ensures fixed { fixed_on self.new ≡ fixed_on self.old }
+        ensures asked { AreRead (asked_by self.old.lossy.wire) (asked_by self.new.lossy.wire) [] }
+        ensures same { self.new.lossy.wire ≡ self.old.lossy.wire }
+    {
         self.lossy.wait(millis)
     }
 }
