@@ -173,10 +173,13 @@ reading P Q faults.PastEnd f h = absurd h
 reading P Q faults.Range f h = absurd h
 reading P Q faults.TooLong f h = absurd h
 reading P Q faults.Bind f h = absurd h
+reading P Q faults.Wire f h = absurd h
 reading P Q (faults.Session fault) f h = absurd h
 reading P Q (faults.Cases fault) f h = absurd h
 reading P Q faults.NoSuchCase f h = absurd h
 reading P Q faults.NoDatagram f h = absurd h
+reading P Q faults.OtherClasses f h = absurd h
+reading P Q faults.Slices f h = absurd h
 
 pub cut_short : (faults : StreamFaults) (a b c : Streams) (old new : Session) (left : ℕ) (fault : Fault)
     → IsExchange faults a b old new → IsSpent a.input b.input most_bytes left

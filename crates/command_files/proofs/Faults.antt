@@ -29,10 +29,13 @@ reading_file holds fails broken path faults.PastEnd h = absurd h
 reading_file holds fails broken path faults.Range h = absurd h
 reading_file holds fails broken path faults.TooLong h = absurd h
 reading_file holds fails broken path faults.Bind h = absurd h
+reading_file holds fails broken path faults.Wire h = absurd h
 reading_file holds fails broken path (faults.Session fault) h = absurd h
 reading_file holds fails broken path (faults.Cases fault) h = absurd h
 reading_file holds fails broken path faults.NoSuchCase h = absurd h
 reading_file holds fails broken path faults.NoDatagram h = absurd h
+reading_file holds fails broken path faults.OtherClasses h = absurd h
+reading_file holds fails broken path faults.Slices h = absurd h
 
 -- a file whose bytes break off
 pub broken_at : (holds : List ℕ → List ℕ → Type 0) (fails : List ℕ → Type 0) (broken : List ℕ → LayoutFault → Type 0)
@@ -83,10 +86,13 @@ no_image_at holds fails path bytes faults.PastEnd held h = absurd h
 no_image_at holds fails path bytes faults.Range held h = absurd h
 no_image_at holds fails path bytes faults.TooLong held h = absurd h
 no_image_at holds fails path bytes faults.Bind held h = absurd h
+no_image_at holds fails path bytes faults.Wire held h = absurd h
 no_image_at holds fails path bytes (faults.Session fault) held h = absurd h
 no_image_at holds fails path bytes (faults.Cases fault) held h = absurd h
 no_image_at holds fails path bytes faults.NoSuchCase held h = absurd h
 no_image_at holds fails path bytes faults.NoDatagram held h = absurd h
+no_image_at holds fails path bytes faults.OtherClasses held h = absurd h
+no_image_at holds fails path bytes faults.Slices held h = absurd h
 
 pub file_memory : (holds : List ℕ → List ℕ → Type 0) (fails : List ℕ → Type 0) (broken : List ℕ → LayoutFault → Type 0)
     (path : List ℕ) (f : Fault) → f ≡ faults.Memory

@@ -97,10 +97,13 @@ fault_word faults.PastEnd = codes "past end"
 fault_word faults.Range = codes "range"
 fault_word faults.TooLong = codes "too long"
 fault_word faults.Bind = codes "bind"
+fault_word faults.Wire = codes "wire"
 fault_word (faults.Session fault) = session_word fault
 fault_word (faults.Cases fault) = case_word fault.why
 fault_word faults.NoSuchCase = codes "no such case"
 fault_word faults.NoDatagram = codes "no datagram"
+fault_word faults.OtherClasses = codes "other classes"
+fault_word faults.Slices = codes "slices"
 
 -- the place of a fault of bytes, in bytes from 0
 abbrev pub place_of : Fault → Option ℕ

@@ -48,6 +48,8 @@ pub enum Fault {
     TooLong,
     /// A UDP port could not be bound.
     Bind,
+    /// A word does not say which datagrams a wire loses, doubles, exchanges or delays.
+    Wire,
     /// What a device did is not the row of a scenario.
     Session(ScenarioFault),
     /// A line of a file of cases is refused.
@@ -56,6 +58,10 @@ pub enum Fault {
     NoSuchCase,
     /// A statement is none that denotes a datagram.
     NoDatagram,
+    /// Slices of a scenario have other classes than those before them.
+    OtherClasses,
+    /// Slices of a scenario do not fit one another, or have not as many devices as they say.
+    Slices,
 }
 
 impl fmt::Display for Fault {
@@ -127,10 +133,13 @@ fn word_of(fault: Fault) -> &'static str
         Fault::Range => "range",
         Fault::TooLong => "too long",
         Fault::Bind => "bind",
+        Fault::Wire => "wire",
         Fault::Session(fault) => session_word(fault),
         Fault::Cases(fault) => case_word(fault.why),
         Fault::NoSuchCase => "no such case",
         Fault::NoDatagram => "no datagram",
+        Fault::OtherClasses => "other classes",
+        Fault::Slices => "slices",
     }
 }
 

@@ -10,16 +10,18 @@ use Rattle.command_line.specs.declared.words.Job.{Job}
 use Rattle.command_line.specs.declared.words.Job.TheVariants as jobs
 use Rattle.command_line.specs.declared.words.Live.{Live}
 use Rattle.command_line.specs.declared.fleet_words.AskedFleet.{AskedFleet}
+use Rattle.command_line.specs.declared.wire_words.AskedWire.{AskedWire}
 use Rattle.command_line.specs.declared.words.Asked.{Asked}
 use Rattle.command_line.specs.declared.words.Asked.TheVariants as asked
 use Rattle.command_line.specs.declared.words.TraceForm.{TraceForm}
 use Rattle.command_line.specs.declared.words.TraceForm.TheVariants as forms
 use Rattle.command_line.specs.declared.words.CaseForm.{CaseForm}
 use Rattle.command_line.specs.declared.words.CaseForm.TheVariants as case_forms
-use Rattle.command_line.specs.Words.{AsksFor, AsksForCaseForm, AsksForFleet, AsksForForm, AsksForLog, AsksToLive}
+use Rattle.command_line.specs.Words.{AsksFor, AsksForCaseForm, AsksForFleet, AsksForForm, AsksForLog, AsksForWire}
+use Rattle.command_line.specs.Words.{AsksToLive}
 use Rattle.command_line.specs.Words.{IsReadAs, IsRefusedAs, MayAskFor, bench_app, is_set, refusals}
-use Rattle.command_line.specs.Inside.{IsTakenAs, LacksFleet, LacksLive, LacksOne, LacksPlay, LacksRun, LacksSay}
-use Rattle.command_line.specs.Inside.{LacksShow, LacksTest, WantsTwoCaseForms, WantsTwoForms}
+use Rattle.command_line.specs.Inside.{IsTakenAs, LacksFleet, LacksJoin, LacksLive, LacksOne, LacksPlay, LacksRun}
+use Rattle.command_line.specs.Inside.{LacksSay, LacksShow, LacksTest, LacksWire, WantsTwoCaseForms, WantsTwoForms}
 
 -- words that exclude each other ask for no form
 one_form : (rows : List Row) (form : TraceForm) → WantsTwoForms rows → AsksForForm rows form → ⊥
@@ -42,6 +44,7 @@ no_one rows (jobs.Pcap image trace output) none asks = search rules
 no_one rows (jobs.Debug image trace) none asks = search rules
 no_one rows (jobs.Titles files only) none asks = search rules
 no_one rows (jobs.Test files only form junit) none asks = search rules
+no_one rows (jobs.Join output images) none asks = search rules
 
 pub no_spell : (rows : List Row) (job : Job) → all_of (codes "STATEMENT") rows ≡ None
     → AsksFor (codes "spell", rows) job → ⊥
@@ -58,6 +61,7 @@ no_spell rows (jobs.Pcap image trace output) none asks = search rules
 no_spell rows (jobs.Debug image trace) none asks = search rules
 no_spell rows (jobs.Titles files only) none asks = search rules
 no_spell rows (jobs.Test files only form junit) none asks = search rules
+no_spell rows (jobs.Join output images) none asks = search rules
 
 pub no_play : (rows : List Row) (job : Job) → LacksPlay rows → AsksFor (codes "play", rows) job → ⊥
 no_play rows (jobs.One hex form) none asks = search rules
@@ -74,6 +78,7 @@ no_play rows (jobs.Pcap image trace output) none asks = search rules
 no_play rows (jobs.Debug image trace) none asks = search rules
 no_play rows (jobs.Titles files only) none asks = search rules
 no_play rows (jobs.Test files only form junit) none asks = search rules
+no_play rows (jobs.Join output images) none asks = search rules
 
 pub no_asm : (rows : List Row) (job : Job) → (first_of (codes "IN") rows ≡ None) ⊎ (first_of (codes "OUT") rows ≡ None)
     → AsksFor (codes "asm", rows) job → ⊥
@@ -91,6 +96,7 @@ no_asm rows (jobs.Pcap image trace output) none asks = search rules
 no_asm rows (jobs.Debug image trace) none asks = search rules
 no_asm rows (jobs.Titles files only) none asks = search rules
 no_asm rows (jobs.Test files only form junit) none asks = search rules
+no_asm rows (jobs.Join output images) none asks = search rules
 
 pub no_dis : (rows : List Row) (job : Job) → first_of (codes "IN") rows ≡ None → AsksFor (codes "dis", rows) job → ⊥
 no_dis rows (jobs.One hex form) none asks = search rules
@@ -106,6 +112,7 @@ no_dis rows (jobs.Pcap image trace output) none asks = search rules
 no_dis rows (jobs.Debug image trace) none asks = search rules
 no_dis rows (jobs.Titles files only) none asks = search rules
 no_dis rows (jobs.Test files only form junit) none asks = search rules
+no_dis rows (jobs.Join output images) none asks = search rules
 
 pub no_run : (rows : List Row) (job : Job) → LacksRun rows → AsksFor (codes "run", rows) job → ⊥
 no_run rows (jobs.One hex form) lacks asks = search rules
@@ -123,6 +130,7 @@ no_run rows (jobs.Pcap image trace output) lacks asks = search rules
 no_run rows (jobs.Debug image trace) lacks asks = search rules
 no_run rows (jobs.Titles files only) lacks asks = search rules
 no_run rows (jobs.Test files only form junit) lacks asks = search rules
+no_run rows (jobs.Join output images) lacks asks = search rules
 
 pub no_check : (rows : List Row) (job : Job) → (first_of (codes "IMAGE") rows ≡ None)
     ⊎ (first_of (codes "TRACE") rows ≡ None) → AsksFor (codes "check", rows) job → ⊥
@@ -140,6 +148,7 @@ no_check rows (jobs.Pcap image trace output) none asks = search rules
 no_check rows (jobs.Debug image trace) none asks = search rules
 no_check rows (jobs.Titles files only) none asks = search rules
 no_check rows (jobs.Test files only form junit) none asks = search rules
+no_check rows (jobs.Join output images) none asks = search rules
 
 pub no_show : (rows : List Row) (job : Job) → LacksShow rows → AsksFor (codes "show", rows) job → ⊥
 no_show rows (jobs.One hex form) lacks asks = search rules
@@ -157,6 +166,7 @@ no_show rows (jobs.Pcap image trace output) lacks asks = search rules
 no_show rows (jobs.Debug image trace) lacks asks = search rules
 no_show rows (jobs.Titles files only) lacks asks = search rules
 no_show rows (jobs.Test files only form junit) lacks asks = search rules
+no_show rows (jobs.Join output images) lacks asks = search rules
 
 pub no_debug : (rows : List Row) (job : Job) → (first_of (codes "IMAGE") rows ≡ None)
     ⊎ (first_of (codes "TRACE") rows ≡ None) → AsksFor (codes "debug", rows) job → ⊥
@@ -174,6 +184,7 @@ no_debug rows (jobs.Debug image trace) (inl none) asks = search rules
 no_debug rows (jobs.Debug image trace) (inr none) asks = search rules
 no_debug rows (jobs.Titles files only) none asks = search rules
 no_debug rows (jobs.Test files only form junit) none asks = search rules
+no_debug rows (jobs.Join output images) none asks = search rules
 
 pub no_pcap : (rows : List Row) (job : Job) → (first_of (codes "IMAGE") rows ≡ None)
     ⊎ ((first_of (codes "TRACE") rows ≡ None) ⊎ (first_of (codes "OUT") rows ≡ None))
@@ -193,6 +204,7 @@ no_pcap rows (jobs.Pcap image trace output) (inr (inr none)) asks = search rules
 no_pcap rows (jobs.Debug image trace) none asks = search rules
 no_pcap rows (jobs.Titles files only) none asks = search rules
 no_pcap rows (jobs.Test files only form junit) none asks = search rules
+no_pcap rows (jobs.Join output images) none asks = search rules
 
 -- words that exclude each other ask for no titles, and for no cases that are played
 one_case_form : (rows : List Row) (form : CaseForm) → WantsTwoCaseForms rows → AsksForCaseForm rows form → ⊥
@@ -230,6 +242,24 @@ no_test rows (jobs.Test files only form junit) (inr (inr both)) asks =
     let lists : is_set (codes "list") rows ≡ true = both.0 in
     let plays : is_set (codes "list") rows ≡ false = asks.1 in
     cc
+no_test rows (jobs.Join output images) lacks asks = search rules
+
+pub no_join : (rows : List Row) (job : Job) → LacksJoin rows → AsksFor (codes "join", rows) job → ⊥
+no_join rows (jobs.One hex form) lacks asks = search rules
+no_join rows (jobs.Say hex server) lacks asks = search rules
+no_join rows (jobs.Spell statement) lacks asks = search rules
+no_join rows (jobs.Play file device from to form) lacks asks = search rules
+no_join rows (jobs.Asm input output) lacks asks = search rules
+no_join rows (jobs.Dis input) lacks asks = search rules
+no_join rows (jobs.Run image workers batch trace) lacks asks = search rules
+no_join rows (jobs.Check image trace json) lacks asks = search rules
+no_join rows (jobs.Show image trace device from to form) lacks asks = search rules
+no_join rows (jobs.Pcap image trace output) lacks asks = search rules
+no_join rows (jobs.Debug image trace) lacks asks = search rules
+no_join rows (jobs.Titles files only) lacks asks = search rules
+no_join rows (jobs.Test files only form junit) lacks asks = search rules
+no_join rows (jobs.Join output images) (inl none) asks = search rules
+no_join rows (jobs.Join output images) (inr none) asks = cc
 
 -- the words of a device on the network
 lacks_live : (rows : List Row) (live : Live) → LacksLive rows → AsksToLive (codes "live", rows) live → ⊥
@@ -253,6 +283,7 @@ live_alone rows (jobs.Pcap image trace output) asks = search rules
 live_alone rows (jobs.Debug image trace) asks = search rules
 live_alone rows (jobs.Titles files only) asks = search rules
 live_alone rows (jobs.Test files only form junit) asks = search rules
+live_alone rows (jobs.Join output images) asks = search rules
 
 pub not_live : (rows : List Row) (wanted : Asked) → LacksLive rows → MayAskFor (codes "live", rows) wanted → ⊥
 not_live rows (asked.Job job) lacks asks = live_alone rows job asks
@@ -261,12 +292,17 @@ not_live rows (asked.Live live) lacks asks = lacks_live rows live lacks asks
 not_live rows (asked.Fleet fleet) lacks asks = search rules
 not_live rows (asked.Text text is_mistake) lacks asks = absurd asks
 
+-- the words of a wire
+lacks_wire : (rows : List Row) (wire : AskedWire) → LacksWire rows → AsksForWire rows wire → ⊥
+lacks_wire rows wire (inl none) asks = none wire.late_by asks.5
+lacks_wire rows wire (inr none) asks = none wire.seed asks.6
+
 -- the words of devices on the network
 lacks_fleet : (rows : List Row) (fleet : AskedFleet) → LacksFleet rows → AsksForFleet (codes "fleet", rows) fleet → ⊥
 lacks_fleet rows fleet (inl none) asks = search rules
 lacks_fleet rows fleet (inr (inl none)) asks = none fleet.port asks.2
-lacks_fleet rows fleet (inr (inr (inl none))) asks = none fleet.seconds asks.3
-lacks_fleet rows fleet (inr (inr (inr none))) asks = search rules
+lacks_fleet rows fleet (inr (inr (inl none))) asks = search rules
+lacks_fleet rows fleet (inr (inr (inr lacks))) asks = lacks_wire rows fleet.wire lacks asks.9
 
 -- they ask for no job
 fleet_alone : (rows : List Row) (job : Job) → AsksFor (codes "fleet", rows) job → ⊥
@@ -283,6 +319,7 @@ fleet_alone rows (jobs.Pcap image trace output) asks = search rules
 fleet_alone rows (jobs.Debug image trace) asks = search rules
 fleet_alone rows (jobs.Titles files only) asks = search rules
 fleet_alone rows (jobs.Test files only form junit) asks = search rules
+fleet_alone rows (jobs.Join output images) asks = search rules
 
 pub not_fleet : (rows : List Row) (wanted : Asked) → LacksFleet rows → MayAskFor (codes "fleet", rows) wanted → ⊥
 not_fleet rows (asked.Job job) lacks asks = fleet_alone rows job asks
@@ -307,6 +344,7 @@ lacks_hex rows (jobs.Pcap image trace output) lacks asks = search rules
 lacks_hex rows (jobs.Debug image trace) lacks asks = search rules
 lacks_hex rows (jobs.Titles files only) lacks asks = search rules
 lacks_hex rows (jobs.Test files only form junit) lacks asks = search rules
+lacks_hex rows (jobs.Join output images) lacks asks = search rules
 
 lacks_log : (rows : List Row) (server : ℕ) → LacksSay rows → AsksForLog (codes "say", rows) server → ⊥
 lacks_log rows server (inl none) asks = search rules

@@ -101,7 +101,7 @@ live_app = with_rule (with_turns (with_port (new_app (codes "live")))) (flag (co
 
 -- `--seconds N`
 abbrev pub seconds : Rule
-seconds = number_from (codes "seconds") 1 4294967295 (codes "86400")
+seconds = optional_from (codes "seconds") 1 4294967295
 
 -- `--bind ADDRESS`
 abbrev pub bind : Rule
@@ -110,7 +110,7 @@ bind = text_or (codes "bind") (codes "127.0.0.1")
 -- `FILE PORT [--seconds N]`
 abbrev pub with_service : App → App
 with_service a =
-    with_rule (with_rule (with_rule a (needed (codes "FILE"))) (needed_number (codes "PORT") 1 65535)) seconds
+    with_rule (with_rule (with_rule a (needed (codes "FILE"))) (needed_number (codes "PORT") 0 65535)) seconds
 
 -- `--copies N`
 abbrev pub copies : Rule
@@ -124,15 +124,40 @@ with_rows a = with_rule (with_rule (with_rule a (text_option (codes "devices")))
 abbrev pub with_places : App → App
 with_places a = with_rule (with_rule a bind) (text_options (codes "server"))
 
+-- `[--lose-in WHICH] [--lose-out WHICH]`
+abbrev pub with_losses : App → App
+with_losses a = with_rule (with_rule a (text_option (codes "lose-in"))) (text_option (codes "lose-out"))
+
+-- `[--twice WHICH] [--swap WHICH] [--late WHICH]`
+abbrev pub with_moves : App → App
+with_moves a =
+    with_rule (with_rule (with_rule a (text_option (codes "twice"))) (text_option (codes "swap")))
+    (text_option (codes "late"))
+
+-- `--late-by N`
+abbrev pub late_by : Rule
+late_by = number_from (codes "late-by") 1 4294967295 (codes "1")
+
+-- `--seed N`
+abbrev pub seed : Rule
+seed = number (codes "seed") 4294967295 (codes "0")
+
+-- the words for a wire
+abbrev pub with_wire : App → App
+with_wire a = with_rule (with_rule (with_moves (with_losses a)) late_by) seed
+
 -- `[--save FILE] [--strict] [--json]`
 abbrev pub with_ends : App → App
 with_ends a =
     with_rule (with_rule (with_rule a (text_option (codes "save"))) (flag (codes "strict"))) (flag (codes "json"))
 
--- `fleet FILE PORT [--seconds N] [--devices A-B] [--copies N] [--play] [--bind ADDRESS] [--server S=ADDRESS[:PORT]] ..
--- [--save FILE] [--strict] [--json]`
+-- `fleet FILE PORT`, and its options
 abbrev pub fleet_app : App
-fleet_app = with_ends (with_places (with_rows (with_service (new_app (codes "fleet")))))
+fleet_app = with_ends (with_wire (with_places (with_rows (with_service (new_app (codes "fleet"))))))
+
+-- `join OUT IMAGE ..`
+abbrev pub join_app : App
+join_app = with_rule (with_rule (new_app (codes "join")) (needed (codes "OUT"))) (several (codes "IMAGE"))
 
 -- `FILE .. [--only WORDS]`
 abbrev pub with_cases : App → App
@@ -151,9 +176,9 @@ abbrev pub whole_app : App
 whole_app =
     with_subcommand (with_subcommand (with_subcommand (with_subcommand (with_subcommand (with_subcommand
     (with_subcommand (with_subcommand (with_subcommand (with_subcommand (with_subcommand (with_subcommand
-    (with_subcommand (with_subcommand (with_settings (new_app (codes "lwbench"))) one_app.top) say_app.top)
-    spell_app.top) play_app.top) asm_app.top) dis_app.top) run_app.top) check_app.top) show_app.top) pcap_app.top)
-    debug_app.top) live_app.top) fleet_app.top) test_app.top
+    (with_subcommand (with_subcommand (with_subcommand (with_settings (new_app (codes "lwbench"))) one_app.top)
+    say_app.top) spell_app.top) play_app.top) asm_app.top) dis_app.top) run_app.top) check_app.top) show_app.top)
+    pcap_app.top) debug_app.top) live_app.top) fleet_app.top) join_app.top) test_app.top
 
 -- a value that a run needs is not there
 abbrev pub LacksRun : List Row → Type 0
@@ -172,12 +197,19 @@ LacksLive rows =
     ⊎ (IsNoNumber 16 (one_of (codes "DEVICE") rows) ⊎ (IsNoNumber 16 (one_of (codes "PORT") rows)
     ⊎ IsNoNumber 32 (one_of (codes "TURNS") rows)))
 
+-- a value that a wire needs is not there
+abbrev pub LacksWire : List Row → Type 0
+LacksWire rows = IsNoNumber 32 (one_of (codes "late-by") rows) ⊎ IsNoNumber 32 (one_of (codes "seed") rows)
+
 -- a value that the devices on the network need is not there
 abbrev pub LacksFleet : List Row → Type 0
 LacksFleet rows =
     (first_of (codes "FILE") rows ≡ None)
-    ⊎ (IsNoNumber 16 (one_of (codes "PORT") rows) ⊎ (IsNoNumber 32 (one_of (codes "seconds") rows)
-    ⊎ (first_of (codes "bind") rows ≡ None)))
+    ⊎ (IsNoNumber 16 (one_of (codes "PORT") rows) ⊎ ((first_of (codes "bind") rows ≡ None) ⊎ LacksWire rows))
+
+-- `join` has no place for its image, or no image to join
+abbrev pub LacksJoin : List Row → Type 0
+LacksJoin rows = (first_of (codes "OUT") rows ≡ None) ⊎ (all_of (codes "IMAGE") rows ≡ None)
 
 -- `--list` stands beside `--tap`, `--json` or `--junit`, of which each wants cases that are played
 abbrev pub ListsAndPlays : List Row → Type 0

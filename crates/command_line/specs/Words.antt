@@ -13,6 +13,7 @@ use Rattle.command_line.specs.declared.words.Job.{Job}
 use Rattle.command_line.specs.declared.words.Job.TheVariants as jobs
 use Rattle.command_line.specs.declared.words.Live.{Live}
 use Rattle.command_line.specs.declared.fleet_words.AskedFleet.{AskedFleet}
+use Rattle.command_line.specs.declared.wire_words.AskedWire.{AskedWire}
 use Rattle.command_line.specs.declared.words.Asked.{Asked}
 use Rattle.command_line.specs.declared.words.Asked.TheVariants as asked
 use Rattle.command_line.specs.declared.words.TraceForm.{TraceForm}
@@ -110,11 +111,17 @@ commands =
     ∷ needed_number (codes "PORT") 0 65535 ∷ needed_number (codes "TURNS") 1 100000 ∷ text_option (codes "save")
     ∷ flag (codes "show") ∷ [])
     -- `fleet FILE PORT [--seconds N] [--devices A-B] [--copies N] [--play] [--bind ADDRESS]
-    -- [--server S=ADDRESS[:PORT]] .. [--save FILE] [--strict] [--json]`
-    ∷ command (codes "fleet") (needed (codes "FILE") ∷ needed_number (codes "PORT") 1 65535
-    ∷ number_from (codes "seconds") 1 4294967295 (codes "86400") ∷ text_option (codes "devices")
+    -- [--server S=ADDRESS[:PORT]] .. [--lose-in WHICH] [--lose-out WHICH] [--twice WHICH] [--swap WHICH]
+    -- [--late WHICH] [--late-by N] [--seed N] [--save FILE] [--strict] [--json]`
+    ∷ command (codes "fleet") (needed (codes "FILE") ∷ needed_number (codes "PORT") 0 65535
+    ∷ optional_from (codes "seconds") 1 4294967295 ∷ text_option (codes "devices")
     ∷ optional_from (codes "copies") 1 16384 ∷ flag (codes "play") ∷ text_or (codes "bind") (codes "127.0.0.1")
-    ∷ text_options (codes "server") ∷ text_option (codes "save") ∷ flag (codes "strict") ∷ flag (codes "json") ∷ [])
+    ∷ text_options (codes "server") ∷ text_option (codes "lose-in") ∷ text_option (codes "lose-out")
+    ∷ text_option (codes "twice") ∷ text_option (codes "swap") ∷ text_option (codes "late")
+    ∷ number_from (codes "late-by") 1 4294967295 (codes "1") ∷ number (codes "seed") 4294967295 (codes "0")
+    ∷ text_option (codes "save") ∷ flag (codes "strict") ∷ flag (codes "json") ∷ [])
+    -- `join OUT IMAGE ..`
+    ∷ command (codes "join") (needed (codes "OUT") ∷ several (codes "IMAGE") ∷ [])
     -- `test FILE .. [--only WORDS] [--list] [--tap] [--json] [--junit FILE]`
     ∷ command (codes "test") (several (codes "FILE") ∷ text_option (codes "only") ∷ flag (codes "list")
     ∷ flag (codes "tap") ∷ flag (codes "json") ∷ text_option (codes "junit") ∷ []) ∷ []
@@ -220,6 +227,9 @@ AsksFor found (jobs.Test files only form junit) =
     AsksForCases found (map (λ p. p.now) files.items) (option_map (λ w. w.now) only)
     × (is_set (codes "list") found.1 ≡ false) × AsksForCaseForm found.1 form
     × (first_of (codes "junit") found.1 ≡ option_map (λ p. p.now) junit)
+AsksFor found (jobs.Join output images) =
+    (found.0 ≡ codes "join") × IsText found (codes "OUT") output.now
+    × AreTexts found (codes "IMAGE") (map (λ p. p.now) images.items)
 
 -- a subcommand with its values asks for this device on the network
 abbrev pub AsksToLive : Word × List Row → Live → Type 0
@@ -230,17 +240,27 @@ AsksToLive found live =
     × (first_of (codes "save") found.1 ≡ option_map (λ p. p.now) live.save)
     × (is_set (codes "show") found.1 ≡ live.show)
 
+-- the words of `fleet` ask for this wire
+abbrev pub AsksForWire : List Row → AskedWire → Type 0
+AsksForWire rows wire =
+    (first_of (codes "lose-in") rows ≡ option_map (λ w. w.now) wire.lose_in)
+    × (first_of (codes "lose-out") rows ≡ option_map (λ w. w.now) wire.lose_out)
+    × (first_of (codes "twice") rows ≡ option_map (λ w. w.now) wire.twice)
+    × (first_of (codes "swap") rows ≡ option_map (λ w. w.now) wire.swap)
+    × (first_of (codes "late") rows ≡ option_map (λ w. w.now) wire.late)
+    × IsNumber 32 (one_of (codes "late-by") rows) wire.late_by × IsNumber 32 (one_of (codes "seed") rows) wire.seed
+
 -- a subcommand with its values asks for these devices on the network
 abbrev pub AsksForFleet : Word × List Row → AskedFleet → Type 0
 AsksForFleet found fleet =
     (found.0 ≡ codes "fleet") × IsText found (codes "FILE") fleet.file.now
     × IsNumber 16 (one_of (codes "PORT") found.1) fleet.port
-    × IsNumber 32 (one_of (codes "seconds") found.1) fleet.seconds
+    × IsOptionalNumber 32 (one_of (codes "seconds") found.1) fleet.seconds
     × (first_of (codes "devices") found.1 ≡ option_map (λ w. w.now) fleet.devices)
     × IsOptionalNumber 16 (one_of (codes "copies") found.1) fleet.copies × (is_set (codes "play") found.1 ≡ fleet.play)
     × IsText found (codes "bind") fleet.bind.now
     × (unwrap_or (all_of (codes "server") found.1) [] ≡ map (λ w. w.now) fleet.servers.items)
-    × (first_of (codes "save") found.1 ≡ option_map (λ p. p.now) fleet.save)
+    × AsksForWire found.1 fleet.wire × (first_of (codes "save") found.1 ≡ option_map (λ p. p.now) fleet.save)
     × (is_set (codes "strict") found.1 ≡ fleet.strict) × (is_set (codes "json") found.1 ≡ fleet.json)
 
 -- a subcommand with its values asks what the log says that standard input has: HEX is `-`

@@ -2,8 +2,8 @@
 ghost use Rattle.std.specs.Prelude.{◌≡◌, codes, false, IfOk};
 ghost use Rattle.clap.specs.Words.{app_of, rule_of};
 ghost use Rattle.command_line.specs.Words.{needed_number, text_options};
-ghost use Rattle.command_line.specs.Inside.{bind, copies, fleet_app, seconds, with_ends, with_places, with_rows};
-ghost use Rattle.command_line.specs.Inside.{with_service};
+ghost use Rattle.command_line.specs.Inside.{bind, copies, fleet_app, late_by, seconds, seed, with_ends, with_losses};
+ghost use Rattle.command_line.specs.Inside.{with_moves, with_places, with_rows, with_service, with_wire};
 
 use crate::help;
 use crate::subcommands::{described, flag, needed, text_option};
@@ -15,8 +15,8 @@ pub(crate) fn fleet_command<'a>(alloc: Global) -> Result<Command<'a>, AllocError
 {
     let about = "Lets all devices of a scenario answer, each at a UDP port of its own";
     let service = with_service(alloc, described(alloc, "fleet", about, help::FLEET))?;
-    let rows = with_rows(alloc, service)?;
-    with_ends(alloc, with_places(alloc, rows)?)
+    let places = with_places(alloc, with_rows(alloc, service)?)?;
+    with_ends(alloc, with_wire(alloc, places)?)
 }
 
 /// Adds the words for what is left of the devices, for the status, and for the form of what is told.
@@ -29,6 +29,61 @@ fn with_ends<'a>(alloc: Global, command: Command<'a>) -> Result<Command<'a>, All
     );
     let json = flag(alloc, "json").help("Prints JSON Lines, for scripts");
     command.arg(save)?.arg(strict)?.arg(json)
+}
+
+/// Adds the words for a wire that loses datagrams.
+fn with_losses<'a>(alloc: Global, command: Command<'a>) -> Result<Command<'a>, AllocError>
+    ensures { IfOk result (λ c. app_of c ≡ with_losses (app_of command.entry)) }
+{
+    let lose_in = text_option(alloc, "lose-in", "WHICH").help(
+        "Loses these on their way to a device: 10%, or numbers as 2,5-6",
+    );
+    let lose_out = text_option(alloc, "lose-out", "WHICH").help(
+        "Loses these on their way from a device",
+    );
+    command.arg(lose_in)?.arg(lose_out)
+}
+
+/// Adds the words for a wire that doubles, exchanges and delays datagrams.
+fn with_moves<'a>(alloc: Global, command: Command<'a>) -> Result<Command<'a>, AllocError>
+    ensures { IfOk result (λ c. app_of c ≡ with_moves (app_of command.entry)) }
+{
+    let twice = text_option(alloc, "twice", "WHICH").help("Delivers these twice");
+    let swap = text_option(alloc, "swap", "WHICH").help("Delivers these after the next one");
+    let late = text_option(alloc, "late", "WHICH").help("Delivers these late");
+    command.arg(twice)?.arg(swap)?.arg(late)
+}
+
+/// Adds the words for a wire that does not just carry datagrams.
+fn with_wire<'a>(alloc: Global, command: Command<'a>) -> Result<Command<'a>, AllocError>
+    ensures { IfOk result (λ c. app_of c ≡ with_wire (app_of command.entry)) }
+{
+    let moves = with_moves(alloc, with_losses(alloc, command)?)?;
+    moves.arg(late_by(alloc))?.arg(seed(alloc))
+}
+
+fn late_by<'a>(alloc: Global) -> Arg<'a>
+    ensures rule { rule_of result ≡ late_by }
+    ensures local { result.global ≡ false }
+{
+    Arg::new(alloc, "late-by")
+        .long("late-by")
+        .value_name("N")
+        .value_parser(value_parser!(u32).range(1..=4_294_967_295))
+        .default_value("1")
+        .help("How many seconds late, 1 to 4294967295")
+}
+
+fn seed<'a>(alloc: Global) -> Arg<'a>
+    ensures rule { rule_of result ≡ seed }
+    ensures local { result.global ≡ false }
+{
+    Arg::new(alloc, "seed")
+        .long("seed")
+        .value_name("N")
+        .value_parser(value_parser!(u32))
+        .default_value("0")
+        .help("What is drawn for a share begins from this number")
 }
 
 /// Adds the words for the devices of a scenario, the first of their ports, and how long they go on.
@@ -60,13 +115,13 @@ fn with_places<'a>(alloc: Global, command: Command<'a>) -> Result<Command<'a>, A
 }
 
 fn port<'a>(alloc: Global) -> Arg<'a>
-    ensures rule { rule_of result ≡ needed_number (codes "PORT") 1 65535 }
+    ensures rule { rule_of result ≡ needed_number (codes "PORT") 0 65535 }
     ensures local { result.global ≡ false }
 {
     Arg::new(alloc, "PORT")
         .required(true)
-        .value_parser(value_parser!(u16).range(1..=65_535))
-        .help("The UDP port of the first device, 1 to 65535")
+        .value_parser(value_parser!(u16))
+        .help("The UDP port of the first device (0: any free port for each)")
 }
 
 fn seconds<'a>(alloc: Global) -> Arg<'a>
@@ -77,7 +132,6 @@ fn seconds<'a>(alloc: Global) -> Arg<'a>
         .long("seconds")
         .value_name("N")
         .value_parser(value_parser!(u32).range(1..=4_294_967_295))
-        .default_value("86400")
         .help("For how many seconds they go on, 1 to 4294967295")
 }
 

@@ -5,6 +5,7 @@ ghost use Rattle.command_line.specs.Words.{AsksForFleet};
 ghost use Rattle.command_line.specs.Inside.{LacksFleet};
 
 use crate::values::{flag, number, small_number, value_of, values_of};
+use crate::wire_words::{AskedWire, wire_of};
 use clap::ArgMatches;
 use std::alloc::{AllocError, Global};
 
@@ -13,10 +14,10 @@ use std::alloc::{AllocError, Global};
 pub struct AskedFleet<'a> {
     /// The path of the scenario's text or image.
     pub file: &'a str,
-    /// The UDP port of the first device; each device has the next one.
+    /// The UDP port of the first device; each device has the next one. 0: each has a port that the system chooses.
     pub port: u16,
-    /// For how many seconds they go on.
-    pub seconds: u32,
+    /// For how many seconds they go on; where it is not given, until they are asked to end.
+    pub seconds: Option<u32>,
     /// Which rows have a device, as `A-B`; where it is not given, all have.
     pub devices: Option<&'a str>,
     /// How many devices there are, 1 to 16,384: the rows over and over; where it is not given, each row is one.
@@ -27,6 +28,8 @@ pub struct AskedFleet<'a> {
     pub bind: &'a str,
     /// Where servers are, each as `S=ADDRESS` or `S=ADDRESS:PORT`.
     pub servers: Vec<&'a str>,
+    /// What happens to datagrams between the devices and their ports.
+    pub wire: AskedWire<'a>,
     /// Where the image of what happened goes, if anywhere.
     pub save: Option<&'a str>,
     /// Whether the status tells that a datagram was dropped or lost.
@@ -59,12 +62,13 @@ fn fleet_with<'a>(found: &ArgMatches<'a>, servers: Vec<&'a str>) -> Option<Asked
     Some(AskedFleet {
         file: value_of(found, "FILE")?,
         port: small_number(found, "PORT")?,
-        seconds: number(found, "seconds")?,
+        seconds: number(found, "seconds"),
         devices: value_of(found, "devices"),
         copies: small_number(found, "copies"),
         play: flag(found, "play"),
         bind: value_of(found, "bind")?,
         servers,
+        wire: wire_of(found)?,
         save: value_of(found, "save"),
         strict: flag(found, "strict"),
         json: flag(found, "json"),

@@ -179,21 +179,39 @@ pub const FLEET: &str =
     "Reads FILE: what begins with LWSC is a scenario's image, any other file its text. Starts the devices of it,
 without the steps of their rows, and lets each answer the datagrams that arrive at a UDP port of its own:
 device d at PORT + d of the address of `--bind`, or, with `--devices`, only devices A to B, device A at
-PORT. With `--copies` there are N devices, 1 to 16384: the rows over and over. With `--play` the steps of
-the rows happen as seconds pass. With `--server` the server S of all devices is at that address, at any
-port of it or at this one; an IPv6 address with a port is in brackets. Once all ports are there, prints on
-standard error
+PORT. Where PORT is 0, each is at a port that the system chooses, and a line for each says which:
+  device D at port P
+With `--copies` there are N devices, 1 to 16384: the rows over and over. With `--play` the steps of the rows
+happen as seconds pass. With `--server` the server S of all devices is at that address, at any port of it or
+at this one; an IPv6 address with a port is in brackets. Once all ports are there, prints on standard error
   lwbench: ready N at ADDRESS:PORT
-After so many seconds as `--seconds` says, a day if it is not given, it ends. Writes the image of what
-happened to the FILE of `--save`, which is replaced where it exists, and no file without it: the steps of
-each device, at most 4096. At the end prints
+It ends after so many seconds as `--seconds` says, or, if it is not given, when standard input ends; and when
+a line of standard input is q. Writes the image of what happened to the FILE of `--save`, which is replaced
+where it exists, and no file without it: the steps of each device, at most 4096. At the end prints
   done seconds S devices N received N sent N dropped N lost N
 A datagram is dropped that comes from no account of its device, or is longer than 1500 bytes; one is lost
 that the system did not take. With `--strict` the status is 3 where one was dropped or lost. With `--json`
-prints JSON Lines in place of this line: when all ports are there, each second, and at the end.
+prints JSON Lines in place of these lines: when all ports are there, each second, and at the end.
+
+A wire between the devices and their ports loses, doubles, exchanges and delays datagrams. WHICH is a share,
+as 10%, or a list of numbers, as 2,5-6: the datagrams of each device that go one way count from 1. One that
+is swapped goes right after the next one, one that is late after `--late-by` seconds. The line at the end then
+goes on
+  wire lost N twice N swapped N late N
 
 Example:
   lwbench fleet reader.txt 20000 --seconds 60";
+
+pub const JOIN: &str =
+    "Reads each IMAGE, a scenario's image. All have the same classes. Writes to OUT, which is replaced where it
+exists, the image of a scenario of these classes, which has the rows of the first, then those of the second,
+and so on; no other file. If the images are given as A-B=IMAGE, each has the devices A to B, as `fleet` saves
+them with `--devices A-B`; they may come in any order, and no device between the first and the last of all
+may be missing, or be there twice. Prints
+  joined N devices of N images
+
+Example:
+  lwbench join night.image 0-999=first.image 1000-1999=second.image";
 
 pub const TEST: &str =
     "Reads each FILE, which is UTF-8, and then plays the cases, file by file; with `--only` those whose titles

@@ -3,7 +3,8 @@ ghost use Rattle.std.specs.Prelude.{◌≡◌, ◌≢◌, ◌⊎◌, None, Some,
 ghost use Rattle.clap.specs.Words.{all_of, first_of, found_of, rows_of};
 ghost use Rattle.command_line.specs.declared.words.Job.{Job as JobData};
 ghost use Rattle.command_line.specs.Words.{AsksFor, AsksForCaseForm, AsksForForm};
-ghost use Rattle.command_line.specs.Inside.{ExcludesInTest, LacksOne, LacksPlay, LacksRun, LacksShow, LacksTest};
+ghost use Rattle.command_line.specs.Inside.{ExcludesInTest, LacksJoin, LacksOne, LacksPlay, LacksRun, LacksShow};
+ghost use Rattle.command_line.specs.Inside.{LacksTest};
 ghost use Rattle.command_line.specs.Inside.{WantsTwoCaseForms, WantsTwoForms};
 
 use crate::values::{flag, number, small_number, value_of, values_of};
@@ -11,7 +12,7 @@ use crate::words::{CaseForm, Job, TraceForm};
 use clap::ArgMatches;
 use std::alloc::{AllocError, Global};
 
-#[tactic(auto, using(crate::proofs::Asking::no_one, crate::proofs::Asking::no_spell, crate::proofs::Asking::no_play, crate::proofs::Asking::no_asm, crate::proofs::Asking::no_dis, crate::proofs::Asking::no_run, crate::proofs::Asking::no_check, crate::proofs::Asking::no_show, crate::proofs::Asking::no_pcap, crate::proofs::Asking::no_debug, crate::proofs::Asking::no_test))]
+#[tactic(auto, using(crate::proofs::Asking::no_one, crate::proofs::Asking::no_spell, crate::proofs::Asking::no_play, crate::proofs::Asking::no_asm, crate::proofs::Asking::no_dis, crate::proofs::Asking::no_run, crate::proofs::Asking::no_check, crate::proofs::Asking::no_show, crate::proofs::Asking::no_pcap, crate::proofs::Asking::no_debug, crate::proofs::Asking::no_test, crate::proofs::Asking::no_join))]
 pub(crate) fn job_in<'a>(
     alloc: Global,
     name: &str,
@@ -34,6 +35,7 @@ pub(crate) fn job_in<'a>(
         "pcap" => Ok(pcap_job(found)),
         "debug" => Ok(debug_job(found)),
         "test" => test_job(alloc, found),
+        "join" => join_job(alloc, found),
         _ => Ok(None),
     }
 }
@@ -171,6 +173,19 @@ fn test_job<'a>(alloc: Global, found: &ArgMatches<'a>) -> Result<Option<Job<'a>>
 {
     match values_of(alloc, found, "FILE")? {
         Some(files) => Ok(cases_job(found, files)),
+        None => Ok(None),
+    }
+}
+
+fn join_job<'a>(alloc: Global, found: &ArgMatches<'a>) -> Result<Option<Job<'a>>, AllocError>
+    ensures some { IfOk result (λ o. IfSome o (AsksFor (codes "join", rows_of (found_of found.now)))) }
+    ensures none { IfOk result (λ o. IfNone o (LacksJoin (rows_of (found_of found.now)))) }
+{
+    let Some(output) = value_of(found, "OUT") else {
+        return Ok(None);
+    };
+    match values_of(alloc, found, "IMAGE")? {
+        Some(images) => Ok(Some(Job::Join { output, images })),
         None => Ok(None),
     }
 }

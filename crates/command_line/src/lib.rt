@@ -7,7 +7,9 @@ mod help;
 mod jobs;
 mod subcommands;
 mod values;
+mod wire_words;
 mod words;
 
 pub use fleet_words::AskedFleet;
+pub use wire_words::AskedWire;
 pub use words::{Asked, CaseForm, Job, Live, NO_TEXT, TraceForm, read};

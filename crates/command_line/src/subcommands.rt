@@ -3,7 +3,7 @@ ghost use Rattle.std.specs.Prelude.{◌≡◌, codes, false, true, IfOk};
 ghost use Rattle.clap.specs.Words.{App, app_of, new_app, rule_of, with_rule, with_subcommand};
 ghost use Rattle.command_line.specs.Words.{flag, needed, needed_number, optional_number, several, text_option};
 ghost use Rattle.command_line.specs.Words.{with_settings};
-ghost use Rattle.command_line.specs.Inside.{asm_app, batch, check_app, debug_app, dis_app, fleet_app, live_app};
+ghost use Rattle.command_line.specs.Inside.{asm_app, batch, check_app, debug_app, dis_app, fleet_app, join_app, live_app};
 ghost use Rattle.command_line.specs.Inside.{one_app, pcap_app, play_app, run_app, say_app, server, show_app};
 ghost use Rattle.command_line.specs.Inside.{spell_app, test_app, whole_app, with_cases, with_forms, with_port};
 ghost use Rattle.command_line.specs.Inside.{with_range, with_selection, with_trace, with_trace_forms, with_turns};
@@ -63,9 +63,11 @@ fn with_traces<'a>(alloc: Global, command: Command<'a>) -> Result<Command<'a>, A
 }
 
 fn with_fleet<'a>(alloc: Global, command: Command<'a>) -> Result<Command<'a>, AllocError>
-    ensures { IfOk result (λ c. app_of c ≡ with_subcommand (app_of command.entry) fleet_app.top) }
+    ensures { IfOk result (λ c. app_of c ≡ with_subcommand (with_subcommand (app_of command.entry) fleet_app.top)
+        join_app.top) }
 {
-    with_subcommand(Ok(command), fleet_command(alloc))
+    let fleet = with_subcommand(Ok(command), fleet_command(alloc));
+    with_subcommand(fleet, join_command(alloc))
 }
 
 fn with_test<'a>(alloc: Global, command: Command<'a>) -> Result<Command<'a>, AllocError>
@@ -323,6 +325,15 @@ fn with_port<'a>(alloc: Global, command: Command<'a>) -> Result<Command<'a>, All
         .arg(needed(alloc, "IMAGE").help("The scenario, as an image"))?
         .arg(needed_small(alloc, "DEVICE").help("The number of the device"))?
         .arg(needed_small(alloc, "PORT").help("Its UDP port (0: any free port)"))
+}
+
+fn join_command<'a>(alloc: Global) -> Result<Command<'a>, AllocError>
+    ensures { IfOk result (λ c. app_of c ≡ join_app) }
+{
+    let about = "Makes one scenario of the rows of several";
+    described(alloc, "join", about, help::JOIN)
+        .arg(needed(alloc, "OUT").help("Where its image goes"))?
+        .arg(several(alloc, "IMAGE").help("An image whose rows it has, as IMAGE or A-B=IMAGE"))
 }
 
 fn test_command<'a>(alloc: Global) -> Result<Command<'a>, AllocError>

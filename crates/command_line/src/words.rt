@@ -179,6 +179,13 @@ pub enum Job<'a> {
         /// Where the JUnit report goes, if anywhere.
         junit: Option<&'a str>,
     },
+    /// One scenario of the rows of several.
+    Join {
+        /// Where its image goes.
+        output: &'a str,
+        /// The paths of the scenarios' images, each alone or as `A-B=IMAGE`.
+        images: Vec<&'a str>,
+    },
 }
 
 /// A device that receives the datagrams of the network, and answers them.

@@ -40,10 +40,13 @@ unsaved_run s options r right faults.PastEnd h = absurd h
 unsaved_run s options r right faults.Range h = absurd h
 unsaved_run s options r right faults.TooLong h = absurd h
 unsaved_run s options r right faults.Bind h = absurd h
+unsaved_run s options r right faults.Wire h = absurd h
 unsaved_run s options r right (faults.Session fault) h = absurd h
 unsaved_run s options r right (faults.Cases fault) h = absurd h
 unsaved_run s options r right faults.NoSuchCase h = absurd h
 unsaved_run s options r right faults.NoDatagram h = absurd h
+unsaved_run s options r right faults.OtherClasses h = absurd h
+unsaved_run s options r right faults.Slices h = absurd h
 
 -- a run that was refused, or not ended
 pub run_fault_is : (s : Scenario) (options : RunOptions) (f : RunFault)
