@@ -1,0 +1,8 @@
+use Rattle.std.proofs.Common.{rules}
+use Rattle.std.proofs.lemmas.List.Sorted.{IsNonDecreasingBy-from_sort_by_key}
+use Rattle.command_join.specs.Slices.{first_of}
+use Rattle.command_join.proofs.order.sort_slices.Goals as goal
+
+pub returns-clause-sorted : goal.returns-clause-sorted
+returns-clause-sorted c =
+    IsNonDecreasingBy-from_sort_by_key first_of _ c.in_ok-sort_by_key.ensures.sorted (λ a r q k. search rules)

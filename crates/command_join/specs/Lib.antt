@@ -1,0 +1,3 @@
+pub mod Join
+pub mod Order
+pub mod Slices
