@@ -1,5 +1,7 @@
+pub mod Choices
 pub mod Fixed
 pub mod Objects
 pub mod Parts
 pub mod Sessions
+pub mod Settled
 pub mod Told

@@ -81,14 +81,3 @@ no_range text first last (Some devices) before behind none = tt
 no_range text first last None before behind none =
     λ devices is. none devices (subst (λ t. SpellsNumber 16 t devices.first) (sym before) is.first)
     (subst (λ t. SpellsNumber 16 t devices.last) (sym behind) is.last)
-
--- ---- the end
-
--- a session ended at its last second, or otherwise, and then its devices were brought to it
-pub ended_on : (seconds until now then : ℕ) (rb ra ab aa az : Option (List ℕ)) (first next : Option ℕ) (calls : ℕ)
-    → until ≡ seconds → then ≡ now → next ≡ first → AreRead aa az []
-    → (until ≤ now) ⊎ AreAsked rb ra ab aa first now calls → (seconds ≤ then) ⊎ AreAsked rb ra ab az next then calls
-ended_on seconds until now then rb ra ab aa az first next calls same at is none (inl h) =
-    inl (omega (arith, h, same, at))
-ended_on seconds until now then rb ra ab aa az first next calls same at is none (inr h) =
-    inr (asked_on rb ra ab aa az first next now then calls h none is at)

@@ -1,16 +1,18 @@
 -- Devices on UDP: what their session came to, put together from its parts.
-use Rattle.std.proofs.Common.{ℕ, Bool, Bor, ◌≡◌, ◌⊎◌, ◌≤◌, arith, List, [], ◌∷◌, length, map, Option, None, Some, inl, inr}
-use Rattle.std.proofs.Common.{IfErr, IfOk, Result, Ok, Err, option_map, false, refl, sym, subst, ap, ◌∙◌}
+use Rattle.std.proofs.Common.{ℕ, Bool, Bor, ◌==◌, ◌≡◌, ◌⊎◌, ◌≤◌, arith, List, [], ◌∷◌, length, map, Option, None, Some, inl, inr}
+use Rattle.std.proofs.Common.{IfErr, IfOk, Result, Ok, Err, option_map, false, true, refl, sym, subst, ap, ◌∙◌}
 use Rattle.std.specs.Io.KnownBytes.{Appends}
 use Rattle.std.specs.declared.net.socket_addr.SocketAddr.{SocketAddr}
 use Rattle.command_line.specs.declared.fleet_words.AskedFleet.{AskedFleet}
+use Rattle.command_line.specs.declared.wire_words.AskedWire.{AskedWire}
+use Rattle.fleet_wire.specs.declared.plan.Plan.{Plan}
+use Rattle.fleet_wire.specs.Over.{Fixed}
 use Rattle.scenario_image.specs.declared.fault.ScenarioFault.{ScenarioFault}
 use Rattle.scenario_image.specs.declared.fault.ScenarioFault.TheVariants as session
 use Rattle.scenario_image.specs.Image.{IsImageIn}
 use Rattle.scenario_image.specs.Scenario.{Scenario}
 use Rattle.fleet_link.specs.declared.directory.FixedServer.{FixedServer}
 use Rattle.fleet_link.specs.declared.slot.Slot.{Slot}
-use Rattle.fleet_link.specs.Counting.{AreCountsOf}
 use Rattle.fleet_link.specs.Saved.{IsSaved}
 use Rattle.fleet_link.specs.Serving.{AreAt, IsFleet}
 use Rattle.fleet_link.specs.Timing.{AreAsked}
@@ -32,9 +34,10 @@ use Rattle.command_fleet.specs.Servers.{AreServers, IsServersFault}
 use Rattle.command_fleet.specs.Fleet.{AreMissing, AreReady, IsConcluded, IsEndless, IsFleetDone, IsFleetFault, IsPlace}
 use Rattle.command_fleet.specs.Fleet.{IsReadyTold, IsSaveFault, IsSavedAt, IsSavedIf, IsServed, IsSessionCut}
 use Rattle.command_fleet.specs.Fleet.{IsSessionDone, IsSessionFault, IsUnconcluded, IsUnfit, IsUnsaved, IsUnstarted}
-use Rattle.command_fleet.specs.Fleet.{IsUntold, Session, cut_of, line_of, ready_line, ready_text, status_of}
-use Rattle.command_fleet.specs.Fleet.{telling_for}
+use Rattle.command_fleet.specs.Fleet.{AreFree, IsHeldDone, IsHeldFault, IsUntold, Session, cut_of, has_passed}
+use Rattle.command_fleet.specs.Fleet.{line_of, opening_text, ready_line, status_of, telling_for}
 use Rattle.command_fleet.specs.Telling.{AreTold, IsCut, telling_of}
+use Rattle.command_fleet.specs.Wires.{IsAccount, IsNoPlan, IsPlanBy, IsPlanned, IsWireBy, Wired}
 
 -- ---- the scenario of a session
 
@@ -72,7 +75,7 @@ pub concluded : (before after : World) (asked : AskedFleet) (part : Scenario) (s
     (cut : ℕ) → cut ≡ cut_of (option_map (λ p. p.now) asked.save) session.slots
     → Appends before.streams.output after.streams.output (line_of asked.json cut session)
     → IsSavedIf before.made after.made (option_map (λ p. p.now) asked.save) part session.slots
-    → status ≡ status_of asked.strict session.counts → IsConcluded before after asked part session status
+    → status ≡ status_of asked.strict session.account.counts → IsConcluded before after asked part session status
 concluded before after asked part session status cut is printed saved ended = record {
   printed = subst (λ n. Appends before.streams.output after.streams.output (line_of asked.json n session)) is printed;
   saved = saved;
@@ -155,6 +158,19 @@ ports_refused files streams before after asked terminal s devices fault found ch
     (why_unbound asked s devices fault chosen why) silent
     untold
 
+pub plan_refused : (files : FilesKnown) (streams : StreamFaults) (before after : Streams) (asked : AskedFleet)
+    (terminal : Bool) (s : Scenario) (fault : Fault)
+    → IsHeld files.holds asked.file.now (λ bytes. IsScenarioOf bytes s)
+    → (fault ≡ faults.Memory) ⊎ ((fault ≡ faults.Wire) × IsNoPlan asked.wire)
+    → after.output ≡ before.output → after.errors ≡ before.errors
+    → IsFleetFault files streams before after asked terminal fault
+plan_refused files streams before after asked terminal s fault found (inl memory) silent untold =
+    unstarted files streams before after asked terminal s fault found
+    (subst (IsUnstarted asked s) (sym memory) tt) silent untold
+plan_refused files streams before after asked terminal s fault found (inr none) silent untold =
+    unstarted files streams before after asked terminal s fault found
+    (subst (IsUnstarted asked s) (sym none.0) none.1) silent untold
+
 pub place_refused : (files : FilesKnown) (streams : StreamFaults) (before after : Streams) (asked : AskedFleet)
     (terminal : Bool)
     (s : Scenario) (devices : Devices) (fault : Fault)
@@ -223,51 +239,58 @@ endless rb ra ab aa first now h = record {
   second_is = h.now_is;
 }
 
-pub served : (s : Scenario) (played : Bool) (seconds : ℕ) (session : Session) (before after : ℕ → Option Traffic)
-    (rb ra ab aa : Option (List ℕ)) (first : Option ℕ)
+-- it had its seconds, or was asked to end; else its clock was read too often
+pub ended_so : (seconds : Option ℕ) (quit : Type 0) (second now : ℕ) (rb ra ab aa : Option (List ℕ)) (first : Option ℕ)
+    → now ≡ second
+    → (has_passed seconds second ≡ true) ⊎ (quit ⊎ AreAsked rb ra ab aa first second 18446744073709551615)
+    → (has_passed seconds now ≡ true) ⊎ (quit ⊎ IsEndless now)
+ended_so seconds quit second now rb ra ab aa first same (inl h) =
+    inl (subst (λ n. has_passed seconds n ≡ true) (sym same) h)
+ended_so seconds quit second now rb ra ab aa first same (inr (inl h)) = inr (inl h)
+ended_so seconds quit second now rb ra ab aa first same (inr (inr h)) =
+    inr (inr (subst IsEndless (sym same) (endless rb ra ab aa first second h)))
+
+pub served : (s : Scenario) (played : Bool) (seconds : Option ℕ) (quit : Bool) (wire : Option Wired)
+    (session : Session) (before after : ℕ → Option Traffic)
     → IsFleet s played before session.slots session.second false after
     → AreAt session.slots (length session.slots) session.second
-    → (seconds ≤ session.second) ⊎ AreAsked rb ra ab aa first session.second 18446744073709551615
-    → ((e : ℕ) → before e ≡ Some no_traffic) → AreCountsOf after session.counts → IsServed s played seconds session
-served s played seconds session before after rb ra ab aa first fleet finished ended new counted = record {
+    → (has_passed seconds session.second ≡ true) ⊎ ((quit ≡ true) ⊎ IsEndless session.second)
+    → ((e : ℕ) → before e ≡ Some no_traffic) → IsAccount wire after session.account
+    → IsServed s played seconds quit wire session
+served s played seconds quit wire session before after fleet finished ended new counted = record {
   before = before;
   new = new;
   after = after;
   counted = counted;
   fleet = fleet;
   finished = finished;
-  ended = so ended;
+  ended = ended;
 }
-  where
-    so : (seconds ≤ session.second) ⊎ AreAsked rb ra ab aa first session.second 18446744073709551615
-        → (seconds ≤ session.second) ⊎ IsEndless session.second
-    so (inl h) = inl h
-    so (inr h) = inr (endless rb ra ab aa first session.second h)
 
 -- that the devices are there, told of as many as there are rows
-pub ready_told : (json : Bool) (rows devices : ℕ) (place : SocketAddr) (before after : Streams) → devices ≡ rows
-    → Appends before.errors after.errors (ready_line devices place)
-    → Appends before.output after.output (ready_text json devices place)
-    → IsReadyTold json rows place before after
-ready_told json rows devices place before after same shown printed =
-    subst (λ n. IsReadyTold json n place before after) same (record { shown = shown; printed = printed })
+pub ready_told : (json : Bool) (rows devices : ℕ) (place : SocketAddr) (ports : List ℕ) (before after : Streams)
+    → devices ≡ rows → Appends before.errors after.errors (ready_line devices place)
+    → Appends before.output after.output (opening_text json devices place ports)
+    → IsReadyTold json rows place ports before after
+ready_told json rows devices place ports before after same shown printed =
+    subst (λ n. IsReadyTold json n place ports before after) same (record { shown = shown; printed = printed })
 
 pub line_refused : (streams : StreamFaults) (before after : Streams) (asked : AskedFleet) (part : Scenario)
-    (place : SocketAddr) (devices : ℕ) (fault : Fault) → devices ≡ length part.rows
+    (place : SocketAddr) (ports : List ℕ) (devices : ℕ) (fault : Fault) → devices ≡ length part.rows
     → IsWritingFault (streams.errors_refuse (ready_line devices place)) fault → after.output ≡ before.output
-    → IsUntold streams before after asked part place fault
-line_refused streams before after asked part place devices fault same why silent =
+    → IsUntold streams before after asked part place ports fault
+line_refused streams before after asked part place ports devices fault same why silent =
     inl (subst (λ n. IsWritingFault (streams.errors_refuse (ready_line n place)) fault) same why, silent)
 
-pub object_refused : (streams : StreamFaults) (before after : Streams) (asked : AskedFleet) (part : Scenario)
-    (place : SocketAddr) (devices : ℕ) (fault : Fault) → devices ≡ length part.rows
+pub opening_refused : (streams : StreamFaults) (before after : Streams) (asked : AskedFleet) (part : Scenario)
+    (place : SocketAddr) (ports : List ℕ) (devices : ℕ) (fault : Fault) → devices ≡ length part.rows
     → Appends before.errors after.errors (ready_line devices place)
-    → IsWritingFault (streams.output_refuses (ready_text asked.json devices place)) fault
-    → IsUntold streams before after asked part place fault
-object_refused streams before after asked part place devices fault same told why =
+    → IsWritingFault (streams.output_refuses (opening_text asked.json devices place ports)) fault
+    → IsUntold streams before after asked part place ports fault
+opening_refused streams before after asked part place ports devices fault same told why =
     inr (
       subst (λ n. Appends before.errors after.errors (ready_line n place)) same told,
-      subst (λ n. IsWritingFault (streams.output_refuses (ready_text asked.json n place)) fault) same why,
+      subst (λ n. IsWritingFault (streams.output_refuses (opening_text asked.json n place ports)) fault) same why,
     )
 
 -- how the seconds are told, of as many devices as there are rows
@@ -281,18 +304,24 @@ abbrev pub without_errors : Streams → Streams
 without_errors streams = record { input = None; output = streams.output; errors = None }
 
 pub done_if : (before after : World) (asked : AskedFleet) (terminal : Bool) (part : Scenario) (place : SocketAddr)
-    (session : Session) (telling : Telling) (first last : Streams) (r : Result Status Refusal)
-    → IsReadyTold asked.json (length part.rows) place before.streams first
-    → IsServed part asked.play asked.seconds session → telling ≡ telling_for asked terminal part
+    (ports : List ℕ) (quit : Bool) (wire : Option Wired) (session : Session) (telling : Telling) (first last : Streams)
+    (r : Result Status Refusal)
+    → IsReadyTold asked.json (length part.rows) place ports before.streams first
+    → IsWireBy asked.wire (length part.rows) wire
+    → IsServed part asked.play asked.seconds quit wire session → telling ≡ telling_for asked terminal part
     → AreTold telling session.second first last → after.streams.errors ≡ last.errors
     → IfOk r (IsConcluded (record { made = before.made; streams = without_errors last })
     (record { made = after.made; streams = without_errors after.streams }) asked part session)
-    → IfOk r (IsSessionDone before after asked terminal part place)
-done_if before after asked terminal part place session telling first last (Err e) opened were is told quiet done = tt
-done_if before after asked terminal part place session telling first last (Ok status) opened were is told quiet done =
+    → IfOk r (IsSessionDone before after asked terminal part place ports quit)
+done_if before after asked terminal part place ports quit wire session telling first last (Err e) opened wired were is
+    told quiet done = tt
+done_if before after asked terminal part place ports quit wire session telling first last (Ok status) opened wired were
+    is told quiet done =
     record {
       first = first;
       ready_told = opened;
+      wire = wire;
+      wire_is = wired;
       session = session;
       served = were;
       last = last;
@@ -302,31 +331,33 @@ done_if before after asked terminal part place session telling first last (Ok st
     }
 
 pub cut_if : (streams : StreamFaults) (before after : Streams) (asked : AskedFleet) (terminal : Bool) (part : Scenario)
-    (place : SocketAddr) (telling : Telling) (first : Streams) (fault : Fault)
-    → IsReadyTold asked.json (length part.rows) place before first → telling ≡ telling_for asked terminal part
+    (place : SocketAddr) (ports : List ℕ) (telling : Telling) (first : Streams) (fault : Fault)
+    → IsReadyTold asked.json (length part.rows) place ports before first → telling ≡ telling_for asked terminal part
     → IsCut telling streams first after fault
-    → IsSessionCut streams before after asked terminal part place fault
-cut_if streams before after asked terminal part place telling first fault opened is cut = record {
+    → IsSessionCut streams before after asked terminal part place ports fault
+cut_if streams before after asked terminal part place ports telling first fault opened is cut = record {
   first = first;
   ready_told = opened;
   cut = subst (λ t. IsCut t streams first after fault) is cut;
 }
 
 pub lost_if : (files : FilesKnown) (streams : StreamFaults) (before after : Streams) (asked : AskedFleet)
-    (terminal : Bool) (part : Scenario) (place : SocketAddr) (session : Session) (telling : Telling)
-    (first last : Streams) (r : Result Status Refusal)
-    → IsReadyTold asked.json (length part.rows) place before first
-    → IsServed part asked.play asked.seconds session → telling ≡ telling_for asked terminal part
+    (terminal : Bool) (part : Scenario) (place : SocketAddr) (ports : List ℕ) (quit : Bool) (wire : Option Wired)
+    (session : Session) (telling : Telling) (first last : Streams) (r : Result Status Refusal)
+    → IsReadyTold asked.json (length part.rows) place ports before first → IsWireBy asked.wire (length part.rows) wire
+    → IsServed part asked.play asked.seconds quit wire session → telling ≡ telling_for asked terminal part
     → AreTold telling session.second first last → after.errors ≡ last.errors
     → IfErr r (λ e. IsUnconcluded files streams (without_errors last) (without_errors after) asked session e.fault)
-    → IfErr r (λ e. IsSessionFault files streams before after asked terminal part place e.fault)
-lost_if files streams before after asked terminal part place session telling first last (Ok status) opened were is told
-    quiet why = tt
-lost_if files streams before after asked terminal part place session telling first last (Err e) opened were is told
-    quiet why =
+    → IfErr r (λ e. IsSessionFault files streams before after asked terminal part place ports quit e.fault)
+lost_if files streams before after asked terminal part place ports quit wire session telling first last (Ok status)
+    opened wired were is told quiet why = tt
+lost_if files streams before after asked terminal part place ports quit wire session telling first last (Err e) opened
+    wired were is told quiet why =
     inr (inr (record {
       first = first;
       ready_told = opened;
+      wire = wire;
+      wire_is = wired;
       session = session;
       served = were;
       last = last;
@@ -335,11 +366,50 @@ lost_if files streams before after asked terminal part place session telling fir
       quiet = quiet;
     }))
 
+-- ---- a wire on it
+
+-- a wire of this plan is the one that the words ask for
+pub wire_on : (wire : AskedWire) (rows devices : ℕ) (plan : Plan) (fixed made : Fixed) → fixed ≡ made
+    → made.plan ≡ plan → made.devices ≡ devices → devices ≡ rows → IsPlanned wire (Some plan)
+    → IsWireBy wire rows (Some (record { plan = fixed.plan; devices = fixed.devices }))
+wire_on wire rows devices plan fixed made is as_planned as_many same planned =
+    let plan_is : fixed.plan ≡ plan = ap (λ (f : Fixed). f.plan) is ∙ as_planned in
+    let count : fixed.devices ≡ rows = ap (λ (f : Fixed). f.devices) is ∙ as_many ∙ same in
+    (planned.0, subst (IsPlanBy wire) (sym plan_is) planned.1, count)
+
+-- the ports that the system chose, of as many devices as there are rows
+pub free_of : (zero : Bool) (count rows : ℕ) (given ports : List ℕ) → count ≡ rows → given ≡ ports
+    → AreFree zero count ports → AreFree zero rows given
+free_of zero count rows given ports same is free =
+    subst (AreFree zero rows) (sym is) (subst (λ n. AreFree zero n ports) same free)
+
+pub held_done : (before after : World) (asked : AskedFleet) (terminal : Bool) (part : Scenario) (place : SocketAddr)
+    (ports : List ℕ) (quit : Bool) (r : Result Status Refusal) → AreFree (asked.port == 0) (length part.rows) ports
+    → IfOk r (IsSessionDone before after asked terminal part place ports quit)
+    → IfOk r (IsHeldDone before after asked terminal part place)
+held_done before after asked terminal part place ports quit (Err e) free done = tt
+held_done before after asked terminal part place ports quit (Ok status) free done = (ports, free, quit, done)
+
+pub held_broken : (files : FilesKnown) (streams : StreamFaults) (before after : Streams) (asked : AskedFleet)
+    (terminal : Bool) (part : Scenario) (place : SocketAddr) (ports : List ℕ) (quit : Bool) (r : Result Status Refusal)
+    → AreFree (asked.port == 0) (length part.rows) ports
+    → IfErr r (λ e. IsSessionFault files streams before after asked terminal part place ports quit e.fault)
+    → IfErr r (λ e. IsHeldFault files streams before after asked terminal part place e.fault)
+held_broken files streams before after asked terminal part place ports quit (Ok status) free why = tt
+held_broken files streams before after asked terminal part place ports quit (Err e) free why =
+    inr (ports, free, quit, why)
+
+pub no_room : (files : FilesKnown) (streams : StreamFaults) (before after : Streams) (asked : AskedFleet)
+    (terminal : Bool) (part : Scenario) (place : SocketAddr) (fault : Fault) → fault ≡ faults.Memory
+    → after.output ≡ before.output → after.errors ≡ before.errors
+    → IsHeldFault files streams before after asked terminal part place fault
+no_room files streams before after asked terminal part place fault memory silent untold = inl (memory, (silent, untold))
+
 -- ---- the command
 
 pub fleet_done : (files : FilesKnown) (before after : World) (asked : AskedFleet) (terminal : Bool) (part : Scenario)
     (place : SocketAddr) (r : Result Status Refusal) → AreReady files asked part place
-    → IfOk r (IsSessionDone before after asked terminal part place)
+    → IfOk r (IsHeldDone before after asked terminal part place)
     → IfOk r (IsFleetDone files before after asked terminal)
 fleet_done files before after asked terminal part place (Err e) there done = tt
 fleet_done files before after asked terminal part place (Ok status) there done =
@@ -348,7 +418,7 @@ fleet_done files before after asked terminal part place (Ok status) there done =
 pub fleet_broken : (files : FilesKnown) (streams : StreamFaults) (before after : Streams) (asked : AskedFleet)
     (terminal : Bool) (part : Scenario) (place : SocketAddr) (r : Result Status Refusal)
     → AreReady files asked part place
-    → IfErr r (λ e. IsSessionFault files streams before after asked terminal part place e.fault)
+    → IfErr r (λ e. IsHeldFault files streams before after asked terminal part place e.fault)
     → IfErr r (λ e. IsFleetFault files streams before after asked terminal e.fault)
 fleet_broken files streams before after asked terminal part place (Ok status) there why = tt
 fleet_broken files streams before after asked terminal part place (Err e) there why =

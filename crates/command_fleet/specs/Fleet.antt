@@ -1,7 +1,7 @@
 -- What `fleet FILE PORT ..` comes to: devices of a scenario are served for a session, whose seconds are told; then its
 -- line is printed, and then their steps are saved as a scenario.
-use Rattle.std.specs.Prelude.{⊤, ℕ, ◌≡◌, ◌⊎◌, ◌≤◌, ◌==◌, ◌&&◌, Bool, true, false, not, List, [], ◌∷◌, ◌++◌, length}
-use Rattle.std.specs.Prelude.{map, count_by, Option, None, Some, codes, option_map, if◌then◌else◌}
+use Rattle.std.specs.Prelude.{⊤, ℕ, ◌≡◌, ◌+◌, ◌⊎◌, ◌≤◌, ◌==◌, ◌&&◌, Bool, true, false, not, List, [], ◌∷◌, ◌++◌, length}
+use Rattle.std.specs.Prelude.{nat_le, map, count_by, Option, None, Some, codes, option_map, if◌then◌else◌}
 use Rattle.std.specs.Fmt.{decimal}
 use Rattle.std.specs.Io.KnownBytes.{Appends}
 use Rattle.std.specs.Net.Grammar.{IsIpText}
@@ -14,36 +14,43 @@ use Rattle.scenario_image.specs.Scenario.{Scenario}
 use Rattle.fleet_link.specs.declared.directory.FixedServer.{FixedServer}
 use Rattle.fleet_link.specs.declared.slot.Slot.{Slot}
 use Rattle.fleet_link.specs.declared.udp.Counts.{Counts}
-use Rattle.fleet_link.specs.Counting.{AreCountsOf}
 use Rattle.fleet_link.specs.Saved.{IsSaved}
 use Rattle.fleet_link.specs.Serving.{AreAt, IsFleet}
 use Rattle.fleet_link.specs.Timing.{second_of}
 use Rattle.fleet_link.specs.Traffic.{Traffic, no_traffic}
+use Rattle.fleet_wire.specs.declared.happened.Happened.{Happened}
 use Rattle.scenario_words.specs.Words.{ended_line}
 use Rattle.command_files.specs.Fault.{IsReadingFault, IsWritingFault}
 use Rattle.command_files.specs.Files.{Grows, Made}
 use Rattle.command_files.specs.Loading.{IsHeld}
-use Rattle.command_files.specs.World.{FilesKnown, StreamFaults, Streams, World}
+use Rattle.command_files.specs.World.{FilesKnown, IsSilent, StreamFaults, Streams, World}
 use Rattle.command_files.specs.declared.fault.Fault.{Fault}
 use Rattle.command_files.specs.declared.fault.Fault.TheVariants as faults
 use Rattle.command_files.specs.declared.status.Status.{Status}
 use Rattle.command_files.specs.declared.status.Status.TheVariants as ends
 use Rattle.command_sources.specs.Sources.{IsNoScenario, IsScenarioOf}
+use Rattle.command_fleet.specs.declared.counted.Account.{Account}
 use Rattle.command_fleet.specs.declared.devices.Devices.{Devices}
 use Rattle.command_fleet.specs.declared.telling.Telling.{Telling}
 use Rattle.command_fleet.specs.Devices.{AreChosen, IsPart}
-use Rattle.command_fleet.specs.InJson.{done_json, ready_json}
+use Rattle.command_fleet.specs.InJson.{done_json, port_json, ready_json}
 use Rattle.command_fleet.specs.Servers.{AreServers}
 use Rattle.command_fleet.specs.Telling.{AreTold, IsCut, telling_of}
+use Rattle.command_fleet.specs.Wires.{IsAccount, IsNoPlan, IsWireBy, Wired}
 use Rattle.trace_json.specs.Writing.{json_line}
 
 -- ---- devices that are served
 
--- what came of a session: the devices, the second at its end, and how many datagrams went through the ports
+-- what came of a session: the devices, the second at its end, and what is counted of the datagrams
 pub record Session : Type 0 where
   pub slots : List Slot
   pub second : ℕ
-  pub counts : Counts
+  pub account : Account
+
+-- a session has a last second, and this is it, or a later one
+abbrev pub has_passed : Option ℕ → ℕ → Bool
+has_passed None second = false
+has_passed (Some seconds) second = nat_le seconds second
 
 -- a session came to no end of its own: its clock was read 2^64 - 1 times before its last second
 pub record IsEndless (second : ℕ) : Type 0 where
@@ -51,16 +58,19 @@ pub record IsEndless (second : ℕ) : Type 0 where
   pub many : 18446744073709551615 ≤ length readings
   pub second_is : second ≡ second_of readings
 
--- the devices of a scenario were served, each from the start of its class to the end of the session, which has at least
--- these seconds, at ports that were new, and whose datagrams were counted; their rows were played, or were not
-pub record IsServed (s : Scenario) (played : Bool) (seconds : ℕ) (session : Session) : Type 0 where
+-- The devices of a scenario were served, each from the start of its class to the end of the session, at ports that were
+-- new, with this wire on them or with none, and whose datagrams were counted; their rows were played, or were not. The
+-- session has at least these seconds, unless it was asked to end.
+pub record IsServed (s : Scenario) (played : Bool) (seconds : Option ℕ) (quit : Bool) (wire : Option Wired)
+    (session : Session) : Type 0 where
   pub before : ℕ → Option Traffic
   pub new : (e : ℕ) → before e ≡ Some no_traffic
   pub after : ℕ → Option Traffic
-  pub counted : AreCountsOf after session.counts
+  pub counted : IsAccount wire after session.account
   pub fleet : IsFleet s played before session.slots session.second false after
   pub finished : AreAt session.slots (length session.slots) session.second
-  pub ended : (seconds ≤ session.second) ⊎ IsEndless session.second
+  pub ended :
+      (has_passed seconds session.second ≡ true) ⊎ ((quit ≡ true) ⊎ IsEndless session.second)
 
 -- ---- before it
 
@@ -90,6 +100,28 @@ abbrev pub ready_text : Bool → ℕ → SocketAddr → List ℕ
 ready_text false devices place = []
 ready_text true devices place = json_line (ready_json devices place)
 
+-- `device D at port PORT`; or its object, if JSON is asked for
+abbrev pub port_line : ℕ → ℕ → List ℕ
+port_line device port = ended_line (codes "device " ++ decimal device ++ codes " at port " ++ decimal port)
+
+abbrev pub port_text : Bool → ℕ → ℕ → List ℕ
+port_text false device port = port_line device port
+port_text true device port = json_line (port_json device port)
+
+-- the same of devices one after another, of which this is the first
+abbrev pub ports_text : Bool → ℕ → List ℕ → List ℕ
+ports_text json device [] = []
+ports_text json device (port ∷ ports) = port_text json device port ++ ports_text json (device + 1) ports
+
+-- what standard output gets once the ports are there, of which the system chose these
+abbrev pub opening_text : Bool → ℕ → SocketAddr → List ℕ → List ℕ
+opening_text json devices place ports = ready_text json devices place ++ ports_text json 0 ports
+
+-- the ports that the system chose: one of each device, if the port that is asked for is 0, and none otherwise
+abbrev pub AreFree : Bool → ℕ → List ℕ → Type 0
+AreFree true devices ports = length ports ≡ devices
+AreFree false devices ports = ports ≡ []
+
 -- the devices that are asked for are there, with the steps that are to be played, the first of them at this place
 pub record AreReady (files : FilesKnown) (asked : AskedFleet) (part : Scenario) (place : SocketAddr) : Type 0 where
   pub scenario : Scenario
@@ -98,10 +130,11 @@ pub record AreReady (files : FilesKnown) (asked : AskedFleet) (part : Scenario) 
   pub part_is : IsPart scenario devices asked.copies asked.play part
   pub place_is : IsPlace asked.bind.now asked.port place
 
--- it was told that n devices are there, the first of them at this place
-pub record IsReadyTold (json : Bool) (devices : ℕ) (place : SocketAddr) (before after : Streams) : Type 0 where
+-- it was told that n devices are there, the first of them at this place, and which ports the system chose
+pub record IsReadyTold (json : Bool) (devices : ℕ) (place : SocketAddr) (ports : List ℕ) (before after : Streams)
+    : Type 0 where
   pub shown : Appends before.errors after.errors (ready_line devices place)
-  pub printed : Appends before.output after.output (ready_text json devices place)
+  pub printed : Appends before.output after.output (opening_text json devices place ports)
 
 -- ---- its line
 
@@ -111,18 +144,30 @@ counts_words counts =
     codes "received " ++ decimal counts.received ++ codes " sent " ++ decimal counts.sent ++ codes " dropped "
     ++ decimal counts.dropped ++ codes " lost " ++ decimal counts.lost
 
+-- ` wire lost N twice N swapped N late N`
+abbrev pub happened_words : Happened → List ℕ
+happened_words happened =
+    codes " wire lost " ++ decimal happened.lost ++ codes " twice " ++ decimal happened.twice ++ codes " swapped "
+    ++ decimal happened.swapped ++ codes " late " ++ decimal happened.late
+
+-- the same, where there is a wire
+abbrev pub wire_words : Option Happened → List ℕ
+wire_words None = []
+wire_words (Some happened) = happened_words happened
+
 -- ` cut N`, where a row of what is saved is cut
 abbrev pub cut_words : ℕ → List ℕ
 cut_words cut = if cut == 0 then [] else codes " cut " ++ decimal cut
 
-abbrev pub counted_line : ℕ → ℕ → List ℕ → List ℕ → List ℕ
-counted_line seconds devices counted cut =
+abbrev pub counted_line : ℕ → ℕ → List ℕ → List ℕ → List ℕ → List ℕ
+counted_line seconds devices counted wire cut =
     ended_line (codes "done seconds " ++ decimal seconds ++ codes " devices " ++ decimal devices ++ codes " "
-    ++ counted ++ cut)
+    ++ counted ++ wire ++ cut)
 
--- `done seconds S devices N received N sent N dropped N lost N`, and how many rows are cut
-abbrev pub done_line : ℕ → ℕ → Counts → ℕ → List ℕ
-done_line seconds devices counts cut = counted_line seconds devices (counts_words counts) (cut_words cut)
+-- `done seconds S devices N received N sent N dropped N lost N`, what a wire did, and how many rows are cut
+abbrev pub done_line : ℕ → ℕ → Account → ℕ → List ℕ
+done_line seconds devices account cut =
+    counted_line seconds devices (counts_words account.counts) (wire_words account.happened) (cut_words cut)
 
 -- how many rows of what is saved end before the session did
 abbrev pub cut_of : Option (List ℕ) → List Slot → ℕ
@@ -131,8 +176,8 @@ cut_of (Some path) slots = count_by (λ (slot : Slot). not slot.recording.comple
 
 -- the line of a session of which n rows are cut, or its object
 abbrev pub line_of : Bool → ℕ → Session → List ℕ
-line_of false cut session = done_line session.second (length session.slots) session.counts cut
-line_of true cut session = json_line (done_json session.second (length session.slots) session.counts cut)
+line_of false cut session = done_line session.second (length session.slots) session.account cut
+line_of true cut session = json_line (done_json session.second (length session.slots) session.account cut)
 
 -- what is printed at the end: the line of the session, or its object if JSON is asked for
 abbrev pub end_text : AskedFleet → Session → List ℕ
@@ -181,7 +226,7 @@ pub record IsConcluded (before after : World) (asked : AskedFleet) (part : Scena
     (status : Status) : Type 0 where
   pub printed : Appends before.streams.output after.streams.output (end_text asked session)
   pub saved : IsSavedIf before.made after.made (option_map (λ p. p.now) asked.save) part session.slots
-  pub ended : status ≡ status_of asked.strict session.counts
+  pub ended : status ≡ status_of asked.strict session.account.counts
 
 -- the session's line was not printed; or it was, and then the steps were not saved
 abbrev pub IsUnconcluded : FilesKnown → StreamFaults → Streams → Streams → AskedFleet → Session → Fault → Type 0
@@ -199,66 +244,86 @@ telling_for asked terminal part = telling_of asked.json terminal (length part.ro
 -- it was told that the devices are there; then they were served, and each second was told; and then the session was
 -- concluded, of which standard error heard nothing
 pub record IsSessionDone (before after : World) (asked : AskedFleet) (terminal : Bool) (part : Scenario)
-    (place : SocketAddr) (status : Status) : Type 0 where
+    (place : SocketAddr) (ports : List ℕ) (quit : Bool) (status : Status) : Type 0 where
   pub first : Streams
-  pub ready_told : IsReadyTold asked.json (length part.rows) place before.streams first
+  pub ready_told : IsReadyTold asked.json (length part.rows) place ports before.streams first
+  pub wire : Option Wired
+  pub wire_is : IsWireBy asked.wire (length part.rows) wire
   pub session : Session
-  pub served : IsServed part asked.play asked.seconds session
+  pub served : IsServed part asked.play asked.seconds quit wire session
   pub last : Streams
   pub told : AreTold (telling_for asked terminal part) session.second first last
   pub concluded : IsConcluded (record { made = before.made; streams = last }) after asked part session status
   pub quiet : after.streams.errors ≡ last.errors
 
 -- it was not told that the devices are there: standard error did not take the line; or it did, and standard output did
--- not take the object
-abbrev pub IsUntold : StreamFaults → Streams → Streams → AskedFleet → Scenario → SocketAddr → Fault → Type 0
-IsUntold streams before after asked part place fault =
+-- not take what it gets
+abbrev pub IsUntold : StreamFaults → Streams → Streams → AskedFleet → Scenario → SocketAddr → List ℕ → Fault → Type 0
+IsUntold streams before after asked part place ports fault =
     (IsWritingFault (streams.errors_refuse (ready_line (length part.rows) place)) fault
     × (after.output ≡ before.output))
     ⊎ (Appends before.errors after.errors (ready_line (length part.rows) place)
-    × IsWritingFault (streams.output_refuses (ready_text asked.json (length part.rows) place)) fault)
+    × IsWritingFault (streams.output_refuses (opening_text asked.json (length part.rows) place ports)) fault)
 
 -- it was told, and then the session was broken off
 pub record IsSessionCut (streams : StreamFaults) (before after : Streams) (asked : AskedFleet) (terminal : Bool)
-    (part : Scenario) (place : SocketAddr) (fault : Fault) : Type 0 where
+    (part : Scenario) (place : SocketAddr) (ports : List ℕ) (fault : Fault) : Type 0 where
   pub first : Streams
-  pub ready_told : IsReadyTold asked.json (length part.rows) place before first
+  pub ready_told : IsReadyTold asked.json (length part.rows) place ports before first
   pub cut : IsCut (telling_for asked terminal part) streams first after fault
 
 -- it came to its end, and was not concluded
 pub record IsSessionLost (files : FilesKnown) (streams : StreamFaults) (before after : Streams) (asked : AskedFleet)
-    (terminal : Bool) (part : Scenario) (place : SocketAddr) (fault : Fault) : Type 0 where
-  pub first : Streams
-  pub ready_told : IsReadyTold asked.json (length part.rows) place before first
-  pub session : Session
-  pub served : IsServed part asked.play asked.seconds session
-  pub last : Streams
-  pub told : AreTold (telling_for asked terminal part) session.second first last
-  pub why : IsUnconcluded files streams last after asked session fault
-  pub quiet : after.errors ≡ last.errors
+    (terminal : Bool) (part : Scenario) (place : SocketAddr) (ports : List ℕ) (quit : Bool) (fault : Fault) : Type 0
+  where
+    pub first : Streams
+    pub ready_told : IsReadyTold asked.json (length part.rows) place ports before first
+    pub wire : Option Wired
+    pub wire_is : IsWireBy asked.wire (length part.rows) wire
+    pub session : Session
+    pub served : IsServed part asked.play asked.seconds quit wire session
+    pub last : Streams
+    pub told : AreTold (telling_for asked terminal part) session.second first last
+    pub why : IsUnconcluded files streams last after asked session fault
+    pub quiet : after.errors ≡ last.errors
 
 abbrev pub IsSessionFault : FilesKnown → StreamFaults → Streams → Streams → AskedFleet → Bool → Scenario → SocketAddr
+    → List ℕ → Bool → Fault → Type 0
+IsSessionFault files streams before after asked terminal part place ports quit fault =
+    IsUntold streams before after asked part place ports fault
+    ⊎ (IsSessionCut streams before after asked terminal part place ports fault
+    ⊎ IsSessionLost files streams before after asked terminal part place ports quit fault)
+
+-- the same, of devices at ports of which the system chose some, or none; the session was asked to end, or was not
+abbrev pub IsHeldDone : World → World → AskedFleet → Bool → Scenario → SocketAddr → Status → Type 0
+IsHeldDone before after asked terminal part place status =
+    (ports : List ℕ) × AreFree (asked.port == 0) (length part.rows) ports × (quit : Bool)
+    × IsSessionDone before after asked terminal part place ports quit status
+
+-- there was no memory for a session, or it has a fault
+abbrev pub IsHeldFault : FilesKnown → StreamFaults → Streams → Streams → AskedFleet → Bool → Scenario → SocketAddr
     → Fault → Type 0
-IsSessionFault files streams before after asked terminal part place fault =
-    IsUntold streams before after asked part place fault
-    ⊎ (IsSessionCut streams before after asked terminal part place fault
-    ⊎ IsSessionLost files streams before after asked terminal part place fault)
+IsHeldFault files streams before after asked terminal part place fault =
+    ((fault ≡ faults.Memory) × IsSilent before after)
+    ⊎ ((ports : List ℕ) × AreFree (asked.port == 0) (length part.rows) ports × (quit : Bool)
+    × IsSessionFault files streams before after asked terminal part place ports quit fault)
 
 -- ---- the command
 
--- the devices are there, and have a session
+-- the devices are there, and have a session, which standard input asked to end, or did not
 pub record IsFleetDone (files : FilesKnown) (before after : World) (asked : AskedFleet) (terminal : Bool)
     (status : Status) : Type 0 where
   pub part : Scenario
   pub place : SocketAddr
   pub ready : AreReady files asked part place
-  pub done : IsSessionDone before after asked terminal part place status
+  pub done : IsHeldDone before after asked terminal part place status
 
--- the scenario has no such devices; or it has, and the address is none, a server is wrong or their ports could not be
--- had; or no memory was left
+-- the scenario has no such devices; or it has, and the address is none, a server is wrong, their ports could not be had
+-- or a word for datagrams says no choice; or no memory was left
 abbrev pub IsUnstarted : AskedFleet → Scenario → Fault → Type 0
 IsUnstarted asked s faults.Memory = ⊤
 IsUnstarted asked s faults.NoDevice = AreMissing asked s
+IsUnstarted asked s faults.Wire = IsNoPlan asked.wire
 IsUnstarted asked s faults.Bind =
     (devices : Devices) × AreChosen s (option_map (λ w. w.now) asked.devices) devices
 IsUnstarted asked s _ = ⊥
@@ -285,7 +350,7 @@ pub record IsSessionBroken (files : FilesKnown) (streams : StreamFaults) (before
   pub part : Scenario
   pub place : SocketAddr
   pub ready : AreReady files asked part place
-  pub why : IsSessionFault files streams before after asked terminal part place fault
+  pub why : IsHeldFault files streams before after asked terminal part place fault
 
 abbrev pub IsFleetFault : FilesKnown → StreamFaults → Streams → Streams → AskedFleet → Bool → Fault → Type 0
 IsFleetFault files streams before after asked terminal fault =

@@ -3,3 +3,4 @@ pub mod Fleet
 pub mod InJson
 pub mod Servers
 pub mod Telling
+pub mod Wires

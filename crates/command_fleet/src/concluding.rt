@@ -8,14 +8,16 @@ ghost use Rattle.scenario_image.specs.Scenario.{Scenario as ScenarioData};
 ghost use Rattle.command_files.specs.Fault.{IsWritingFault};
 ghost use Rattle.command_fleet.specs.Fleet.{IsConcluded, IsSaveFault, IsSavedAt, IsSavedIf, IsUnconcluded, IsUnfit};
 ghost use Rattle.command_fleet.specs.Fleet.{IsUnsaved, counted_line, counts_words, cut_of, cut_words, done_line};
-ghost use Rattle.command_fleet.specs.Fleet.{line_of, status_of};
+ghost use Rattle.command_fleet.specs.Fleet.{happened_words, line_of, status_of, wire_words};
 
+use crate::counted::Account;
 use crate::in_json::done_object;
 use crate::telling::put;
 use command_files::files::Files;
 use command_files::{Fault, NewFile, Output, Refusal, Status, image_file, make};
 use command_line::AskedFleet;
 use fleet_link::{Counts, Fleet};
+use fleet_wire::Happened;
 use scenario_image::Scenario;
 use std::alloc::{AllocError, Global};
 
@@ -28,6 +30,27 @@ fn counts_words(alloc: Global, counts: Counts) -> Result<String, AllocError>
     let dropped = counts.dropped;
     let lost = counts.lost;
     format!(in alloc; "received {received} sent {sent} dropped {dropped} lost {lost}")
+}
+
+/// How often the wire did what.
+fn happened_words(alloc: Global, happened: Happened) -> Result<String, AllocError>
+    ensures { IfOk result (λ text. string_bytes text ≡ happened_words happened) }
+{
+    let lost = happened.lost;
+    let twice = happened.twice;
+    let swapped = happened.swapped;
+    let late = happened.late;
+    format!(in alloc; " wire lost {lost} twice {twice} swapped {swapped} late {late}")
+}
+
+/// The same, if there is one.
+fn wire_words(alloc: Global, happened: Option<Happened>) -> Result<String, AllocError>
+    ensures { IfOk result (λ text. string_bytes text ≡ wire_words happened) }
+{
+    match happened {
+        None => Ok(String::new(alloc)),
+        Some(happened) => happened_words(alloc, happened),
+    }
 }
 
 /// How many rows of what is saved are cut, if one is.
@@ -45,27 +68,36 @@ fn counted_line(
     seconds: u64,
     devices: usize,
     counted: &str,
+    wire: &str,
     cut: &str,
 ) -> Result<String, AllocError>
-    ensures { IfOk result (λ text. string_bytes text ≡ counted_line seconds devices counted.now cut.now) }
+    ensures { IfOk result (λ text. string_bytes text ≡ counted_line seconds devices counted.now wire.now cut.now) }
 {
-    format!(in alloc; "done seconds {seconds} devices {devices} {counted}{cut}\n")
+    format!(in alloc; "done seconds {seconds} devices {devices} {counted}{wire}{cut}\n")
 }
 
-/// How long a session was, how many devices it had, how many datagrams went through their ports, and how many rows of
-/// what is saved are cut.
+/// How long a session was, how many devices it had, how many datagrams went through their ports, how often a wire did
+/// what, and how many rows of what is saved are cut.
 pub fn done_line(
     alloc: Global,
     seconds: u64,
     devices: usize,
-    counts: Counts,
+    account: Account,
     cut: usize,
 ) -> Result<String, AllocError>
-    ensures { IfOk result (λ text. string_bytes text ≡ done_line seconds devices counts cut) }
+    ensures { IfOk result (λ text. string_bytes text ≡ done_line seconds devices account cut) }
 {
-    let counted = counts_words(alloc, counts)?;
+    let counted = counts_words(alloc, account.counts)?;
+    let wire = wire_words(alloc, account.happened)?;
     let cut = cut_words(alloc, cut)?;
-    counted_line(alloc, seconds, devices, counted.as_str(), cut.as_str())
+    counted_line(
+        alloc,
+        seconds,
+        devices,
+        counted.as_str(),
+        wire.as_str(),
+        cut.as_str(),
+    )
 }
 
 /// Whether datagrams were dropped or lost, if the status is to tell that.
@@ -85,7 +117,7 @@ pub fn conclude_session<'a, F: Files, O: Output>(
     asked: &AskedFleet<'a>,
     part: &Scenario,
     fleet: Fleet,
-    counts: Counts,
+    account: Account,
     files: &mut F,
     output: &mut O,
 ) -> Result<Status, Refusal<'a>>
@@ -99,19 +131,19 @@ pub fn conclude_session<'a, F: Files, O: Output>(
           streams = record { input = None; output = O.taken output.new; errors = None };
         })
         asked.now part.now
-        (record { slots = fleet.slots.items; second = fleet.second; counts = counts })) }
+        (record { slots = fleet.slots.items; second = fleet.second; account = account })) }
     ensures kept { OnErr result (F.made files.new ≡ F.made files.old) }
     ensures refused { IfErr result (λ r. IsUnconcluded
         (record { holds = F.holds files.old; fails = F.fails files.old; refuses = F.refuses })
         (record { input_fails = ⊥; output_refuses = O.refuses; errors_refuse = λ _. ⊥ })
         (record { input = None; output = O.taken output.old; errors = None })
         (record { input = None; output = O.taken output.new; errors = None })
-        asked.now (record { slots = fleet.slots.items; second = fleet.second; counts = counts }) r.fault) }
+        asked.now (record { slots = fleet.slots.items; second = fleet.second; account = account }) r.fault) }
 {
     let cut = cut_of(asked.save, &fleet);
-    print_session(alloc, asked.json, &fleet, counts, cut, output)?;
+    print_session(alloc, asked.json, &fleet, account, cut, output)?;
     save_steps(alloc, asked.save, part, fleet, files)?;
-    Ok(status_of(asked.strict, counts))
+    Ok(status_of(asked.strict, account.counts))
 }
 
 /// How many rows of what is saved end before the session did.
@@ -129,16 +161,16 @@ fn session_line(
     alloc: Global,
     json: bool,
     fleet: &Fleet,
-    counts: Counts,
+    account: Account,
     cut: usize,
 ) -> Result<String, AllocError>
     ensures { IfOk result (λ text. string_bytes text ≡ line_of json cut
-        (record { slots = fleet.now.slots.items; second = fleet.now.second; counts = counts })) }
+        (record { slots = fleet.now.slots.items; second = fleet.now.second; account = account })) }
 {
     if json {
-        done_object(alloc, fleet.second(), fleet.devices().len(), counts, cut)
+        done_object(alloc, fleet.second(), fleet.devices().len(), account, cut)
     } else {
-        done_line(alloc, fleet.second(), fleet.devices().len(), counts, cut)
+        done_line(alloc, fleet.second(), fleet.devices().len(), account, cut)
     }
 }
 
@@ -146,19 +178,19 @@ fn print_session<'a, O: Output>(
     alloc: Global,
     json: bool,
     fleet: &Fleet,
-    counts: Counts,
+    account: Account,
     cut: usize,
     output: &mut O,
 ) -> Result<(), Refusal<'a>>
     ensures printed { OnOk result (Appends (O.taken output.old) (O.taken output.new)
         (line_of json cut
-        (record { slots = fleet.now.slots.items; second = fleet.now.second; counts = counts }))) }
+        (record { slots = fleet.now.slots.items; second = fleet.now.second; account = account }))) }
     ensures refused { IfErr result (λ r. IsWritingFault
         (O.refuses
-        (line_of json cut (record { slots = fleet.now.slots.items; second = fleet.now.second; counts = counts })))
+        (line_of json cut (record { slots = fleet.now.slots.items; second = fleet.now.second; account = account })))
         r.fault) }
 {
-    let text = session_line(alloc, json, fleet, counts, cut)?;
+    let text = session_line(alloc, json, fleet, account, cut)?;
     put(text.as_str(), "standard output", output)
 }
 

@@ -5,9 +5,12 @@ ghost use Rattle.std.specs.Net.Text.{ip_text};
 ghost use Rattle.std.specs.String.{string_bytes};
 ghost use Rattle.trace_json.specs.Json.{object_json};
 ghost use Rattle.trace_json.specs.Writing.{Has64Bits, IsReadAgain, fields_tokens, json_line, tokens_of};
-ghost use Rattle.command_fleet.specs.InJson.{counts_fields, done_json, ready_json, second_json};
+ghost use Rattle.command_fleet.specs.InJson.{counts_fields, done_json, happened_fields, port_json, ready_json};
+ghost use Rattle.command_fleet.specs.InJson.{second_json, wire_fields};
 
+use crate::counted::Account;
 use fleet_link::Counts;
+use fleet_wire::Happened;
 use json::Writer;
 use std::alloc::{AllocError, Global};
 use std::net::{IpAddr, SocketAddr};
@@ -24,6 +27,32 @@ fn put_counts(out: &mut Writer, counts: Counts) -> Result<(), AllocError>
     put_number(out, "dropped", counts.dropped)?;
     put_number(out, "lost", counts.lost)?;
     Ok(())
+}
+
+/// Writes how often a wire did what.
+fn put_wire(out: &mut Writer, happened: Happened) -> Result<(), AllocError>
+    ensures adds { OnOk result (out.new.tokens ≡ out.old.tokens ++ fields_tokens (wire_fields happened)) }
+    ensures before { out.new.before ≡ out.old.before }
+    ensures exact { Has64Bits (object_json (wire_fields happened)) }
+{
+    put_number(out, "wire_lost", happened.lost)?;
+    put_number(out, "wire_twice", happened.twice)?;
+    put_number(out, "wire_swapped", happened.swapped)?;
+    put_number(out, "wire_late", happened.late)?;
+    Ok(())
+}
+
+/// Writes how often a wire did what, if there is one.
+#[tactic(auto, using(crate::proofs::Objects::no_wire))]
+fn put_happened(out: &mut Writer, happened: Option<Happened>) -> Result<(), AllocError>
+    ensures adds { OnOk result (out.new.tokens ≡ out.old.tokens ++ fields_tokens (happened_fields happened)) }
+    ensures before { out.new.before ≡ out.old.before }
+    ensures exact { OnOk result (Has64Bits (object_json (happened_fields happened))) }
+{
+    match happened {
+        None => Ok(()),
+        Some(happened) => put_wire(out, happened),
+    }
 }
 
 /// Writes that a second has come.
@@ -59,18 +88,19 @@ fn put_done(
     out: &mut Writer,
     seconds: u64,
     devices: usize,
-    counts: Counts,
+    account: Account,
     cut: usize,
 ) -> Result<(), AllocError>
-    ensures adds { OnOk result (out.new.tokens ≡ out.old.tokens ++ tokens_of (done_json seconds devices counts cut)) }
+    ensures adds { OnOk result (out.new.tokens ≡ out.old.tokens ++ tokens_of (done_json seconds devices account cut)) }
     ensures before { out.new.before ≡ out.old.before }
-    ensures exact { OnOk result (Has64Bits (done_json seconds devices counts cut)) }
+    ensures exact { OnOk result (Has64Bits (done_json seconds devices account cut)) }
 {
     out.begin_object()?;
     put_string(out, "event", "done")?;
     put_number(out, "seconds", seconds)?;
     put_number(out, "devices", devices as u64)?;
-    put_counts(out, counts)?;
+    put_counts(out, account.counts)?;
+    put_happened(out, account.happened)?;
     put_number(out, "cut", cut as u64)?;
     out.end_object()?;
     Ok(())
@@ -82,14 +112,41 @@ pub fn done_object(
     alloc: Global,
     seconds: u64,
     devices: usize,
-    counts: Counts,
+    account: Account,
     cut: usize,
 ) -> Result<String, AllocError>
-    ensures line { IfOk result (λ t. string_bytes t ≡ json_line (done_json seconds devices counts cut)) }
-    ensures read_again { OnOk result (IsReadAgain (done_json seconds devices counts cut)) }
+    ensures line { IfOk result (λ t. string_bytes t ≡ json_line (done_json seconds devices account cut)) }
+    ensures read_again { OnOk result (IsReadAgain (done_json seconds devices account cut)) }
 {
     let mut writer = Writer::new(Vec::new(alloc));
-    put_done(&mut writer, seconds, devices, counts, cut)?;
+    put_done(&mut writer, seconds, devices, account, cut)?;
+    let bytes = end_line(writer)?;
+    Ok(text_of(bytes))
+}
+
+/// Writes at which port a device is.
+#[tactic(auto, unfolding(crate::specs::InJson::port_json))]
+fn put_port(out: &mut Writer, device: usize, port: u16) -> Result<(), AllocError>
+    ensures adds { OnOk result (out.new.tokens ≡ out.old.tokens ++ tokens_of (port_json device port)) }
+    ensures before { out.new.before ≡ out.old.before }
+    ensures exact { OnOk result (Has64Bits (port_json device port)) }
+{
+    out.begin_object()?;
+    put_string(out, "event", "port")?;
+    put_number(out, "device", device as u64)?;
+    put_number(out, "port", u64::from(port))?;
+    out.end_object()?;
+    Ok(())
+}
+
+/// The line of a port that the system chose for a device.
+#[tactic(auto, using(crate::proofs::Objects::port_again))]
+pub fn port_object(alloc: Global, device: usize, port: u16) -> Result<String, AllocError>
+    ensures line { IfOk result (λ t. string_bytes t ≡ json_line (port_json device port)) }
+    ensures read_again { OnOk result (IsReadAgain (port_json device port)) }
+{
+    let mut writer = Writer::new(Vec::new(alloc));
+    put_port(&mut writer, device, port)?;
     let bytes = end_line(writer)?;
     Ok(text_of(bytes))
 }

@@ -1,22 +1,27 @@
 //! `fleet`: devices of a scenario on UDP, each at a port of its own.
 #![tactic(auto)]
 
+mod asking;
 mod concluding;
 mod counted;
 mod devices;
 mod in_json;
 mod places;
+mod placing;
 mod rows;
 mod servers;
 mod serving;
 mod session;
 mod telling;
+mod wires;
 
+pub use asking::Quit;
 pub use concluding::{conclude_session, done_line};
-pub use counted::Counted;
+pub use counted::{Account, Counted};
 pub use devices::{Devices, chosen_devices, part_of};
-pub use in_json::{done_object, ready_object, second_line};
+pub use in_json::{done_object, port_object, ready_object, second_line};
 pub use places::ready_line;
-pub use serving::serve_part;
+pub use placing::port_line;
+pub use serving::{Served, serve_part};
 pub use session::fleet;
 pub use telling::{Telling, progress_line, telling_of};

@@ -1,9 +1,9 @@
 //! Where the ports of devices are.
-ghost use Rattle.std.specs.Prelude.{ℕ, ◌≡◌, ◌⊎◌, Some, IfErr, IfOk, OnOk};
+ghost use Rattle.std.specs.Prelude.{ℕ, ◌≡◌, ◌⊎◌, Some, IfErr, IfOk, OnOk, length};
 ghost use Rattle.std.specs.Io.KnownBytes.{Appends};
 ghost use Rattle.std.specs.String.{string_bytes};
 ghost use Rattle.fleet_link.specs.Traffic.{no_traffic};
-ghost use Rattle.fleet_link.specs.Udp.{fixed_over_udp, told_over_udp};
+ghost use Rattle.fleet_link.specs.Udp.{fixed_over_udp, ports_over_udp, told_over_udp};
 ghost use Rattle.command_files.specs.Fault.{IsWritingFault};
 ghost use Rattle.command_fleet.specs.Fleet.{IsPlace, ready_line};
 
@@ -29,8 +29,8 @@ pub(crate) fn place_of<'a>(word: &'a str, port: u16) -> Result<SocketAddr, Refus
     }
 }
 
-/// A socket for each device of a scenario: the first at this place, and each next one at the next port. These servers
-/// are fixed, and no others.
+/// A socket for each device of a scenario: the first at this place, and each next one at the next port; at port 0 the
+/// system chooses. These servers are fixed, and no others.
 pub(crate) fn ports_at<'a, R: Net>(
     rt: &R,
     alloc: Global,
@@ -40,6 +40,7 @@ pub(crate) fn ports_at<'a, R: Net>(
 ) -> Result<UdpPorts, Refusal<'a>>
     ensures new { IfOk result (λ ports. (e : ℕ) → told_over_udp ports e ≡ Some no_traffic) }
     ensures fixed { IfOk result (λ ports. fixed_over_udp ports ≡ servers.items) }
+    ensures count { IfOk result (λ ports. length (ports_over_udp ports) ≡ length scenario.now.rows) }
     ensures refused { IfErr result (λ r. (r.fault ≡ Fault.Memory) ⊎ (r.fault ≡ Fault.Bind)) }
 {
     match UdpPorts::bind(rt, alloc, scenario, place.ip(), place.port(), servers) {

@@ -1,13 +1,17 @@
 //! Devices of a scenario on ports, for a session.
 ghost use Rattle.std.specs.Prelude.{ℕ, ◌≡◌, ◌+◌, ◌≤◌, ◌⊎◌, Bool, Option, None, List, IfErr, IfOk, OnOk, false, length};
+ghost use Rattle.std.specs.Prelude.{true};
 ghost use Rattle.scenario_image.specs.Scenario.{Scenario as ScenarioData};
 ghost use Rattle.fleet_link.specs.Serving.{AreAt, IsFleet};
 ghost use Rattle.fleet_link.specs.Timing.{AreAsked};
 ghost use Rattle.fleet_link.specs.Traffic.{Traffic};
 ghost use Rattle.command_files.specs.World.{Streams};
+ghost use Rattle.command_fleet.specs.Fleet.{has_passed, IsEndless};
 ghost use Rattle.command_fleet.specs.Telling.{AreTold, IsCut};
+ghost use Rattle.command_fleet.specs.Wires.{IsAccount};
 
-use crate::counted::Counted;
+use crate::asking::Quit;
+use crate::counted::{Account, Counted};
 use crate::telling::{Telling, tell_second};
 use command_files::{Fault, Output, Refusal};
 use command_line::AskedFleet;
@@ -41,6 +45,24 @@ fn start(alloc: Global, part: &Scenario, played: bool, saved: bool) -> Result<Fl
     }
 }
 
+/// What came of a session.
+#[derive(Drop)]
+pub struct Served {
+    /// The devices at its end.
+    pub fleet: Fleet,
+    pub account: Account,
+}
+
+/// Whether so many seconds have passed, if a session has a last one.
+fn has_passed(seconds: Option<u32>, second: u64) -> bool
+    ensures { result ≡ has_passed seconds second }
+{
+    match seconds {
+        None => false,
+        Some(seconds) => u64::from(seconds) <= second,
+    }
+}
+
 /// Makes a turn of all devices, and tells the second that it comes to, if it is a later one.
 fn turn<'a, P: Counted, C: Seconds, O: Output, E: Output>(
     alloc: Global,
@@ -59,6 +81,7 @@ fn turn<'a, P: Counted, C: Seconds, O: Output, E: Output>(
         (P.asked ports.old) fleet.old.began fleet.old.second calls
         → OnOk result (AreAsked read_before (C.read clock.new) asked_before (P.asked ports.new) fleet.new.began
         fleet.new.second (calls + 1)) }
+    ensures wire { OnOk result (P.wire ports.new ≡ P.wire ports.old) }
     ensures told { (start : Streams)
         → AreTold telling fleet.old.second start
         (record { input = None; output = O.taken output.old; errors = E.taken errors.old })
@@ -71,9 +94,13 @@ fn turn<'a, P: Counted, C: Seconds, O: Output, E: Output>(
         (record { input_fails = ⊥; output_refuses = O.refuses; errors_refuse = E.refuses }) start
         (record { input = None; output = O.taken output.new; errors = E.taken errors.new }) r.fault) }
 {
+    P::wire_is_fixed();
     let last = fleet.second();
     match fleet.turn(ports, clock) {
-        Ok(()) => tell_if_later(alloc, telling, last, fleet.second(), ports, output, errors),
+        Ok(()) => {
+            ports.settle();
+            tell_if_later(alloc, telling, last, fleet.second(), ports, output, errors)
+        }
         Err(fault) => Err(Refusal::from(fault_of(fault))),
     }
 }
@@ -107,15 +134,17 @@ fn tell_if_later<'a, P: Counted, O: Output, E: Output>(
     tell_second(alloc, telling, second, ports, output, errors)
 }
 
-/// Makes turns until this second of the session, `turns` at most, and tells each second that one comes to.
-fn go_on<'a, P: Counted, C: Seconds, O: Output, E: Output>(
+/// Makes turns until so many seconds of the session have passed, if it has a last one, or until it is asked to end,
+/// `turns` at most, and tells each second that one comes to.
+fn go_on<'a, P: Counted, C: Seconds, Q: Quit, O: Output, E: Output>(
     alloc: Global,
     telling: Telling,
     fleet: &mut Fleet,
     ports: &mut P,
     clock: &mut C,
+    quit: &mut Q,
     turns: u64,
-    until: u64,
+    seconds: Option<u32>,
     output: &mut O,
     errors: &mut E,
 ) -> Result<(), Refusal<'a>>
@@ -125,8 +154,10 @@ fn go_on<'a, P: Counted, C: Seconds, O: Output, E: Output>(
     ensures stop { (read_before asked_before : Option (List ℕ)) (calls : ℕ)
         → AreAsked read_before (C.read clock.old) asked_before
         (P.asked ports.old) fleet.old.began fleet.old.second calls
-        → OnOk result ((until ≤ fleet.new.second) ⊎ AreAsked read_before (C.read clock.new) asked_before
-        (P.asked ports.new) fleet.new.began fleet.new.second (calls + turns)) }
+        → OnOk result ((has_passed seconds fleet.new.second ≡ true) ⊎ ((Q.asked quit.new ≡ true)
+        ⊎ AreAsked read_before (C.read clock.new) asked_before (P.asked ports.new) fleet.new.began fleet.new.second
+        (calls + turns))) }
+    ensures wire { OnOk result (P.wire ports.new ≡ P.wire ports.old) }
     ensures told { (start : Streams)
         → AreTold telling fleet.old.second start
         (record { input = None; output = O.taken output.old; errors = E.taken errors.old })
@@ -140,7 +171,10 @@ fn go_on<'a, P: Counted, C: Seconds, O: Output, E: Output>(
         (record { input = None; output = O.taken output.new; errors = E.taken errors.new }) r.fault) }
 {
     for _turn in 0..turns {
-        if fleet.second() >= until {
+        if has_passed(seconds, fleet.second()) {
+            return Ok(());
+        }
+        if quit.asks() {
             return Ok(());
         }
         turn(alloc, telling, fleet, ports, clock, output, errors)?;
@@ -148,25 +182,28 @@ fn go_on<'a, P: Counted, C: Seconds, O: Output, E: Output>(
     Ok(())
 }
 
-/// All devices of a scenario are served on these ports, for the seconds that are asked for by this clock, and each
-/// second that a turn comes to is told. Their rows are played, and their steps recorded, if that is asked for.
+/// All devices of a scenario are served on these ports, for the seconds that are asked for by this clock or until the
+/// session is asked to end, and each second that a turn comes to is told. Their rows are played, and their steps
+/// recorded, if that is asked for. What went through the ports is counted.
 #[tactic(auto, using(crate::proofs::Told::cut_at_start))]
-pub fn serve_part<'a, P: Counted, C: Seconds, O: Output, E: Output>(
+pub fn serve_part<'a, P: Counted, C: Seconds, Q: Quit, O: Output, E: Output>(
     alloc: Global,
     asked: &AskedFleet<'a>,
     part: &Scenario,
     telling: Telling,
     ports: &mut P,
     clock: &mut C,
+    quit: &mut Q,
     output: &mut O,
     errors: &mut E,
-) -> Result<Fleet, Refusal<'a>>
-    ensures fleet { IfOk result (λ fleet. IsFleet part.now asked.now.play (P.told ports.old) fleet.slots.items
-        fleet.second false (P.told ports.new)) }
-    ensures finished { IfOk result (λ fleet. AreAt fleet.slots.items (length fleet.slots.items) fleet.second) }
-    ensures ended { IfOk result (λ fleet. (asked.now.seconds ≤ fleet.second) ⊎ AreAsked (C.read clock.old)
-        (C.read clock.new) (P.asked ports.old) (P.asked ports.new) fleet.began fleet.second 18446744073709551615) }
-    ensures told { IfOk result (λ fleet. AreTold telling fleet.second
+) -> Result<Served, Refusal<'a>>
+    ensures fleet { IfOk result (λ r. IsFleet part.now asked.now.play (P.told ports.old) r.fleet.slots.items
+        r.fleet.second false (P.told ports.new)) }
+    ensures finished { IfOk result (λ r. AreAt r.fleet.slots.items (length r.fleet.slots.items) r.fleet.second) }
+    ensures ended { IfOk result (λ r. (has_passed asked.now.seconds r.fleet.second ≡ true)
+        ⊎ ((Q.asked quit.new ≡ true) ⊎ IsEndless r.fleet.second)) }
+    ensures account { IfOk result (λ r. IsAccount (P.wire ports.old) (P.told ports.new) r.account) }
+    ensures told { IfOk result (λ r. AreTold telling r.fleet.second
         (record { input = None; output = O.taken output.old; errors = E.taken errors.old })
         (record { input = None; output = O.taken output.new; errors = E.taken errors.new })) }
     ensures cut { IfErr result (λ r. IsCut telling
@@ -175,20 +212,25 @@ pub fn serve_part<'a, P: Counted, C: Seconds, O: Output, E: Output>(
         (record { input = None; output = O.taken output.new; errors = E.taken errors.new }) r.fault) }
 {
     let mut fleet = start(alloc, part, asked.play, asked.save.is_some())?;
-    let until = u64::from(asked.seconds);
     go_on(
         alloc,
         telling,
         &mut fleet,
         ports,
         clock,
+        quit,
         u64::MAX,
-        until,
+        asked.seconds,
         output,
         errors,
     )?;
+    P::wire_is_fixed();
     match fleet.finish(ports) {
-        Ok(()) => Ok(fleet),
-        Err(fault) => Err(Refusal::from(fault_of(fault))),
+        Ok(()) => {}
+        Err(fault) => return Err(Refusal::from(fault_of(fault))),
+    }
+    match ports.account() {
+        Some(account) => Ok(Served { fleet, account }),
+        None => Err(Refusal::from(Fault::Memory)),
     }
 }

@@ -1,34 +1,44 @@
 //! `fleet FILE PORT ..`: devices on UDP.
-ghost use Rattle.std.specs.Prelude.{ℕ, ◌≡◌, None, Some, IfErr, OnErr, IfOk};
+ghost use Rattle.std.specs.Prelude.{ℕ, ◌≡◌, None, Some, IfErr, OnErr, IfOk, length};
 ghost use Rattle.fleet_link.specs.Traffic.{no_traffic};
-ghost use Rattle.command_fleet.specs.Fleet.{IsFleetDone, IsFleetFault, IsSessionDone, IsSessionFault};
+ghost use Rattle.fleet_link.specs.Udp.{ports_over_udp, told_over_udp};
+ghost use Rattle.command_fleet.specs.Fleet.{IsFleetDone, IsFleetFault, IsHeldDone, IsHeldFault, IsSessionDone};
+ghost use Rattle.command_fleet.specs.Fleet.{IsSessionFault};
+ghost use Rattle.command_fleet.specs.Wires.{IsPlanned, IsWireBy};
 
+use crate::asking::{Quit, StandardInput};
 use crate::concluding::conclude_session;
 use crate::counted::Counted;
 use crate::devices::{chosen_devices, part_of};
 use crate::places::{place_of, ports_at, tell_ready};
+use crate::placing::free_ports;
 use crate::servers::servers_of;
 use crate::serving::serve_part;
 use crate::telling::{print_ready, telling_of};
+use crate::wires::plan_if;
 use command_files::files::Files;
 use command_files::{Fault, Output, Refusal, Status, Why};
 use command_line::AskedFleet;
 use command_sources::load_source;
+use fleet_link::UdpPorts;
+use fleet_wire::{Plan, WiredPorts};
 use live_link::{MachineClock, Seconds};
 use scenario_image::Scenario;
 use std::alloc::Global;
+use std::io::Input;
 use std::net::{Net, SocketAddr};
 use std::rt::Clock;
 
-/// The devices of a scenario that are asked for are served, each from the start of its class, at UDP ports and by the
-/// machine's clock; their rows are played, if that is asked for. Once their ports are there, exactly the line that says
-/// so goes to standard error. Each second that comes is told as a line there, if that is a terminal. Then, at the end,
-/// exactly the line of the session is printed. If JSON is asked for, exactly an object that says that the ports are
-/// there is printed in their place, one of each second, and one of the end. Then, if there is a path, the image, in
-/// version 2, of the scenario whose rows have the devices' steps is made there. The status tells of datagrams that were
-/// dropped or lost, if that is asked for. Of the input nothing is said: it has none.
-#[tactic(auto, using(crate::proofs::Sessions::source_refused, crate::proofs::Sessions::devices_missing, crate::proofs::Sessions::part_refused, crate::proofs::Sessions::place_refused, crate::proofs::Sessions::servers_refused, crate::proofs::Sessions::ports_refused))]
-pub fn fleet<'a, R: Net + Clock, F: Files, O: Output, E: Output>(
+/// The devices of a scenario that are asked for are served, each from the start of its class, at UDP ports, with a wire
+/// on them if words ask for one, and by the machine's clock; their rows are played, if that is asked for. Once their
+/// ports are there, exactly the line that says so goes to standard error. Each second that comes is told as a line
+/// there, if that is a terminal. The session ends after the seconds that are asked for, if they are, or when standard
+/// input asks for it. Then exactly the line of the session is printed. If JSON is asked for, exactly an object that
+/// says that the ports are there is printed in their place, one of each second, and one of the end. Then, if there is a
+/// path, the image, in version 2, of the scenario whose rows have the devices' steps is made there. The status tells of
+/// datagrams that were dropped or lost, if that is asked for. Of what standard input has nothing is said.
+#[tactic(auto, using(crate::proofs::Sessions::source_refused, crate::proofs::Sessions::devices_missing, crate::proofs::Sessions::part_refused, crate::proofs::Sessions::place_refused, crate::proofs::Sessions::plan_refused, crate::proofs::Sessions::servers_refused, crate::proofs::Sessions::ports_refused))]
+pub fn fleet<'a, R: Net + Clock + Input, F: Files, O: Output, E: Output>(
     rt: &R,
     alloc: Global,
     asked: AskedFleet<'a>,
@@ -65,31 +75,33 @@ pub fn fleet<'a, R: Net + Clock, F: Files, O: Output, E: Output>(
         });
     };
     let part = part_of(alloc, &scenario, devices, asked.copies, asked.play)?;
+    let plan = plan_if(alloc, &asked.wire)?;
     let place = place_of(asked.bind, asked.port)?;
     let servers = servers_of(alloc, &scenario, asked.servers.as_slice())?;
-    let mut ports = ports_at(rt, alloc, &part, place, servers)?;
-    let mut clock = MachineClock::new(rt);
-    hold_session(
-        alloc, &asked, terminal, &part, place, &mut ports, &mut clock, files, output, errors,
+    let ports = ports_at(rt, alloc, &part, place, servers)?;
+    hold_on(
+        rt, alloc, &asked, terminal, &part, place, ports, plan, files, output, errors,
     )
 }
 
-/// The session of devices on these ports, which are new, by this clock: it is told that they are there, they are
-/// served, and the session is concluded.
-fn hold_session<'a, P: Counted, C: Seconds, F: Files, O: Output, E: Output>(
+/// The session of devices on these ports, which are new, with a wire of this plan on them, if there is one.
+fn hold_on<'a, R: Net + Clock + Input, F: Files, O: Output, E: Output>(
+    rt: &R,
     alloc: Global,
     asked: &AskedFleet<'a>,
     terminal: bool,
     part: &Scenario,
     place: SocketAddr,
-    ports: &mut P,
-    clock: &mut C,
+    ports: UdpPorts,
+    plan: Option<Plan>,
     files: &mut F,
     output: &mut O,
     errors: &mut E,
 ) -> Result<Status, Refusal<'a>>
-    requires { (e : ℕ) → P.told ports.old e ≡ Some no_traffic }
-    ensures done { IfOk result (IsSessionDone
+    requires new { (e : ℕ) → told_over_udp ports e ≡ Some no_traffic }
+    requires count { length (ports_over_udp ports) ≡ length part.now.rows }
+    requires planned { IsPlanned asked.now.wire plan }
+    ensures done { IfOk result (IsHeldDone
         (record {
           made = F.made files.old;
           streams = record { input = None; output = O.taken output.old; errors = E.taken errors.old };
@@ -100,17 +112,104 @@ fn hold_session<'a, P: Counted, C: Seconds, F: Files, O: Output, E: Output>(
         })
         asked.now terminal part.now place) }
     ensures kept { OnErr result (F.made files.new ≡ F.made files.old) }
-    ensures refused { IfErr result (λ r. IsSessionFault
+    ensures refused { IfErr result (λ r. IsHeldFault
         (record { holds = F.holds files.old; fails = F.fails files.old; refuses = F.refuses })
         (record { input_fails = ⊥; output_refuses = O.refuses; errors_refuse = E.refuses })
         (record { input = None; output = O.taken output.old; errors = E.taken errors.old })
         (record { input = None; output = O.taken output.new; errors = E.taken errors.new })
         asked.now terminal part.now place r.fault) }
 {
+    let free = free_ports(alloc, asked.port, ports.ports())?;
+    let mut clock = MachineClock::new(rt);
+    let mut quit = StandardInput::new(rt, alloc, asked.seconds.is_none())?;
+    match plan {
+        None => {
+            let mut ports = ports;
+            hold_session(
+                alloc,
+                asked,
+                terminal,
+                part,
+                place,
+                &mut ports,
+                &mut clock,
+                &mut quit,
+                free.as_slice(),
+                files,
+                output,
+                errors,
+            )
+        }
+        Some(plan) => {
+            let mut wired = WiredPorts::new(alloc, ports, plan, part.rows())?;
+            hold_session(
+                alloc,
+                asked,
+                terminal,
+                part,
+                place,
+                &mut wired,
+                &mut clock,
+                &mut quit,
+                free.as_slice(),
+                files,
+                output,
+                errors,
+            )
+        }
+    }
+}
+
+/// The session of devices on these ports, which are new, by this clock: it is told that they are there, and which of
+/// them the system chose; they are served until `quit` asks for the end, and the session is concluded.
+fn hold_session<'a, P: Counted, C: Seconds, Q: Quit, F: Files, O: Output, E: Output>(
+    alloc: Global,
+    asked: &AskedFleet<'a>,
+    terminal: bool,
+    part: &Scenario,
+    place: SocketAddr,
+    ports: &mut P,
+    clock: &mut C,
+    quit: &mut Q,
+    free: &[u16],
+    files: &mut F,
+    output: &mut O,
+    errors: &mut E,
+) -> Result<Status, Refusal<'a>>
+    requires new { (e : ℕ) → P.told ports.old e ≡ Some no_traffic }
+    requires wire { IsWireBy asked.now.wire (length part.now.rows) (P.wire ports.old) }
+    ensures done { IfOk result (IsSessionDone
+        (record {
+          made = F.made files.old;
+          streams = record { input = None; output = O.taken output.old; errors = E.taken errors.old };
+        })
+        (record {
+          made = F.made files.new;
+          streams = record { input = None; output = O.taken output.new; errors = E.taken errors.new };
+        })
+        asked.now terminal part.now place free.now (Q.asked quit.new)) }
+    ensures kept { OnErr result (F.made files.new ≡ F.made files.old) }
+    ensures refused { IfErr result (λ r. IsSessionFault
+        (record { holds = F.holds files.old; fails = F.fails files.old; refuses = F.refuses })
+        (record { input_fails = ⊥; output_refuses = O.refuses; errors_refuse = E.refuses })
+        (record { input = None; output = O.taken output.old; errors = E.taken errors.old })
+        (record { input = None; output = O.taken output.new; errors = E.taken errors.new })
+        asked.now terminal part.now place free.now (Q.asked quit.new) r.fault) }
+{
     let devices = part.rows();
     tell_ready(alloc, devices, place, errors)?;
-    print_ready(alloc, asked.json, devices, place, output)?;
+    print_ready(alloc, asked.json, devices, place, free, output)?;
     let telling = telling_of(asked.json, terminal, devices);
-    let fleet = serve_part(alloc, asked, part, telling, ports, clock, output, errors)?;
-    conclude_session(alloc, asked, part, fleet, ports.counted(), files, output)
+    let served = serve_part(
+        alloc, asked, part, telling, ports, clock, quit, output, errors,
+    )?;
+    conclude_session(
+        alloc,
+        asked,
+        part,
+        served.fleet,
+        served.account,
+        files,
+        output,
+    )
 }

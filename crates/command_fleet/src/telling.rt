@@ -3,14 +3,15 @@ ghost use Rattle.std.specs.Prelude.{◌≡◌, None, IfErr, IfOk, OnOk};
 ghost use Rattle.std.specs.Io.KnownBytes.{Appends};
 ghost use Rattle.std.specs.String.{string_bytes};
 ghost use Rattle.command_files.specs.Fault.{IsWritingFault};
-ghost use Rattle.command_fleet.specs.Fleet.{ready_text};
+ghost use Rattle.command_fleet.specs.Fleet.{opening_text};
 ghost use Rattle.command_fleet.specs.InJson.{second_json};
 ghost use Rattle.trace_json.specs.Writing.{json_line};
 ghost use Rattle.command_fleet.specs.Telling.{IsRefused, counts_shown, printed_of, progress_line, shown_line, shown_of};
 ghost use Rattle.command_fleet.specs.Telling.{telling_of};
 
 use crate::counted::Counted;
-use crate::in_json::{ready_object, second_line};
+use crate::in_json::second_line;
+use crate::placing::opening;
 use command_files::{Output, Refusal, unwritten};
 use fleet_link::Counts;
 use std::alloc::{AllocError, Global};
@@ -152,21 +153,24 @@ pub(crate) fn tell_second<'a, P: Counted, O: Output, E: Output>(
     }
 }
 
-/// Prints the object that says that the ports are there, if JSON is asked for.
+/// Prints which ports the system chose; and first the object that says that the ports are there, if JSON is asked for.
 #[tactic(auto, using(crate::proofs::Told::nothing_told))]
 pub(crate) fn print_ready<'a, O: Output>(
     alloc: Global,
     json: bool,
     devices: usize,
     place: SocketAddr,
+    ports: &[u16],
     output: &mut O,
 ) -> Result<(), Refusal<'a>>
-    ensures told { OnOk result (Appends (O.taken output.old) (O.taken output.new) (ready_text json devices place)) }
-    ensures refused { IfErr result (λ r. IsWritingFault (O.refuses (ready_text json devices place)) r.fault) }
+    ensures told { OnOk result (Appends (O.taken output.old) (O.taken output.new)
+        (opening_text json devices place ports.now)) }
+    ensures refused { IfErr result (λ r. IsWritingFault
+        (O.refuses (opening_text json devices place ports.now)) r.fault) }
 {
-    if !json {
+    if !json && ports.is_empty() {
         return Ok(());
     }
-    let text = ready_object(alloc, devices, place)?;
+    let text = opening(alloc, json, devices, place, ports)?;
     put(text.as_str(), "standard output", output)
 }

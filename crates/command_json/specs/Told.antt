@@ -11,7 +11,8 @@ use Rattle.command_files.specs.FaultLine.{case_cause, case_word, fault_word, pla
 use Rattle.command_files.specs.Refusals.{IsReported}
 use Rattle.command_files.specs.World.{StreamFaults, Streams}
 use Rattle.command_files.specs.declared.fault.Fault.{Fault}
-use Rattle.command_files.specs.declared.fault.Fault.TheVariants.{Bind, Cases, Hex, NoDatagram, NoDevice, NoSuchCase, Text}
+use Rattle.command_files.specs.declared.fault.Fault.TheVariants.{Bind, Cases, Hex, NoDatagram, NoDevice, NoSuchCase, Slices}
+use Rattle.command_files.specs.declared.fault.Fault.TheVariants.{Text, Wire}
 
 -- ---- what the object has
 
@@ -38,8 +39,10 @@ abbrev pub refused_file : Fault → Option (List ℕ) → Option (List ℕ)
 refused_file Hex about = None
 refused_file NoDevice about = None
 refused_file Bind about = None
+refused_file Wire about = None
 refused_file NoSuchCase about = None
 refused_file NoDatagram about = None
+refused_file Slices about = None
 refused_file _ about = about
 
 -- the word that a fault is about; of a line of a scenario's text any, as on standard error
@@ -47,8 +50,10 @@ abbrev pub IsRefusedWord : Fault → Option (List ℕ) → Option (List ℕ) →
 IsRefusedWord Hex about word = word ≡ about
 IsRefusedWord NoDevice about word = word ≡ about
 IsRefusedWord Bind about word = word ≡ about
+IsRefusedWord Wire about word = word ≡ about
 IsRefusedWord NoSuchCase about word = word ≡ about
 IsRefusedWord NoDatagram about word = word ≡ about
+IsRefusedWord Slices about word = word ≡ about
 IsRefusedWord (Text fault) about word = ⊤
 IsRefusedWord _ about word = word ≡ None
 

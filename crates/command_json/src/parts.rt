@@ -64,7 +64,13 @@ pub(crate) fn refused_file<'a>(fault: Fault, about: Option<&'a str>) -> Option<&
     ensures { option_map (λ x. x.now) result ≡ refused_file fault (option_map (λ x. x.now) about.entry) }
 {
     match fault {
-        Fault::Hex | Fault::NoDevice | Fault::Bind | Fault::NoSuchCase | Fault::NoDatagram => None,
+        Fault::Hex
+        | Fault::NoDevice
+        | Fault::Bind
+        | Fault::Wire
+        | Fault::NoSuchCase
+        | Fault::NoDatagram
+        | Fault::Slices => None,
         _ => about,
     }
 }
@@ -78,7 +84,13 @@ pub(crate) fn refused_word<'a>(
     ensures { IsRefusedWord fault (option_map (λ x. x.now) about.entry) (option_map (λ x. x.now) result) }
 {
     match fault {
-        Fault::Hex | Fault::NoDevice | Fault::Bind | Fault::NoSuchCase | Fault::NoDatagram => about,
+        Fault::Hex
+        | Fault::NoDevice
+        | Fault::Bind
+        | Fault::Wire
+        | Fault::NoSuchCase
+        | Fault::NoDatagram
+        | Fault::Slices => about,
         Fault::Text(_) => blamed,
         _ => None,
     }

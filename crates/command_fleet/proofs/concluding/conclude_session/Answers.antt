@@ -17,7 +17,7 @@ returns-clause-concluded g c =
     let session : Session = record {
       slots = c.args.fleet.slots.items;
       second = c.args.fleet.second;
-      counts = c.args.counts;
+      account = c.args.account;
     } in
     concluded before after c.args.asked.now c.args.part.now session c.status_of.result c.cut_of-cut.result
     c.cut_of-cut.ensures c.in_ok-print_session.ensures.printed c.in_ok-save_steps.ensures.saved c.status_of.ensures
@@ -43,7 +43,7 @@ returns-in_err-print_session-clause-refused g c =
     let session : Session = record {
       slots = c.args.fleet.slots.items;
       second = c.args.fleet.second;
-      counts = c.args.counts;
+      account = c.args.account;
     } in
     let h = line_unprinted files faults before after c.args.asked.now session c.in_err-print_session.field-0.0.fault
     c.cut_of-cut.result c.cut_of-cut.ensures c.in_err-print_session.ensures.refused in
@@ -70,7 +70,7 @@ returns-in_err-save_steps-clause-refused g c =
     let session : Session = record {
       slots = c.args.fleet.slots.items;
       second = c.args.fleet.second;
-      counts = c.args.counts;
+      account = c.args.account;
     } in
     let h = steps_unsaved files faults before after c.args.asked.now session c.in_err-save_steps.field-0.0.fault
     c.cut_of-cut.result c.cut_of-cut.ensures c.in_ok-print_session.ensures.printed c.in_err-save_steps.ensures.refused

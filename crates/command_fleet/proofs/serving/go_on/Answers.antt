@@ -1,4 +1,4 @@
-use Rattle.std.proofs.Common.{◌+◌, ◌≤◌, inl, inr, arith}
+use Rattle.std.proofs.Common.{◌+◌, ◌≤◌, ◌∙◌, refl, inl, inr, arith}
 use Rattle.fleet_link.proofs.Seconds.{asked_less}
 use Rattle.command_fleet.proofs.serving.go_on.Goals as goal
 
@@ -6,6 +6,7 @@ pub loop-turn-init : goal.loop-turn-init
 loop-turn-init g c = record {
   fleet = λ s played before h. h;
   asked = λ read_before asked_before calls h. asked_less read_before _ asked_before _ _ _ _ (calls + 0) h (omega arith);
+  wire = refl;
   told = λ start h. h;
 }
 
@@ -17,6 +18,7 @@ loop-turn-preserved g c = record {
       (calls + (c.loop-turn._turn + 1))
       (c.in_ok-turn.ensures.asked read_before asked_before (calls + c.loop-turn._turn)
       (c.loop-turn.invariant.asked read_before asked_before calls h)) (omega arith);
+  wire = c.in_ok-turn.ensures.wire ∙ c.loop-turn.invariant.wire;
   told = λ start h. c.in_ok-turn.ensures.told start (c.loop-turn.invariant.told start h);
 }
 

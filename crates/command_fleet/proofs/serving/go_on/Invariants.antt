@@ -1,5 +1,5 @@
 -- All devices are served so far, and each second was told.
-use Rattle.std.proofs.Common.{ℕ, ◌+◌, Bool, List, false, Option, None}
+use Rattle.std.proofs.Common.{ℕ, ◌≡◌, ◌+◌, Bool, List, false, Option, None}
 use Rattle.scenario_image.specs.Scenario.{Scenario}
 use Rattle.fleet_link.specs.Serving.{IsFleet}
 use Rattle.fleet_link.specs.Timing.{AreAsked}
@@ -17,6 +17,7 @@ invariant-loop-turn g l = record {
       (g.C.Seconds.read l.fn.clock) asked_before (g.P.Ports.asked l.fn.ports) l.fn.fleet.began l.fn.fleet.second calls
       → AreAsked read_before (g.C.Seconds.read l.clock) asked_before (g.P.Ports.asked l.ports) l.fleet.began
       l.fleet.second (calls + l._turn);
+  wire : g.P.Counted.wire l.ports ≡ g.P.Counted.wire l.fn.ports;
   told : (start : Streams)
       → AreTold l.telling l.fn.fleet.second start
       (record { input = None; output = g.O.Output.taken l.fn.output; errors = g.E.Output.taken l.fn.errors })

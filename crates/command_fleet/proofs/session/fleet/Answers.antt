@@ -17,16 +17,16 @@ returns-clause-done g c =
     } in
     let after : Streams = record {
       input = None;
-      output = g.O.Output.taken c.hold_session.new.output;
-      errors = g.E.Output.taken c.hold_session.new.errors;
+      output = g.O.Output.taken c.hold_on.new.output;
+      errors = g.E.Output.taken c.hold_on.new.errors;
     } in
     let there = ready files c.args.asked c.in_ok-scenario.scenario c.in_ok-part.part c.in-Some.devices
     c.in_ok-servers.servers.items c.in_ok-place.place c.in_ok-scenario.ensures.found c.in-Some.ensures.chosen
     (fixed_as _ _ _ _ c.as_slice.ensures.value c.in_ok-servers.ensures.servers) c.in_ok-part.ensures.part
     c.in_ok-place.ensures.place in
     fleet_done files (record { made = g.F.Files.made c.args.files.now; streams = before })
-    (record { made = g.F.Files.made c.hold_session.new.files; streams = after }) c.args.asked c.args.terminal
-    c.in_ok-part.part c.in_ok-place.place c.hold_session.result there c.hold_session.ensures.done
+    (record { made = g.F.Files.made c.hold_on.new.files; streams = after }) c.args.asked c.args.terminal
+    c.in_ok-part.part c.in_ok-place.place c.hold_on.result there c.hold_on.ensures.done
 
 pub returns-clause-refused : goal.returns-clause-refused
 returns-clause-refused g c =
@@ -47,12 +47,12 @@ returns-clause-refused g c =
     } in
     let after : Streams = record {
       input = None;
-      output = g.O.Output.taken c.hold_session.new.output;
-      errors = g.E.Output.taken c.hold_session.new.errors;
+      output = g.O.Output.taken c.hold_on.new.output;
+      errors = g.E.Output.taken c.hold_on.new.errors;
     } in
     let there = ready files c.args.asked c.in_ok-scenario.scenario c.in_ok-part.part c.in-Some.devices
     c.in_ok-servers.servers.items c.in_ok-place.place c.in_ok-scenario.ensures.found c.in-Some.ensures.chosen
     (fixed_as _ _ _ _ c.as_slice.ensures.value c.in_ok-servers.ensures.servers) c.in_ok-part.ensures.part
     c.in_ok-place.ensures.place in
     fleet_broken files faults before after c.args.asked c.args.terminal c.in_ok-part.part c.in_ok-place.place
-    c.hold_session.result there c.hold_session.ensures.refused
+    c.hold_on.result there c.hold_on.ensures.refused

@@ -1,0 +1,15 @@
+use Rattle.std.proofs.Common.{append_assoc}
+use Rattle.command_fleet.specs.InJson.{port_json}
+use Rattle.command_fleet.proofs.in_json.put_port.Goals as goal
+
+pub returns-clause-adds : goal.returns-clause-adds
+unfolding port_json
+returns-clause-adds c =
+    rw (
+      c.in_ok-end_object.ensures.ok,
+      c.in_ok-put_number-2.ensures.adds,
+      c.in_ok-put_number.ensures.adds,
+      c.in_ok-put_string.ensures.adds,
+      c.in_ok-begin_object.ensures.ok,
+      c.from.ensures,
+    ) (simp append_assoc)
