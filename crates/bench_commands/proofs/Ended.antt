@@ -18,7 +18,7 @@ use Rattle.bench_commands.specs.Command.{IsFinished, IsFormOf, IsLogAnswered, Is
 use Rattle.bench_commands.specs.Command.{IsLost, IsRefused, IsToldIn, IsUnfinished, wants_json}
 use Rattle.command_files.specs.Files.{Grows, most_bytes}
 use Rattle.command_files.specs.Input.{IsWithin, WhereKnown}
-use Rattle.command_fleet.specs.Fleet.{IsFleetDone, IsFleetFault, IsSessionBroken, IsSessionFault, telling_for}
+use Rattle.command_fleet.specs.Fleet.{IsFleetDone, IsFleetFault, IsHeldFault, IsSessionBroken, telling_for}
 use Rattle.command_fleet.specs.Telling.{IsCut, IsRefused as IsSecondRefused, Passed}
 use Rattle.command_fleet.specs.declared.telling.Telling.{Telling}
 use Rattle.command_fleet.specs.declared.telling.Telling.TheVariants.{Nothing, Objects, Progress}
@@ -185,7 +185,7 @@ pub served_if : {E : Type 0}
     (record { made = after.made; streams = beside_input after.streams }) fleet terminal)
     → after.streams.input ≡ before.streams.input → IfOk result (IsFinished files faults before after terminal words)
 served_if files faults before after terminal words fleet (Ok status) read served unread =
-    let done = served.done in
+    let done = served.done.3 in
     inr (inr (inr (
       record {
         fleet = fleet;
@@ -194,20 +194,27 @@ served_if files faults before after terminal words fleet (Ok status) read served
           part = served.part;
           place = served.place;
           ready = served.ready;
-          done = record {
-            first = done.first;
-            ready_told = record { shown = done.ready_told.shown; printed = done.ready_told.printed };
-            session = done.session;
-            served = done.served;
-            last = done.last;
-            told = done.told;
-            concluded = record {
-              printed = done.concluded.printed;
-              saved = done.concluded.saved;
-              ended = done.concluded.ended;
-            };
-            quiet = done.quiet;
-          };
+          done = (
+            served.done.0,
+            served.done.1,
+            served.done.2,
+            record {
+              first = done.first;
+              ready_told = record { shown = done.ready_told.shown; printed = done.ready_told.printed };
+              wire = done.wire;
+              wire_is = done.wire_is;
+              session = done.session;
+              served = done.served;
+              last = done.last;
+              told = done.told;
+              concluded = record {
+                printed = done.concluded.printed;
+                saved = done.concluded.saved;
+                ended = done.concluded.ended;
+              };
+              quiet = done.quiet;
+            },
+          );
         };
       },
       unread,
@@ -293,27 +300,40 @@ session_so : (files : FilesKnown) (faults : StreamFaults) (before after : Stream
 session_so files faults before after fleet terminal fault broken =
     record { part = broken.part; place = broken.place; ready = broken.ready; why = so broken.why }
   where
-    so : IsSessionFault files (beside_faults faults) (beside_input before) (beside_input after) fleet terminal
+    so : IsHeldFault files (beside_faults faults) (beside_input before) (beside_input after) fleet terminal
         broken.part broken.place fault
-        → IsSessionFault files faults before after fleet terminal broken.part broken.place fault
-    so (inl untold) = inl untold
-    so (inr (inl lost)) =
-        inr (inl (record {
-          first = lost.first;
-          ready_told = record { shown = lost.ready_told.shown; printed = lost.ready_told.printed };
-          cut = cut_so (telling_for fleet terminal broken.part) faults lost.first after fault lost.cut;
-        }))
-    so (inr (inr lost)) =
-        inr (inr (record {
-          first = lost.first;
-          ready_told = record { shown = lost.ready_told.shown; printed = lost.ready_told.printed };
-          session = lost.session;
-          served = lost.served;
-          last = lost.last;
-          told = lost.told;
-          why = lost.why;
-          quiet = lost.quiet;
-        }))
+        → IsHeldFault files faults before after fleet terminal broken.part broken.place fault
+    so (inl none) = inl none
+    so (inr (ports, free, quit, inl untold)) = inr (ports, free, quit, inl untold)
+    so (inr (ports, free, quit, inr (inl lost))) =
+        inr (
+          ports,
+          free,
+          quit,
+          inr (inl (record {
+            first = lost.first;
+            ready_told = record { shown = lost.ready_told.shown; printed = lost.ready_told.printed };
+            cut = cut_so (telling_for fleet terminal broken.part) faults lost.first after fault lost.cut;
+          })),
+        )
+    so (inr (ports, free, quit, inr (inr lost))) =
+        inr (
+          ports,
+          free,
+          quit,
+          inr (inr (record {
+            first = lost.first;
+            ready_told = record { shown = lost.ready_told.shown; printed = lost.ready_told.printed };
+            wire = lost.wire;
+            wire_is = lost.wire_is;
+            session = lost.session;
+            served = lost.served;
+            last = lost.last;
+            told = lost.told;
+            why = lost.why;
+            quiet = lost.quiet;
+          })),
+        )
 
 -- a session of several devices that may have been concluded
 pub fleet_lost_if : (files : FilesKnown) (faults : StreamFaults) (before after : World) (terminal : Bool)
@@ -556,6 +576,7 @@ within_job holds faults (jobs.Show image trace device from to form) before after
 within_job holds faults (jobs.Pcap image trace output) before after h = absurd h
 within_job holds faults (jobs.Titles files only) before after h = absurd h
 within_job holds faults (jobs.Test files only form junit) before after h = absurd h
+within_job holds faults (jobs.Join output images) before after h = absurd h
 
 within_cut : (holds : List ℕ → List ℕ → Type 0) (faults : StreamFaults) (job : Job) (before after : Streams)
     (fault : Fault) → IsCutJob holds faults job before after fault
@@ -573,6 +594,7 @@ within_cut holds faults (jobs.Show image trace device from to form) before after
 within_cut holds faults (jobs.Pcap image trace output) before after fault h = absurd h
 within_cut holds faults (jobs.Titles files only) before after fault h = absurd h
 within_cut holds faults (jobs.Test files only form junit) before after fault h = absurd h
+within_cut holds faults (jobs.Join output images) before after fault h = absurd h
 
 within_asked : (holds : List ℕ → List ℕ → Type 0) (faults : StreamFaults) (asked : Asked) (before after : Streams)
     → IsDebugged holds faults asked before after → WhereKnown (IsWithin most_bytes) before.input after.input

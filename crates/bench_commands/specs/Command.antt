@@ -26,6 +26,7 @@ use Rattle.command_demo.specs.Why.{IsOneWhyDone}
 use Rattle.command_fleet.specs.Fleet.{IsFleetDone, IsFleetFault}
 use Rattle.command_live.specs.Live.{IsLiveDone, IsLiveFault}
 use Rattle.command_files.specs.Refusals.{IsTold}
+use Rattle.command_join.specs.Join.{IsJoinDone, IsJoinFault}
 use Rattle.command_json.specs.Told.{IsToldInJson}
 use Rattle.command_files.specs.Status.{text_status}
 use Rattle.command_play.specs.Play.{IsPlayDone, IsPlayFault}
@@ -102,6 +103,8 @@ IsDone holds (jobs.Titles files only) answer =
 IsDone holds (jobs.Test files only form junit) answer =
     IsTestDone holds (map (λ p. p.now) files.items) (option_map (λ w. w.now) only) (report_form form)
     (option_map (λ p. p.now) junit) answer
+IsDone holds (jobs.Join output images) answer =
+    IsJoinDone holds output.now (map (λ p. p.now) images.items) answer
 
 -- a job is refused for this fault
 abbrev pub IsRefusedJob : (List ℕ → List ℕ → Type 0) → (List ℕ → Type 0) → Job → Fault → Type 0
@@ -127,6 +130,8 @@ IsRefusedJob holds fails (jobs.Titles files only) fault =
     IsTestFault holds fails (map (λ p. p.now) files.items) (option_map (λ w. w.now) only) fault
 IsRefusedJob holds fails (jobs.Test files only form junit) fault =
     IsTestFault holds fails (map (λ p. p.now) files.items) (option_map (λ w. w.now) only) fault
+IsRefusedJob holds fails (jobs.Join output images) fault =
+    (about : Option (List ℕ)) × IsJoinFault holds fails (map (λ p. p.now) images.items) about fault
 
 -- what words are answered with; a text on how to use the program is printed as it is
 abbrev pub IsAnswerTo : (List ℕ → List ℕ → Type 0) → Asked → Answer → Type 0

@@ -155,7 +155,7 @@ fn answer_text<'a, F: Files, O: Output>(
 #[tactic(none)]
 pub(crate) fn answer_words<
     'a,
-    R: Threads + Wait + Sync + Net + Clock,
+    R: Threads + Wait + Sync + Net + Clock + std::io::Input,
     F: Files,
     I: Input,
     O: Output,

@@ -43,7 +43,8 @@ pub(crate) fn job_wants_json(job: &Job) -> bool
         | Job::Run { .. }
         | Job::Pcap { .. }
         | Job::Debug { .. }
-        | Job::Titles { .. } => false,
+        | Job::Titles { .. }
+        | Job::Join { .. } => false,
     }
 }
 

@@ -11,6 +11,7 @@ use command_debug::debug;
 use command_demo::{one, one_json, one_why};
 use command_files::files::Files;
 use command_files::{Answer, Input, Output, Refusal};
+use command_join::join;
 use command_line::{Job, TraceForm as AskedForm};
 use command_play::play;
 use command_scenarios::{asm, check, check_json, dis, run};
@@ -183,6 +184,13 @@ pub(crate) fn answer_to<'a, R: Threads + Wait + Sync, F: Files, I: Input, O: Out
         } => {
             let form = report_form(form);
             let answer = test(alloc, paths.as_slice(), only, form, junit, files)?;
+            Ok(Some(answer))
+        }
+        Job::Join {
+            output: path,
+            images,
+        } => {
+            let answer = join(alloc, path, images.as_slice(), files)?;
             Ok(Some(answer))
         }
     }

@@ -7,6 +7,7 @@
 //! | `say`, `spell` | `command_words` |
 //! | `play` | `command_play` |
 //! | `asm`, `dis`, `run`, `check` | `command_scenarios` |
+//! | `join` | `command_join` |
 //! | `show`, `pcap` | `command_traces` |
 //! | `debug` | `command_debug` |
 //! | `test` | `command_test` |

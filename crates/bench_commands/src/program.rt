@@ -37,7 +37,13 @@ use std::thread::Threads;
 ///   most one line goes to `errors`, or the stream did not take it, and `errors` got nothing. What was left at it is
 ///   said too: nothing made and nothing printed where memory ran out or the words were refused; the file made where its
 ///   text could not be printed; and how far a conversation or a session came.
-pub fn command<R: Threads + Wait + Sync + Net + Clock, F: Files, I: Input, O: Output, E: Output>(
+pub fn command<
+    R: Threads + Wait + Sync + Net + Clock + std::io::Input,
+    F: Files,
+    I: Input,
+    O: Output,
+    E: Output,
+>(
     rt: &R,
     alloc: Global,
     words: &[String],
@@ -121,7 +127,14 @@ impl<'a> From<AllocError> for Undone<'a> {
 }
 
 #[tactic(auto, using(crate::proofs::Ended::no_memory, crate::proofs::Ended::unread_form, crate::proofs::Ended::asked_form))]
-fn perform<'a, R: Threads + Wait + Sync + Net + Clock, F: Files, I: Input, O: Output, E: Output>(
+fn perform<
+    'a,
+    R: Threads + Wait + Sync + Net + Clock + std::io::Input,
+    F: Files,
+    I: Input,
+    O: Output,
+    E: Output,
+>(
     rt: &R,
     alloc: Global,
     words: &'a [String],

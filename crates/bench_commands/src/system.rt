@@ -26,7 +26,16 @@ use std::{env, io};
 /// what is for a person goes to `errors`. That it does so is read, and run by the gate; its contract has what holds
 /// whatever the words: the status is one of four, and at most 64 MiB of `input` are taken.
 pub fn start<
-    R: Threads + Wait + Sync + Net + Clock + Env + std::rt::Files + Print + AllocGlobal,
+    R: Threads
+        + Wait
+        + Sync
+        + Net
+        + Clock
+        + std::io::Input
+        + Env
+        + std::rt::Files
+        + Print
+        + AllocGlobal,
     I: Input,
     E: Output,
 >(rt: &R, terminal: bool, input: &mut I, errors: &mut E) -> ExitCode
@@ -61,7 +70,13 @@ fn words_of<R: Env + AllocGlobal>(rt: &R) -> Result<Vec<String>, ErrorKind> {
 /// words (`ran`). Where the words could not be had, it is 2 with the text that says so, or a fault; nothing is read of
 /// standard input and no file is made (`unread`).
 #[tactic(auto, using(crate::proofs::Unread::ends_unread))]
-pub fn conclude<R: Threads + Wait + Sync + Net + Clock, F: Files, I: Input, O: Output, E: Output>(
+pub fn conclude<
+    R: Threads + Wait + Sync + Net + Clock + std::io::Input,
+    F: Files,
+    I: Input,
+    O: Output,
+    E: Output,
+>(
     rt: &R,
     alloc: Global,
     words: Result<Vec<String>, ErrorKind>,

@@ -1,6 +1,7 @@
 use Rattle.std.proofs.Common.{ℕ, Bor, List, Option, map, option_map, refl, subst}
 use Rattle.trace_text.specs.declared.selection.Selection.{Selection}
 use Rattle.command_files.specs.Loading.{RunPaths}
+use Rattle.command_join.specs.Join.{IsJoinDone, IsJoinFault}
 use Rattle.command_play.specs.Play.{IsPlayDone}
 use Rattle.command_play.specs.declared.form.PlayForm.{PlayForm}
 use Rattle.command_test.specs.Jobs.{IsTestDone, IsTestFault, IsTitlesDone}
@@ -309,6 +310,32 @@ returns-in_err-answer-in-Test g c =
       idle = no_answer _ _ _ told;
       debugged = no_answer _ _ _ told;
       refused = refused_at_once _ _ _ _ _ _ _ _ _ told c.in-Test.is refused (refl, refl, refl);
+    }
+
+pub returns-in_ok-answer-in-Join : goal.returns-in_ok-answer-in-Join
+returns-in_ok-answer-in-Join g c =
+    let done = subst (λ (l : List (Bor (List ℕ))). IsJoinDone (g.F.Files.holds c.args.files.now) c.in-Join.path.now
+    (map (λ p. p.now) l) c.in_ok-answer-in-Join.answer) c.as_slice-in-Join.ensures.value
+    c.in_ok-answer-in-Join.ensures.done in
+    record {
+      done = answered_at_once _ _ _ _ c.in-Join.is done;
+      idle = (refl, refl, refl);
+      debugged = tt;
+      refused = tt;
+    }
+
+pub returns-in_err-answer-in-Join : goal.returns-in_err-answer-in-Join
+returns-in_err-answer-in-Join g c =
+    let about : Option (List ℕ) = option_map (λ p. p.now) c.in_err-answer-in-Join.field-0.0.about in
+    let refused = subst (λ (l : List (Bor (List ℕ))). IsJoinFault (g.F.Files.holds c.args.files.now) (g.F.Files.fails
+    c.args.files.now) (map (λ p. p.now) l) about c.in_err-answer-in-Join.field-0.0.fault)
+    c.as_slice-in-Join.ensures.value c.in_err-answer-in-Join.ensures.refused in
+    let told = c.from_residual-in_err-answer-in-Join.ensures.1 in
+    record {
+      done = no_answer _ _ _ told;
+      idle = no_answer _ _ _ told;
+      debugged = no_answer _ _ _ told;
+      refused = refused_at_once _ _ _ _ _ _ _ _ _ told c.in-Join.is (about, refused) (refl, refl, refl);
     }
 
 pub returns-in-Debug : goal.returns-in-Debug
