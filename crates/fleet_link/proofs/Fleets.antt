@@ -1,5 +1,5 @@
 -- All devices, where one of them goes on.
-use Rattle.std.proofs.Common.{◌≡◌, ◌⊎◌, inl, inr, ℕ, zero, suc, ◌+◌, ◌≤◌, ◌<◌, Bool, true, false, List, [], ◌∷◌}
+use Rattle.std.proofs.Common.{◌≡◌, ◌⊎◌, inl, inr, ℕ, zero, suc, ◌+◌, ◌-◌, ◌^◌, min, ◌≤◌, ◌<◌, Bool, true, false, List, [], ◌∷◌}
 use Rattle.std.proofs.Common.{length, take, get_or, max, Option, None, Some, slice_get, Result, Ok, Err, OnOk, refl, sym, ap, subst, ◌∙◌, arith}
 use Rattle.std.proofs.Math.ListN.{length-set}
 use Rattle.std.proofs.lemmas.Bool.{cases_eq}
@@ -13,12 +13,17 @@ use Rattle.scenario_image.specs.Scenario.{Row, Scenario}
 use Rattle.fleet_link.specs.declared.fleet.Fleet.{Fleet}
 use Rattle.fleet_link.specs.declared.ports.Receipt.{Receipt}
 use Rattle.fleet_link.specs.declared.slot.Slot.{Slot}
-use Rattle.fleet_link.specs.Playing.{played_steps, posts_in, row_state, second_by, GoesOn, IsLaterThan, IsPassed}
-use Rattle.fleet_link.specs.Serving.{posts_of, AreAt, AreMet, AreSwept, IsFleet, IsRowServed, IsServed, IsSweptAt}
+use Rattle.fleet_link.specs.Playing.{happened_count, happened_of, played_steps, posts_in, posts_made, row_state}
+use Rattle.fleet_link.specs.Playing.{second_by, GoesOn, HasHappenedBy, IsLaterThan, IsPassed, IsRowStep}
+use Rattle.fleet_link.specs.Serving.{all_posts, posts_of, AreAt, AreMet, AreSwept, IsFleet, IsRowServed, IsServed}
+use Rattle.fleet_link.specs.Serving.{IsSweptAt}
 use Rattle.fleet_link.specs.Traffic.{Carries, Traffic, at_port, failed_once, no_traffic, traffic_of_receipt}
 use Rattle.fleet_link.proofs.Served.{served_on, swept_after}
 use Rattle.fleet_link.proofs.Stepped.{goes_on_same}
-use Rattle.fleet_link.proofs.Passing.{goes_posts, more_met, passed_posts, posts_grow, same_row, still_met}
+use Rattle.fleet_link.proofs.Advanced.{by_later}
+use Rattle.fleet_link.proofs.Passing.{goes_posts, more_met, passed_all, passed_made, passed_posts, posts_grow, same_row}
+use Rattle.fleet_link.proofs.Passing.{still_met, sum_capped, sum_less}
+use Rattle.fleet_link.proofs.Posting.{made_posts}
 use Rattle.fleet_link.proofs.Told.{at_port_other, at_port_same, carries_none, carries_on, carries_same}
 
 -- ---- lists
@@ -71,18 +76,18 @@ served_row s played e before between after slot new broken h f =
 met_set : (s : Scenario) (played : Bool) (slots more : List Slot) (place : ℕ) (slot new : Slot)
     → AreMet s played slots → slice_get slots place ≡ Some slot → more ≡ slice_set slots place new
     → ((group until : ℕ) → posts_in slot.row group until ≤ posts_in new.row group until)
-    → ((k group count : ℕ) (row : Row) → slice_get s.rows place ≡ Some row → k < new.row.place
-    → slice_get (played_steps played row.steps) k ≡ Some (Need group count)
-    → count ≤ posts_of more group (second_by 0 (take (k + 1) new.row.steps.items)))
+    → ((k group count : ℕ) (row : Row) → slice_get s.rows place ≡ Some row → k < happened_count new.row
+    → IsRowStep (played_steps played row.steps) k (Need group count)
+    → count ≤ posts_of more group (second_by 0 (take (k + 1) (happened_of new.row))))
     → AreMet s played more
 met_set s played slots more place slot new met at is grows here =
     λ e k group count row x at_row got l need.
-    each_set (λ i y. (k group count : ℕ) (row : Row) → slice_get s.rows i ≡ Some row → k < y.row.place
-    → slice_get (played_steps played row.steps) k ≡ Some (Need group count)
-    → count ≤ posts_of more group (second_by 0 (take (k + 1) y.row.steps.items))) slots more place new is here
+    each_set (λ i y. (k group count : ℕ) (row : Row) → slice_get s.rows i ≡ Some row → k < happened_count y.row
+    → IsRowStep (played_steps played row.steps) k (Need group count)
+    → count ≤ posts_of more group (second_by 0 (take (k + 1) (happened_of y.row)))) slots more place new is here
     (λ i y o found j g n r a b c.
     let before = met i j g n r y a found b c in
-    let grown = more_posts g (second_by 0 (take (j + 1) y.row.steps.items)) in
+    let grown = more_posts g (second_by 0 (take (j + 1) (happened_of y.row))) in
     omega (arith, before, grown)) e x got k group count row at_row l need
   where
     more_posts : (group until : ℕ) → posts_of slots group until ≤ posts_of more group until
@@ -92,13 +97,14 @@ met_set s played slots more place slot new met at is grows here =
 
 -- one device went on, nothing went through the ports of the others
 pub one_served : (s : Scenario) (played : Bool) (before between after : ℕ → Option Traffic) (slots more : List Slot)
-    (now : ℕ) (broken : Bool) (place : ℕ) (slot new : Slot) → IsFleet s played before slots now false between
+    (now : ℕ) (broken : Bool) (place until : ℕ) (slot new : Slot) → IsFleet s played before slots now false between
     → slice_get slots place ≡ Some slot → more ≡ slice_set slots place new
     → ((class : Template) (own : List Step) → IsServed class own (before place) slot false (between place)
     → IsServed class own (before place) new broken (after place))
     → ((e : ℕ) → (e ≡ place → ⊥) → Carries (between e) (after e) no_traffic) → new.second ≤ now
-    → GoesOn slot.row new.row → IsFleet s played before more now broken after
-one_served s played before between after slots more now broken place slot new h at is here others early goes =
+    → until ≤ now → GoesOn until slot.row new.row → IsFleet s played before more now broken after
+one_served s played before between after slots more now broken place until slot new h at is here others early le goes =
+    let row = h.each place slot at in
     record {
       count = ap length is ∙ length-set slots place new ∙ h.count;
       each = each_set (λ e x. IsRowServed s played e (before e) x broken (after e)) slots more place new is
@@ -107,20 +113,23 @@ one_served s played before between after slots more now broken place slot new h 
           (λ e x o got. served_row s played e (before e) (between e) (after e) x x broken (h.each e x got)
           (λ class own k. served_on class own (before e) x broken (between e) (after e) k (others e o)));
       early = each_set (λ e x. x.second ≤ now) slots more place new is early (λ e x o got. h.early e x got);
-      met = met_set s played slots more place slot new h.met at is (goes_posts slot.row new.row goes)
+      made = each_set (λ e x. HasHappenedBy now x.row) slots more place new is
+          (goes.made (played_steps played row.steps) now row.served.row_is le (h.made place slot at))
+          (λ e x o got. h.made e x got);
+      met = met_set s played slots more place slot new h.met at is (goes_posts until slot.row new.row goes)
           (λ k group count row a l need.
-          still_met (played_steps played row.steps) slot.row new.row (posts_of more)
+          still_met until (played_steps played row.steps) slot.row new.row (posts_of more)
           (same_row s played place (before place) (between place) slot false row (h.each place slot at) a) goes
           (λ i g n b c.
           let before_set = h.met place i g n row slot a at b c in
-          let grown = more_posts g (second_by 0 (take (i + 1) slot.row.steps.items)) in
+          let grown = more_posts g (second_by 0 (take (i + 1) (happened_of slot.row))) in
           omega (arith, before_set, grown)) k group count l need);
     }
   where
-    more_posts : (group until : ℕ) → posts_of slots group until ≤ posts_of more group until
-    more_posts group until =
-        subst (λ l. posts_of slots group until ≤ posts_of l group until) (sym is)
-        (posts_grow slots place slot new group until at (goes_posts slot.row new.row goes group until))
+    more_posts : (group second : ℕ) → posts_of slots group second ≤ posts_of more group second
+    more_posts group second =
+        subst (λ l. posts_of slots group second ≤ posts_of l group second) (sym is)
+        (posts_grow slots place slot new group second at (goes_posts until slot.row new.row goes group second))
 
 -- one device passed a need, or did nothing
 pub one_passed : (s : Scenario) (played : Bool) (before between : ℕ → Option Traffic) (slots : List Slot)
@@ -156,8 +165,8 @@ one_passed s played before between slots now place name posts slot new h at serv
     by_case : (new.row ≡ slot.row) ⊎ ((slot.end ≡ None) × IsPassed name posts now slot.row new.row)
         → IsFleet s played before (slice_set slots place new) now false between
     by_case (inl same) =
-        one_served s played before between between slots (slice_set slots place new) now false place slot new h at
-        refl here none (omega (arith, early, second)) (goes_on_same slot.row new.row same)
+        one_served s played before between between slots (slice_set slots place new) now false place now slot new h at
+        refl here none (omega (arith, early, second)) (omega arith) (goes_on_same now slot.row new.row same)
     by_case (inr (on, p)) =
         record {
           count = length-set slots place new ∙ h.count;
@@ -168,16 +177,20 @@ one_passed s played before between slots now place name posts slot new h at serv
               (λ e x o got. h.each e x got);
           early = each_set (λ e x. x.second ≤ now) slots (slice_set slots place new) place new refl
               (omega (arith, early, second)) (λ e x o got. h.early e x got);
+          made = each_set (λ e x. HasHappenedBy now x.row) slots (slice_set slots place new) place new refl
+              (passed_made name posts now slot.row new.row p (h.each place slot at).served.row_is.second
+              (h.made place slot at))
+              (λ e x o got. h.made e x got);
           met = met_set s played slots (slice_set slots place new) place slot new h.met at refl
               (passed_posts name posts now slot.row new.row p)
               (λ k group count row a l need.
-              more_met (played_steps played row.steps) name posts now slot.second slot.row new.row
+              more_met (played_steps played row.steps) name posts now slot.row new.row
               (posts_of (slice_set slots place new))
               (same_row s played place (before place) (between place) slot false row (h.each place slot at) a)
-              ((h.each place slot at).served.on_time on) p (stands p)
+              (h.each place slot at).served.row_is.second p (stands p)
               (λ i g n b c.
               let before_set = h.met place i g n row slot a at b c in
-              let grown = more_posts p g (second_by 0 (take (i + 1) slot.row.steps.items)) in
+              let grown = more_posts p g (second_by 0 (take (i + 1) (happened_of slot.row))) in
               omega (arith, before_set, grown)) k group count l need);
         }
 
@@ -209,6 +222,30 @@ stand_still slots place name posts now group until slot new at passed =
         subst (λ r. posts_in slot.row group until ≤ posts_in r group until) (sym same) (omega arith)
     by_case (inr (on, p)) = passed_posts name posts now slot.row new.row p group until
 
+-- those that all rows have made are as many
+pub all_still : (slots : List Slot) (place name posts now group : ℕ) (slot new : Slot)
+    → slice_get slots place ≡ Some slot
+    → (new.row ≡ slot.row) ⊎ ((slot.end ≡ None) × IsPassed name posts now slot.row new.row)
+    → min (all_posts slots group) (2 ^ 64 - 1) ≤ min (all_posts (slice_set slots place new) group) (2 ^ 64 - 1)
+all_still slots place name posts now group slot new at passed =
+    sum_capped (λ (x : Slot). posts_made x.row group) slots place slot new at (by_case passed)
+  where
+    by_case : (new.row ≡ slot.row) ⊎ ((slot.end ≡ None) × IsPassed name posts now slot.row new.row)
+        → min (posts_made slot.row group) (2 ^ 64 - 1) ≤ min (posts_made new.row group) (2 ^ 64 - 1)
+    by_case (inl same) =
+        let e : posts_made new.row group ≡ posts_made slot.row group = ap (λ r. posts_made r group) same in
+        omega (arith, e)
+    by_case (inr (on, p)) = passed_all name posts now group slot.row new.row p
+
+-- all posts that rows have made stand
+pub all_stand : (s : Scenario) (played : Bool) (before after : ℕ → Option Traffic) (slots : List Slot) (now group : ℕ)
+    → IsFleet s played before slots now false after → all_posts slots group ≤ posts_of slots group now
+all_stand s played before after slots now group h =
+    sum_less (λ (x : Slot). posts_made x.row group) (λ (x : Slot). posts_in x.row group now) slots
+    (λ e x at.
+    let row = h.each e x at in
+    made_posts (played_steps played row.steps) x.row group now row.served.row_is (h.made e x at))
+
 -- nothing went through the port of any device
 pub none_served : (s : Scenario) (played : Bool) (before between after : ℕ → Option Traffic) (slots : List Slot)
     (now later : ℕ)
@@ -222,6 +259,7 @@ none_served s played before between after slots now later broken h none le =
           (λ class own k. served_on class own (before e) x broken (between e) (after e) k
           (none e (slice_get_within slots e x got)));
       early = λ e x got. let k : x.second ≤ now = h.early e x got in omega arith;
+      made = λ e x got. by_later now later 0 (happened_of x.row) le (h.made e x got);
       met = h.met;
     }
 
@@ -264,11 +302,11 @@ pub failed_at : (s : Scenario) (played : Bool) (before between after : ℕ → O
     → IsFleet s played before (slice_set slots device new) now false after
 failed_at s played before between after slots now device slot new h went at served second row =
     let le : slot.second ≤ now = h.early device slot at in
-    one_served s played before between after slots (slice_set slots device new) now false device slot new h at refl
+    one_served s played before between after slots (slice_set slots device new) now false device now slot new h at refl
     (λ class own k. served class own (before device) (between device) (after device) k
     (carries_same (between device) (after device) _ _ (went device) (at_port_same device failed_once)))
     (λ e o. carries_same (between e) (after e) _ _ (went e) (at_port_other device e failed_once o)) (omega arith)
-    (goes_on_same slot.row new.row row)
+    (omega arith) (goes_on_same now slot.row new.row row)
 
 -- what went through a port past those of the devices has no part in it
 pub beyond : (s : Scenario) (played : Bool) (before between after : ℕ → Option Traffic) (slots : List Slot)
@@ -294,16 +332,16 @@ pub gone_on : (s : Scenario) (played : Bool) (before between mid after : ℕ →
     → Carries x (mid place) more
     → slot.second ≤ now → IsServed class own b new broken (after place))
     → ((e : ℕ) → (e ≡ place → ⊥) → Carries (mid e) (after e) no_traffic)
-    → ((most : ℕ) → slot.second ≤ most → now ≤ most → new.second ≤ most) → GoesOn slot.row new.row
+    → ((most : ℕ) → slot.second ≤ most → now ≤ most → new.second ≤ most) → GoesOn now slot.row new.row
     → IsFleet s played before (slice_set slots place new) now broken after
 gone_on s played before between mid after slots now place broken more slot new h went at served others most goes =
     let early : slot.second ≤ now = h.early place slot at in
-    one_served s played before between after slots (slice_set slots place new) now broken place slot new h at refl
+    one_served s played before between after slots (slice_set slots place new) now broken place now slot new h at refl
     (λ class own k. served class own (before place) (between place) k
     (carries_same (between place) (mid place) _ _ (went place) (at_port_same place more)) early)
     (λ e o. carries_on (between e) (mid e) (after e) no_traffic
     (carries_same (between e) (mid e) _ _ (went e) (at_port_other place e more o)) (others e o))
-    (most now early (omega arith)) goes
+    (most now early (omega arith)) (omega arith) goes
 
 -- when it is due then
 pub gone_due : (s : Scenario) (played : Bool) (before between mid after : ℕ → Option Traffic) (slots : List Slot)
@@ -384,11 +422,11 @@ pub next_served : (s : Scenario) (played : Bool) (before between after : ℕ →
     → IsServed class own b new broken (after place))
     → ((e : ℕ) → (e ≡ place → ⊥) → Carries (between e) (after e) no_traffic)
     → ((most : ℕ) → slot.second ≤ most → to ≤ most → new.second ≤ most) → to ≤ now
-    → GoesOn slot.row new.row
+    → GoesOn to slot.row new.row
     → IsFleet s played before (slice_set slots place new) now broken after
 next_served s played before between after slots now place to broken slot new h at served others most le goes =
-    one_served s played before between after slots (slice_set slots place new) now broken place slot new h at refl
-    (λ class own k. served class own (before place) k) others (most now (h.early place slot at) le) goes
+    one_served s played before between after slots (slice_set slots place new) now broken place to slot new h at refl
+    (λ class own k. served class own (before place) k) others (most now (h.early place slot at) le) le goes
 
 pub next_swept : (s : Scenario) (played : Bool) (before between : ℕ → Option Traffic) (slots : List Slot)
     (now place to : ℕ)

@@ -9,15 +9,15 @@ use Rattle.fleet_link.specs.declared.row.PlayedRow.{PlayedRow}
 use Rattle.fleet_link.specs.declared.row.RowState.{RowState}
 use Rattle.fleet_link.specs.declared.row.RowState.TheVariants.{Waits}
 use Rattle.fleet_link.specs.declared.slot.Slot.{Slot}
-use Rattle.fleet_link.specs.Playing.{is_waiting, is_waiting_for, row_state, CanPass, IsPassed}
-use Rattle.fleet_link.specs.Serving.{place_in, posts_of, share_in, ArePassed, HaveGoneOn}
-use Rattle.fleet_link.proofs.Fleets.{stand_still}
-use Rattle.fleet_link.proofs.Passing.{set_other, set_same}
+use Rattle.fleet_link.specs.Playing.{happened_count, is_waiting, is_waiting_for, row_state, CanPass, IsPassed}
+use Rattle.fleet_link.specs.Serving.{all_posts, place_in, repeats_in, share_in, ArePassed, HaveGoneOn}
+use Rattle.fleet_link.proofs.Fleets.{all_still}
+use Rattle.fleet_link.proofs.Passing.{passed_count, set_other, set_same}
 
 -- ---- rows and recordings that go on
 
 pub gone_same : (slots : List Slot) → HaveGoneOn slots slots
-gone_same slots = record { further = λ e. omega arith; shares = λ e. refl }
+gone_same slots = record { further = λ e. omega arith; repeats = λ e. refl; shares = λ e. refl }
 
 pub gone_as : (before after : List Slot) → after ≡ before → HaveGoneOn before after
 gone_as before after same = subst (HaveGoneOn before) (sym same) (gone_same before)
@@ -27,15 +27,20 @@ pub gone_both : (before between after : List Slot) → HaveGoneOn before between
 gone_both before between after h k =
     record {
       further = λ e. let a = h.further e in let b = k.further e in omega (arith, a, b);
+      repeats = λ e. k.repeats e ∙ h.repeats e;
       shares = λ e. k.shares e ∙ h.shares e;
     }
 
 -- one device has gone on
 pub gone_set : (slots : List Slot) (place : ℕ) (slot new : Slot) → slice_get slots place ≡ Some slot
-    → slot.row.place ≤ new.row.place → new.recording.share ≡ slot.recording.share
-    → HaveGoneOn slots (slice_set slots place new)
-gone_set slots place slot new at le share =
-    record { further = λ e. further e (cases_eq place e); shares = λ e. shares e (cases_eq place e) }
+    → happened_count slot.row ≤ happened_count new.row → new.row.repeated ≡ slot.row.repeated
+    → new.recording.share ≡ slot.recording.share → HaveGoneOn slots (slice_set slots place new)
+gone_set slots place slot new at le repeated share =
+    record {
+      further = λ e. further e (cases_eq place e);
+      repeats = λ e. repeats e (cases_eq place e);
+      shares = λ e. shares e (cases_eq place e);
+    }
   where
     here : slice_get (slice_set slots place new) place ≡ Some new
     here = set_same slots place new (slice_get_within slots place slot at)
@@ -46,6 +51,13 @@ gone_set slots place slot new at le share =
         subst (λ i. place_in (slice_get slots i) ≤ place_in (slice_get (slice_set slots place new) i)) same
         (omega (arith, le, ap place_in at, ap place_in here))
     further e (inr other) = omega (arith, ap place_in (set_other slots place e new other))
+
+    repeats : (e : ℕ) → (place ≡ e) ⊎ (place ≡ e → ⊥)
+        → repeats_in (slice_get (slice_set slots place new) e) ≡ repeats_in (slice_get slots e)
+    repeats e (inl same) =
+        subst (λ i. repeats_in (slice_get (slice_set slots place new) i) ≡ repeats_in (slice_get slots i)) same
+        (ap repeats_in here ∙ repeated ∙ sym (ap repeats_in at))
+    repeats e (inr other) = ap repeats_in (set_other slots place e new other)
 
     shares : (e : ℕ) → (place ≡ e) ⊎ (place ≡ e → ⊥)
         → share_in (slice_get (slice_set slots place new) e) ≡ share_in (slice_get slots e)
@@ -92,11 +104,11 @@ pub record IsTried (group posts now : ℕ) (old new : Slot) : Type 0 where
 pub record AreTried (group posts now : ℕ) (first slots : List Slot) (n : ℕ) : Type 0 where
   pub passed : (e : ℕ) (slot : Slot) → e < n → slice_get first e ≡ Some slot → slot.end ≡ None → (all : ℕ)
       → posts ≡ min all (2 ^ 64 - 1) → CanPass group all now slot.row
-      → slot.row.place < place_in (slice_get slots e)
+      → happened_count slot.row < place_in (slice_get slots e)
   pub same : (e : ℕ) (slot : Slot) → slice_get first e ≡ Some slot
-      → (slice_get slots e ≡ Some slot) ⊎ (slot.row.place < place_in (slice_get slots e))
+      → (slice_get slots e ≡ Some slot) ⊎ (happened_count slot.row < place_in (slice_get slots e))
   pub untouched : (e : ℕ) → n ≤ e → slice_get slots e ≡ slice_get first e
-  pub posts_are : (other until : ℕ) → posts_of first other until ≤ posts_of slots other until
+  pub posts_are : (other : ℕ) → min (all_posts first other) (2 ^ 64 - 1) ≤ min (all_posts slots other) (2 ^ 64 - 1)
   pub went : HaveGoneOn first slots
 
 pub none_tried : (group posts now : ℕ) (slots : List Slot) → AreTried group posts now slots slots 0
@@ -105,7 +117,7 @@ none_tried group posts now slots =
       passed = λ e slot l. absurd (omega (arith, l));
       same = λ e slot at. inl at;
       untouched = λ e le. refl;
-      posts_are = λ other until. omega arith;
+      posts_are = λ other. omega arith;
       went = gone_same slots;
     }
 
@@ -118,18 +130,23 @@ one_tried group posts now first slots n old new h at tried =
       same = λ e slot got. same e slot got (cases_eq n e);
       untouched = λ e le.
           set_other slots n e new (λ k. absurd (omega (arith, k, le))) ∙ h.untouched e (omega (arith, le));
-      posts_are = λ other until.
-          let a = h.posts_are other until in
-          let b = stand_still slots n group posts now other until old new at tried.passed in
+      posts_are = λ other.
+          let a = h.posts_are other in
+          let b = all_still slots n group posts now other old new at tried.passed in
           omega (arith, a, b);
       went = gone_both first slots (slice_set slots n new) h.went (gone_set slots n old new at (later tried.passed)
-          tried.share);
+          (repeated tried.passed) tried.share);
     }
   where
     later : (new.row ≡ old.row) ⊎ ((old.end ≡ None) × IsPassed group posts now old.row new.row)
-        → old.row.place ≤ new.row.place
-    later (inl row) = omega (arith, ap (λ (r : PlayedRow). r.place) row)
-    later (inr (on, p)) = omega (arith, p.place)
+        → happened_count old.row ≤ happened_count new.row
+    later (inl row) = omega (arith, ap happened_count row)
+    later (inr (on, p)) = omega (arith, passed_count group posts now old.row new.row p)
+
+    repeated : (new.row ≡ old.row) ⊎ ((old.end ≡ None) × IsPassed group posts now old.row new.row)
+        → new.row.repeated ≡ old.row.repeated
+    repeated (inl row) = ap (λ (r : PlayedRow). r.repeated) row
+    repeated (inr (on, p)) = p.advanced.repeated
 
     here : slice_get (slice_set slots n new) n ≡ Some new
     here = set_same slots n new (slice_get_within slots n old at)
@@ -138,14 +155,14 @@ one_tried group posts now first slots n old new h at tried =
     is_old : (slot : Slot) → slice_get first n ≡ Some slot → old ≡ slot
     is_old slot got = let e : Some old ≡ Some slot = sym at ∙ h.untouched n (omega arith) ∙ got in cc
 
-    grown : (slot : Slot) → old ≡ slot → slot.row.place < new.row.place
-        → slot.row.place < place_in (slice_get (slice_set slots n new) n)
+    grown : (slot : Slot) → old ≡ slot → happened_count slot.row < happened_count new.row
+        → happened_count slot.row < place_in (slice_get (slice_set slots n new) n)
     grown slot is l = omega (arith, l, ap place_in here)
 
     passed_here : (slot : Slot) → old ≡ slot → slot.end ≡ None → (all : ℕ) → posts ≡ min all (2 ^ 64 - 1)
         → CanPass group all now slot.row
         → (new.row ≡ old.row) ⊎ ((old.end ≡ None) × IsPassed group posts now old.row new.row)
-        → slot.row.place < new.row.place
+        → happened_count slot.row < happened_count new.row
     passed_here slot is on all posts_is can (inl row) =
         let few : posts < can.count =
         tried.left can.count can.second row (ap (λ (s : Slot). s.end) is ∙ on)
@@ -153,14 +170,18 @@ one_tried group posts now first slots n old new h at tried =
         (ap (λ (s : Slot). s.row.second) is ∙ can.second_is) can.came can.lately in
         absurd (omega (arith, few, posts_is, can.met, can.few))
     passed_here slot is on all posts_is can (inr (going, p)) =
-        omega (arith, p.place, ap (λ (s : Slot). s.row.place) is)
+        omega (
+          arith,
+          passed_count group posts now old.row new.row p,
+          ap (λ (s : Slot). happened_count s.row) is,
+        )
 
     passed : (e : ℕ) (slot : Slot) → e < n + 1 → slice_get first e ≡ Some slot → slot.end ≡ None → (all : ℕ)
         → posts ≡ min all (2 ^ 64 - 1) → CanPass group all now slot.row → (n ≡ e) ⊎ (n ≡ e → ⊥)
-        → slot.row.place < place_in (slice_get (slice_set slots n new) e)
+        → happened_count slot.row < place_in (slice_get (slice_set slots n new) e)
     passed e slot l got on all posts_is can (inl place) =
         let is = is_old slot (ap (slice_get first) place ∙ got) in
-        subst (λ i. slot.row.place < place_in (slice_get (slice_set slots n new) i)) place
+        subst (λ i. happened_count slot.row < place_in (slice_get (slice_set slots n new) i)) place
         (grown slot is (passed_here slot is on all posts_is can tried.passed))
     passed e slot l got on all posts_is can (inr other) =
         let before : e < n = omega (arith, l, other) in
@@ -170,24 +191,28 @@ one_tried group posts now first slots n old new h at tried =
     same_here : (slot : Slot) → old ≡ slot
         → (new.row ≡ old.row) ⊎ ((old.end ≡ None) × IsPassed group posts now old.row new.row)
         → (slice_get (slice_set slots n new) n ≡ Some slot)
-        ⊎ (slot.row.place < place_in (slice_get (slice_set slots n new) n))
+        ⊎ (happened_count slot.row < place_in (slice_get (slice_set slots n new) n))
     same_here slot is (inl row) = inl (here ∙ ap (λ (s : Slot). Some s) (tried.kept row ∙ is))
     same_here slot is (inr (going, p)) =
-        inr (grown slot is (omega (arith, p.place, ap (λ (s : Slot). s.row.place) is)))
+        inr (grown slot is (omega (
+          arith,
+          passed_count group posts now old.row new.row p,
+          ap (λ (s : Slot). happened_count s.row) is,
+        )))
 
     same_there : (e : ℕ) (slot : Slot) → (n ≡ e → ⊥)
-        → (slice_get slots e ≡ Some slot) ⊎ (slot.row.place < place_in (slice_get slots e))
+        → (slice_get slots e ≡ Some slot) ⊎ (happened_count slot.row < place_in (slice_get slots e))
         → (slice_get (slice_set slots n new) e ≡ Some slot)
-        ⊎ (slot.row.place < place_in (slice_get (slice_set slots n new) e))
+        ⊎ (happened_count slot.row < place_in (slice_get (slice_set slots n new) e))
     same_there e slot other (inl so) = inl (set_other slots n e new other ∙ so)
     same_there e slot other (inr so) = inr (omega (arith, so, ap place_in (set_other slots n e new other)))
 
     same : (e : ℕ) (slot : Slot) → slice_get first e ≡ Some slot → (n ≡ e) ⊎ (n ≡ e → ⊥)
         → (slice_get (slice_set slots n new) e ≡ Some slot)
-        ⊎ (slot.row.place < place_in (slice_get (slice_set slots n new) e))
+        ⊎ (happened_count slot.row < place_in (slice_get (slice_set slots n new) e))
     same e slot got (inl place) =
         subst (λ i. (slice_get (slice_set slots n new) i ≡ Some slot)
-        ⊎ (slot.row.place < place_in (slice_get (slice_set slots n new) i))) place
+        ⊎ (happened_count slot.row < place_in (slice_get (slice_set slots n new) i))) place
         (same_here slot (is_old slot (ap (slice_get first) place ∙ got)) tried.passed)
     same e slot got (inr other) = same_there e slot other (h.same e slot got)
 
@@ -196,10 +221,10 @@ one_tried group posts now first slots n old new h at tried =
 -- those of the first groups were passed whose posts stand
 pub record AreGroupsPassed (now : ℕ) (first slots : List Slot) (n : ℕ) : Type 0 where
   pub passed : (e group : ℕ) (slot : Slot) → group < n → slice_get first e ≡ Some slot → slot.end ≡ None
-      → CanPass group (posts_of first group now) now slot.row → slot.row.place < place_in (slice_get slots e)
+      → CanPass group (all_posts first group) now slot.row → happened_count slot.row < place_in (slice_get slots e)
   pub same : (e : ℕ) (slot : Slot) → slice_get first e ≡ Some slot
-      → (slice_get slots e ≡ Some slot) ⊎ (slot.row.place < place_in (slice_get slots e))
-  pub posts_are : (other until : ℕ) → posts_of first other until ≤ posts_of slots other until
+      → (slice_get slots e ≡ Some slot) ⊎ (happened_count slot.row < place_in (slice_get slots e))
+  pub posts_are : (other : ℕ) → min (all_posts first other) (2 ^ 64 - 1) ≤ min (all_posts slots other) (2 ^ 64 - 1)
   pub went : HaveGoneOn first slots
 
 pub none_group : (now : ℕ) (slots : List Slot) → AreGroupsPassed now slots slots 0
@@ -207,19 +232,19 @@ none_group now slots =
     record {
       passed = λ e group slot l. absurd (omega (arith, l));
       same = λ e slot at. inl at;
-      posts_are = λ other until. omega arith;
+      posts_are = λ other. omega arith;
       went = gone_same slots;
     }
 
-more_posts : (group few many now : ℕ) (row : PlayedRow) → few ≤ many → CanPass group few now row
-    → CanPass group many now row
+more_posts : (group few many now : ℕ) (row : PlayedRow) → min few (2 ^ 64 - 1) ≤ min many (2 ^ 64 - 1)
+    → CanPass group few now row → CanPass group many now row
 more_posts group few many now row le can =
     record {
       group_is = can.group_is;
       count = can.count;
       few = can.few;
       waits = can.waits;
-      met = omega (arith, le, can.met);
+      met = omega (arith, le, can.met, can.few);
       second = can.second;
       second_is = can.second_is;
       came = can.came;
@@ -228,41 +253,42 @@ more_posts group few many now row le can =
 
 pub one_group : (now : ℕ) (first slots more : List Slot) (n : ℕ) → AreGroupsPassed now first slots n
     → ((e : ℕ) (slot : Slot) → slice_get slots e ≡ Some slot → slot.end ≡ None
-    → CanPass n (posts_of slots n now) now slot.row → slot.row.place < place_in (slice_get more e))
+    → CanPass n (all_posts slots n) now slot.row → happened_count slot.row < place_in (slice_get more e))
     → ((e : ℕ) (slot : Slot) → slice_get slots e ≡ Some slot
-    → (slice_get more e ≡ Some slot) ⊎ (slot.row.place < place_in (slice_get more e)))
-    → ((other until : ℕ) → posts_of slots other until ≤ posts_of more other until) → HaveGoneOn slots more
+    → (slice_get more e ≡ Some slot) ⊎ (happened_count slot.row < place_in (slice_get more e)))
+    → ((other : ℕ) → min (all_posts slots other) (2 ^ 64 - 1) ≤ min (all_posts more other) (2 ^ 64 - 1))
+    → HaveGoneOn slots more
     → AreGroupsPassed now first more (n + 1)
 one_group now first slots more n h passes sames posts went =
     record {
       passed = λ e group slot l got on can. passed e group slot l got on can (cases_eq n group);
       same = λ e slot got. same e slot (h.same e slot got);
-      posts_are = λ other until.
-          let a = h.posts_are other until in
-          let b = posts other until in
+      posts_are = λ other.
+          let a = h.posts_are other in
+          let b = posts other in
           omega (arith, a, b);
       went = gone_both first slots more h.went went;
     }
   where
     same : (e : ℕ) (slot : Slot)
-        → (slice_get slots e ≡ Some slot) ⊎ (slot.row.place < place_in (slice_get slots e))
-        → (slice_get more e ≡ Some slot) ⊎ (slot.row.place < place_in (slice_get more e))
+        → (slice_get slots e ≡ Some slot) ⊎ (happened_count slot.row < place_in (slice_get slots e))
+        → (slice_get more e ≡ Some slot) ⊎ (happened_count slot.row < place_in (slice_get more e))
     same e slot (inl so) = sames e slot so
     same e slot (inr so) = let further = went.further e in inr (omega (arith, so, further))
 
-    this_group : (e : ℕ) (slot : Slot) → slot.end ≡ None → CanPass n (posts_of first n now) now slot.row
-        → (slice_get slots e ≡ Some slot) ⊎ (slot.row.place < place_in (slice_get slots e))
-        → slot.row.place < place_in (slice_get more e)
+    this_group : (e : ℕ) (slot : Slot) → slot.end ≡ None → CanPass n (all_posts first n) now slot.row
+        → (slice_get slots e ≡ Some slot) ⊎ (happened_count slot.row < place_in (slice_get slots e))
+        → happened_count slot.row < place_in (slice_get more e)
     this_group e slot on can (inl so) =
         passes e slot so on
-        (more_posts n (posts_of first n now) (posts_of slots n now) now slot.row (h.posts_are n now) can)
+        (more_posts n (all_posts first n) (all_posts slots n) now slot.row (h.posts_are n) can)
     this_group e slot on can (inr so) = let further = went.further e in omega (arith, so, further)
 
     passed : (e group : ℕ) (slot : Slot) → group < n + 1 → slice_get first e ≡ Some slot → slot.end ≡ None
-        → CanPass group (posts_of first group now) now slot.row → (n ≡ group) ⊎ (n ≡ group → ⊥)
-        → slot.row.place < place_in (slice_get more e)
+        → CanPass group (all_posts first group) now slot.row → (n ≡ group) ⊎ (n ≡ group → ⊥)
+        → happened_count slot.row < place_in (slice_get more e)
     passed e group slot l got on can (inl name) =
-        this_group e slot on (subst (λ g. CanPass g (posts_of first g now) now slot.row) (sym name) can)
+        this_group e slot on (subst (λ g. CanPass g (all_posts first g) now slot.row) (sym name) can)
         (h.same e slot got)
     passed e group slot l got on can (inr other) =
         let before : group < n = omega (arith, l, other) in
@@ -273,10 +299,11 @@ one_group now first slots more n h passes sames posts went =
 -- the same, where the second of the session is known by two names
 pub one_group_at : (now at : ℕ) (first slots more : List Slot) (n : ℕ) → at ≡ now → AreGroupsPassed now first slots n
     → ((e : ℕ) (slot : Slot) → slice_get slots e ≡ Some slot → slot.end ≡ None
-    → CanPass n (posts_of slots n at) at slot.row → slot.row.place < place_in (slice_get more e))
+    → CanPass n (all_posts slots n) at slot.row → happened_count slot.row < place_in (slice_get more e))
     → ((e : ℕ) (slot : Slot) → slice_get slots e ≡ Some slot
-    → (slice_get more e ≡ Some slot) ⊎ (slot.row.place < place_in (slice_get more e)))
-    → ((other until : ℕ) → posts_of slots other until ≤ posts_of more other until) → HaveGoneOn slots more
+    → (slice_get more e ≡ Some slot) ⊎ (happened_count slot.row < place_in (slice_get more e)))
+    → ((other : ℕ) → min (all_posts slots other) (2 ^ 64 - 1) ≤ min (all_posts more other) (2 ^ 64 - 1))
+    → HaveGoneOn slots more
     → AreGroupsPassed now first more (n + 1)
 one_group_at now at first slots more n is h passes sames posts went =
     subst (λ m. AreGroupsPassed m first more (n + 1)) is

@@ -1,7 +1,11 @@
 pub mod Told
 pub mod Recordings
 pub mod Served
+pub mod Advanced
 pub mod Stepped
+pub mod Turning
+pub mod Posting
+pub mod Repeating
 pub mod Passing
 pub mod Fleets
 pub mod Gone

@@ -1,31 +1,29 @@
 -- Posts that rows have made, and needs that are passed.
-use Rattle.std.proofs.Common.{◌≡◌, ◌⊎◌, inl, inr, ℕ, zero, suc, ◌+◌, ◌-◌, ◌<◌, ◌≤◌, ◌^◌, Bool, true, false, List, [], ◌∷◌, ◌++◌}
-use Rattle.std.proofs.Common.{◌&&◌, cond, get_or, min, nat_le, Option, None, Some, take, length, slice_get, refl, sym, ap, subst, ◌∙◌, append-nil, arith}
+use Rattle.std.proofs.Common.{◌≡◌, ◌⊎◌, inl, inr, ℕ, zero, suc, ◌+◌, ◌-◌, ◌<◌, ◌≤◌, ◌^◌, Bool, false, List, [], ◌∷◌, ◌++◌}
+use Rattle.std.proofs.Common.{get_or, min, Option, None, Some, take, length, slice_get, refl, sym, ap, subst, ◌∙◌, append-nil, arith}
 use Rattle.std.specs.List.{slice_set, sum_by}
 use Rattle.std.specs.Option.{MatchOption}
-use Rattle.std.proofs.Math.ListN.{length-set}
-use Rattle.std.proofs.Math.Seq.{take-suc-set}
 use Rattle.std.proofs.lemmas.Bool.{cases_lt}
 use Rattle.std.proofs.lemmas.Grind.{take_at_read}
-use Rattle.std.proofs.lemmas.List.{take-set-le, take_all}
-use Rattle.std.proofs.lemmas.List.Sums.{sum_by-set, sum_by_push}
+use Rattle.std.proofs.lemmas.List.{take-append-le, take_all}
+use Rattle.std.proofs.lemmas.List.Sums.{sum_by-append, sum_by-set, sum_by_more_le, sum_by_push}
 use Rattle.std.proofs.lemmas.Option.{slice_get_within}
-use Rattle.lemmas.proofs.Lists.{take_none}
 use Rattle.device_machine.specs.declared.event.Event.TheVariants.{Tick}
 use Rattle.device_template.specs.Template.{Template}
-use Rattle.fleet_core.specs.Run.{posts_to}
 use Rattle.scenario_image.specs.declared.step.Step.{Step}
 use Rattle.scenario_image.specs.declared.step.Step.TheVariants.{Event, Post, Need}
 use Rattle.scenario_image.specs.Scenario.{Row, Scenario}
 use Rattle.fleet_link.specs.declared.row.PlayedRow.{PlayedRow}
 use Rattle.fleet_link.specs.declared.row.RowState.TheVariants.{Due, Ended, Waits}
 use Rattle.fleet_link.specs.declared.slot.Slot.{Slot}
-use Rattle.fleet_link.specs.Playing.{changes_by, changes_of, played_steps, posts_by, posts_in, row_state, second_after}
-use Rattle.fleet_link.specs.Playing.{second_by, second_of_row, state_of, ComesTo, GoesOn, IsOnTime, IsPassed, IsTimely}
-use Rattle.fleet_link.specs.Playing.{IsUnderWay}
-use Rattle.fleet_link.specs.Serving.{posts_of, IsRowServed, IsServed}
+use Rattle.fleet_link.specs.Playing.{changes_of, happened_count, happened_of, played_steps, posts_by, posts_in}
+use Rattle.fleet_link.specs.Playing.{posts_made, row_state, second_after, second_by, second_of_row, state_of, GoesOn}
+use Rattle.fleet_link.specs.Playing.{HasHappenedBy, IsAtSecond, IsOnTime, IsPassed, IsRowStep, IsTimely, IsUnderWay}
+use Rattle.fleet_link.specs.Serving.{all_posts, posts_of, IsRowServed, IsServed}
 use Rattle.fleet_link.specs.Traffic.{Traffic}
-use Rattle.fleet_link.proofs.Served.{changes_push, second_push}
+use Rattle.fleet_link.proofs.Advanced.{advanced_changes, advanced_count, advanced_made, advanced_next, advanced_second}
+use Rattle.fleet_link.proofs.Advanced.{advanced_under_way, one_way}
+use Rattle.fleet_link.proofs.Posting.{advanced_posts}
 
 -- ---- lists
 
@@ -53,36 +51,46 @@ sum_set f xs i x y at le =
     let sums = sum_by-set f xs i y x (slice_get_within xs i x at) in
     omega (arith, sums, le, ap f (got_or xs i x at))
 
+-- the sum at one place is as great, where numbers stay at the greatest one of 64 bits
+pub sum_capped : {X : Type 0} (f : X → ℕ) (xs : List X) (i : ℕ) (x y : X) → slice_get xs i ≡ Some x
+    → min (f x) (2 ^ 64 - 1) ≤ min (f y) (2 ^ 64 - 1)
+    → min (sum_by f xs) (2 ^ 64 - 1) ≤ min (sum_by f (slice_set xs i y)) (2 ^ 64 - 1)
+sum_capped f xs i x y at le =
+    let within = slice_get_within xs i x at in
+    let sums = sum_by-set f xs i y x within in
+    let part = sum_by_more_le f xs i x within in
+    omega (arith, sums, part, le, ap f (got_or xs i x at))
+
+pub sum_less : {X : Type 0} (f g : X → ℕ) (xs : List X)
+    → ((i : ℕ) (x : X) → slice_get xs i ≡ Some x → f x ≤ g x) → sum_by f xs ≤ sum_by g xs
+sum_less f g [] h = omega arith
+sum_less f g (x ∷ xs) h =
+    let rest = sum_less f g xs (λ i y at. h (suc i) y at) in
+    let here = h 0 x refl in
+    omega (arith, rest, here, sum_by-append f (x ∷ []) xs, sum_by-append g (x ∷ []) xs)
+
 -- ---- posts
 
-posts_take : (group until n : ℕ) (i j : ℕ) (steps : List Step) → i ≤ j
-    → posts_by group until n (take i steps) ≤ posts_by group until n (take j steps)
-posts_take group until n zero j steps le =
-    subst (λ l. posts_by group until n l ≤ posts_by group until n (take j steps)) (sym (take_none steps))
-    (omega arith)
-posts_take group until n (suc i) zero steps le = absurd (omega (arith, le))
-posts_take group until n (suc i) (suc j) [] le = omega arith
-posts_take group until n (suc i) (suc j) (step ∷ steps) le =
-    let rest = posts_take group until (second_after n step) i j steps (omega (arith, le)) in omega (arith, rest)
+posts_append : (group until n : ℕ) (a b : List Step)
+    → posts_by group until n a ≤ posts_by group until n (a ++ b)
+posts_append group until n [] b = omega arith
+posts_append group until n (step ∷ a) b =
+    let rest = posts_append group until (second_after n step) a b in omega (arith, rest)
 
-pub goes_posts : (old new : PlayedRow) → GoesOn old new → (group until : ℕ)
+posts_longer : (old new : PlayedRow) (more : List Step) → happened_of new ≡ happened_of old ++ more
+    → (group until : ℕ) → posts_in old group until ≤ posts_in new group until
+posts_longer old new more is group until =
+    subst (λ l. posts_in old group until ≤ posts_by group until 0 l) (sym is)
+    (posts_append group until 0 (happened_of old) more)
+
+pub goes_posts : (latest : ℕ) (old new : PlayedRow) → GoesOn latest old new → (group until : ℕ)
     → posts_in old group until ≤ posts_in new group until
-goes_posts old new h group until =
-    subst (λ v. posts_in old group until ≤ posts_by group until 0 (take new.place v.items)) (sym h.steps)
-    (posts_take group until 0 old.place new.place old.steps.items h.later)
+goes_posts latest old new h group until = posts_longer old new h.more h.happened group until
 
 pub passed_posts : (name posts now : ℕ) (old new : PlayedRow) → IsPassed name posts now old new → (group until : ℕ)
     → posts_in old group until ≤ posts_in new group until
 passed_posts name posts now old new h group until =
-    let tick = Event (Tick (now - h.second)) in
-    let set = slice_set old.steps.items old.place tick in
-    let before : take old.place set ≡ take old.place old.steps.items =
-    take-set-le old.place old.steps.items old.place tick (omega arith) in
-    let more = posts_take group until 0 old.place (old.place + 1) set (omega arith) in
-    let as_new : take new.place new.steps.items ≡ take (old.place + 1) set =
-    ap (λ l. take new.place l) h.steps ∙ ap (λ n. take n set) h.place in
-    subst (λ l. posts_in old group until ≤ posts_by group until 0 l) (sym as_new)
-    (subst (λ l. posts_by group until 0 l ≤ posts_by group until 0 (take (old.place + 1) set)) before more)
+    posts_longer old new (Event (Tick (now - h.second)) ∷ []) h.advanced.happened group until
 
 pub posts_grow : (slots : List Slot) (place : ℕ) (slot new : Slot) (group until : ℕ)
     → slice_get slots place ≡ Some slot → posts_in slot.row group until ≤ posts_in new.row group until
@@ -92,33 +100,33 @@ posts_grow slots place slot new group until at le =
 
 -- ---- a need that is passed
 
-need_within : (name posts now : ℕ) (old new : PlayedRow) (h : IsPassed name posts now old new)
-    → old.place < length old.steps.items
-need_within name posts now old new h = slice_get_within old.steps.items old.place (Need name h.count) h.need
-
-passed_steps : (name posts now : ℕ) (old new : PlayedRow) (h : IsPassed name posts now old new)
-    → take new.place new.steps.items ≡ take old.place old.steps.items ++ Event (Tick (now - h.second)) ∷ []
-passed_steps name posts now old new h =
-    let tick = Event (Tick (now - h.second)) in
-    let more : old.place + 1 ≡ suc old.place = omega arith in
-    ap (λ l. take new.place l) h.steps ∙ ap (λ n. take n (slice_set old.steps.items old.place tick)) (h.place ∙ more)
-    ∙ take-suc-set old.steps.items old.place tick (need_within name posts now old new h)
+pub passed_count : (name posts now : ℕ) (old new : PlayedRow) → IsPassed name posts now old new
+    → happened_count new ≡ happened_count old + 1
+passed_count name posts now old new h = advanced_count (Event (Tick (now - h.second))) old new h.advanced
 
 pub passed_changes : (name posts now : ℕ) (old new : PlayedRow) → IsPassed name posts now old new
     → changes_of new ≡ changes_of old
 passed_changes name posts now old new h =
-    ap (changes_by 0) (passed_steps name posts now old new h)
-    ∙ changes_push 0 (take old.place old.steps.items) (Event (Tick (now - h.second))) ∙ append-nil (changes_of old)
+    advanced_changes (Event (Tick (now - h.second))) old new h.advanced ∙ append-nil (changes_of old)
 
-passed_second : (name posts now second : ℕ) (old new : PlayedRow) → IsPassed name posts now old new
-    → IsOnTime old second → second_of_row new ≡ now
-passed_second name posts now second old new h time =
-    let so : h.second ≡ second_of_row old =
-    subst (λ o. MatchOption o (2 ^ 64 ≤ second_of_row old) (λ d. d ≡ second_of_row old)) h.second_is time.next in
+was_at : (name posts now : ℕ) (old new : PlayedRow) (h : IsPassed name posts now old new) → IsAtSecond old
+    → h.second ≡ second_of_row old
+was_at name posts now old new h at =
+    subst (λ o. MatchOption o (2 ^ 64 ≤ second_of_row old) (λ d. d ≡ second_of_row old)) h.second_is at
+
+passed_second : (name posts now : ℕ) (old new : PlayedRow) → IsPassed name posts now old new
+    → IsAtSecond old → second_of_row new ≡ now
+passed_second name posts now old new h at =
+    let so = was_at name posts now old new h at in
     let sum : second_of_row new ≡ second_of_row old + (now - h.second) =
-    ap (second_by 0) (passed_steps name posts now old new h)
-    ∙ second_push 0 (take old.place old.steps.items) (Event (Tick (now - h.second))) in
+    advanced_second (Event (Tick (now - h.second))) old new h.advanced in
     omega (arith, so, sum, h.reached)
+
+pub passed_made : (name posts now : ℕ) (old new : PlayedRow) → IsPassed name posts now old new → IsAtSecond old
+    → HasHappenedBy now old → HasHappenedBy now new
+passed_made name posts now old new h at made =
+    let so = was_at name posts now old new h at in
+    advanced_made (Event (Tick (now - h.second))) old new now h.advanced (omega (arith, so, h.reached)) made
 
 timely_from : (o : Option ℕ) (next : Option Step) (second now : ℕ) → o ≡ Some now → second ≤ now
     → IsTimely second (state_of o next)
@@ -132,44 +140,21 @@ passed_on_time : (name posts now second : ℕ) (old new : PlayedRow) → IsPasse
     → IsOnTime old second → second ≤ now → IsOnTime new second
 passed_on_time name posts now second old new h time le =
     record {
-      next = subst (λ o. MatchOption o (2 ^ 64 ≤ second_of_row new) (λ d. d ≡ second_of_row new)) (sym h.resumed)
-          (sym (passed_second name posts now second old new h time));
+      next = advanced_next (Event (Tick (now - h.second))) old new h.advanced time.next;
       timely = timely_from new.second (slice_get new.steps.items new.place) second now h.resumed le;
     }
-
-passed_before : (name posts now : ℕ) (old new : PlayedRow) (h : IsPassed name posts now old new) (k : ℕ)
-    → (old.place ≡ k → ⊥) → slice_get new.steps.items k ≡ slice_get old.steps.items k
-passed_before name posts now old new h k other =
-    ap (λ l. slice_get l k) h.steps
-    ∙ set_other old.steps.items old.place k (Event (Tick (now - h.second))) other
 
 passed_under_way : (own : List Step) (name posts now : ℕ) (old new : PlayedRow) → IsUnderWay own old
     → IsPassed name posts now old new → IsUnderWay own new
 passed_under_way own name posts now old new u h =
-    record {
-      happened = λ k said step l s at. by_place k said step l s at (cases_lt k old.place);
-      coming = λ k le.
-          passed_before name posts now old new h k (λ e. absurd (omega (arith, e, le, h.place)))
-          ∙ u.coming k (omega (arith, le, h.place));
-      count = ap length h.steps ∙ length-set old.steps.items old.place (Event (Tick (now - h.second))) ∙ u.count;
-    }
-  where
-    by_place : (k : ℕ) (said step : Step) → k < new.place → slice_get own k ≡ Some said
-        → slice_get new.steps.items k ≡ Some step → (k < old.place) ⊎ (old.place ≤ k) → ComesTo said step
-    by_place k said step l s at (inl before) =
-        u.happened k said step before s
-        (sym (passed_before name posts now old new h k (λ e. absurd (omega (arith, e, before)))) ∙ at)
-    by_place k said step l s at (inr le) =
-        let here : k ≡ old.place = omega (arith, l, le, h.place) in
-        let tick = Event (Tick (now - h.second)) in
-        let there : Some said ≡ Some (Need name h.count) =
-        sym s ∙ sym (u.coming k le) ∙ ap (slice_get old.steps.items) here ∙ h.need in
-        let came : Some step ≡ Some tick =
-        sym at ∙ ap (slice_get new.steps.items) here ∙ ap (λ l. slice_get l old.place) h.steps
-        ∙ set_same old.steps.items old.place tick (need_within name posts now old new h) in
-        let is : Need name h.count ≡ said = cc in
-        let is_tick : step ≡ tick = cc in
-        subst (λ x. ComesTo x step) is (now - h.second, is_tick)
+    advanced_under_way own (Need name h.count) (Event (Tick (now - h.second))) old new h.advanced h.need
+    (now - h.second, refl) u
+
+-- posts that it has made, with the need that it has passed
+pub passed_all : (name posts now group : ℕ) (old new : PlayedRow) → IsPassed name posts now old new
+    → min (posts_made old group) (2 ^ 64 - 1) ≤ min (posts_made new group) (2 ^ 64 - 1)
+passed_all name posts now group old new h =
+    advanced_posts group (Event (Tick (now - h.second))) (Need name h.count) old new h.advanced h.need
 
 -- the device of the row is served as before
 pub passed_served : (class : Template) (own : List Step) (before after : Option Traffic) (old new : Slot)
@@ -239,126 +224,76 @@ same_row s played e before after slot broken row h at =
     subst (λ steps. IsUnderWay (played_steps played steps) slot.row) same h.served.row_is
 
 -- no need is passed by a row that goes on
-pub still_met : (own : List Step) (old new : PlayedRow) (many : ℕ → ℕ → ℕ) → IsUnderWay own old → GoesOn old new
-    → ((k group count : ℕ) → k < old.place → slice_get own k ≡ Some (Need group count)
-    → count ≤ many group (second_by 0 (take (k + 1) old.steps.items)))
-    → (k group count : ℕ) → k < new.place → slice_get own k ≡ Some (Need group count)
-    → count ≤ many group (second_by 0 (take (k + 1) new.steps.items))
-still_met own old new many u g met k group count l need =
-    subst (λ v. count ≤ many group (second_by 0 (take (k + 1) v.items))) (sym g.steps)
-    (by_place (cases_lt k old.place))
+pub still_met : (latest : ℕ) (own : List Step) (old new : PlayedRow) (many : ℕ → ℕ → ℕ) → IsUnderWay own old
+    → GoesOn latest old new
+    → ((k group count : ℕ) → k < happened_count old → IsRowStep own k (Need group count)
+    → count ≤ many group (second_by 0 (take (k + 1) (happened_of old))))
+    → (k group count : ℕ) → k < happened_count new → IsRowStep own k (Need group count)
+    → count ≤ many group (second_by 0 (take (k + 1) (happened_of new)))
+still_met latest own old new many u g met k group count l need = by_place (cases_lt k (happened_count old))
   where
-    by_place : (k < old.place) ⊎ (old.place ≤ k) → count ≤ many group (second_by 0 (take (k + 1) old.steps.items))
-    by_place (inl before) = met k group count before need
-    by_place (inr le) =
-        let free : true ≡ false = g.free k (Need group count) le l (u.coming k le ∙ need) in
-        absurd cc
+    by_place : (k < happened_count old) ⊎ (happened_count old ≤ k)
+        → count ≤ many group (second_by 0 (take (k + 1) (happened_of new)))
+    by_place (inl before) =
+        let same : take (k + 1) (happened_of new) ≡ take (k + 1) (happened_of old) =
+        ap (take (k + 1)) g.happened ∙ take-append-le (k + 1) (happened_of old) g.more (omega (arith, before)) in
+        subst (λ l. count ≤ many group (second_by 0 l)) (sym same) (met k group count before need)
+    by_place (inr le) = absurd (g.free own k group count u le l need)
 
 -- one is passed
-pub more_met : (own : List Step) (name posts now second : ℕ) (old new : PlayedRow) (many : ℕ → ℕ → ℕ)
-    → IsUnderWay own old → IsOnTime old second → IsPassed name posts now old new → posts ≤ many name now
-    → ((k group count : ℕ) → k < old.place → slice_get own k ≡ Some (Need group count)
-    → count ≤ many group (second_by 0 (take (k + 1) old.steps.items)))
-    → (k group count : ℕ) → k < new.place → slice_get own k ≡ Some (Need group count)
-    → count ≤ many group (second_by 0 (take (k + 1) new.steps.items))
-more_met own name posts now second old new many u time h stand met k group count l need =
-    by_place (cases_lt k old.place)
+pub more_met : (own : List Step) (name posts now : ℕ) (old new : PlayedRow) (many : ℕ → ℕ → ℕ)
+    → IsUnderWay own old → IsAtSecond old → IsPassed name posts now old new → posts ≤ many name now
+    → ((k group count : ℕ) → k < happened_count old → IsRowStep own k (Need group count)
+    → count ≤ many group (second_by 0 (take (k + 1) (happened_of old))))
+    → (k group count : ℕ) → k < happened_count new → IsRowStep own k (Need group count)
+    → count ≤ many group (second_by 0 (take (k + 1) (happened_of new)))
+more_met own name posts now old new many u time h stand met k group count l need =
+    by_place (cases_lt k (happened_count old))
   where
-    by_place : (k < old.place) ⊎ (old.place ≤ k) → count ≤ many group (second_by 0 (take (k + 1) new.steps.items))
+    more : List Step
+    more = Event (Tick (now - h.second)) ∷ []
+
+    longer : happened_count new ≡ happened_count old + 1
+    longer = passed_count name posts now old new h
+
+    by_place : (k < happened_count old) ⊎ (happened_count old ≤ k)
+        → count ≤ many group (second_by 0 (take (k + 1) (happened_of new)))
     by_place (inl before) =
-        let tick = Event (Tick (now - h.second)) in
-        let same : take (k + 1) new.steps.items ≡ take (k + 1) old.steps.items =
-        ap (take (k + 1)) h.steps ∙ take-set-le (k + 1) old.steps.items old.place tick (omega (arith, before)) in
+        let same : take (k + 1) (happened_of new) ≡ take (k + 1) (happened_of old) =
+        ap (take (k + 1)) h.advanced.happened
+        ∙ take-append-le (k + 1) (happened_of old) (Event (Tick (now - h.second)) ∷ []) (omega (arith, before)) in
         subst (λ l. count ≤ many group (second_by 0 l)) (sym same) (met k group count before need)
     by_place (inr le) =
-        let here : k ≡ old.place = omega (arith, l, le, h.place) in
+        let place : k ≡ happened_count old = omega (arith, l, le, longer) in
+        let here : slice_get own old.place ≡ Some (Need name h.count) =
+        ap (λ l. slice_get l old.place) (sym u.steps) ∙ h.need in
+        let same = one_way (length own) need.turn u.turns need.place old.place
+        (slice_get_within own need.place (Need group count) need.step)
+        (slice_get_within own old.place (Need name h.count) here) (sym need.at ∙ place ∙ u.count) in
         let there : Some (Need group count) ≡ Some (Need name h.count) =
-        sym need ∙ sym (u.coming k le) ∙ ap (slice_get old.steps.items) here ∙ h.need in
+        sym need.step ∙ ap (slice_get own) same.1 ∙ here in
         let name_is : name ≡ group = cc in
         let count_is : count ≡ h.count = cc in
-        let at : second_by 0 (take (k + 1) new.steps.items) ≡ now =
-        ap (λ n. second_by 0 (take n new.steps.items)) (ap (λ n. n + 1) here ∙ sym h.place)
-        ∙ passed_second name posts now second old new h time in
+        let whole : take (k + 1) (happened_of new) ≡ happened_of new =
+        take_all (k + 1) (happened_of new) (omega (arith, place, longer)) in
+        let at : second_by 0 (take (k + 1) (happened_of new)) ≡ now =
+        ap (second_by 0) whole ∙ passed_second name posts now old new h time in
         let enough : count ≤ many name now = omega (arith, count_is, h.met, stand) in
         subst (λ n. count ≤ many group n) (sym at) (subst (λ g. count ≤ many g now) name_is enough)
 
 -- ---- counting
 
--- its second is that of the steps before it, and then of those with it
-posts_push : (group until n : ℕ) (steps : List Step) (step : Step)
-    → posts_by group until n (steps ++ step ∷ []) ≡ posts_by group until n steps
-    + cond (posts_to group step && nat_le (second_by n steps) until) 1 0
-posts_push group until n [] step = omega arith
-posts_push group until n (x ∷ steps) step =
-    let rest = posts_push group until (second_after n x) steps step in omega (arith, rest)
-
-later_keeps : (o r : Option ℕ) (n seconds : ℕ) → MatchOption o (2 ^ 64 ≤ n) (λ d. d ≡ n)
-    → ((m : ℕ) → o ≡ Some m → MatchOption r (2 ^ 64 ≤ m + seconds) (λ d. d ≡ m + seconds)) → (o ≡ None → r ≡ None)
-    → MatchOption r (2 ^ 64 ≤ n + seconds) (λ d. d ≡ n + seconds)
-later_keeps None r n seconds h some none =
-    subst (λ x. MatchOption x (2 ^ 64 ≤ n + seconds) (λ d. d ≡ n + seconds)) (sym (none refl)) (omega (arith, h))
-later_keeps (Some m) r n seconds h some none =
-    subst (λ k. MatchOption r (2 ^ 64 ≤ k + seconds) (λ d. d ≡ k + seconds)) h (some m refl)
-
--- the steps so far have been counted
-pub record AreCounted (group until : ℕ) (steps : List Step) (i posts : ℕ) (second : Option ℕ) : Type 0 where
-  pub posts_are : posts ≡ posts_by group until 0 (take i steps)
-  pub few : posts ≤ i
-  pub second_is : MatchOption second (2 ^ 64 ≤ second_by 0 (take i steps)) (λ d. d ≡ second_by 0 (take i steps))
-
-pub none_counted : (group until : ℕ) (steps : List Step) → AreCounted group until steps 0 0 (Some 0)
-none_counted group until steps =
-    let none = take_none steps in
-    record {
-      posts_are = sym (ap (posts_by group until 0) none);
-      few = omega arith;
-      second_is = sym (ap (second_by 0) none);
-    }
-
-pub one_counted : (group until : ℕ) (steps : List Step) (i posts one seconds : ℕ) (second then : Option ℕ) (step : Step)
-    → AreCounted group until steps i posts second → i < length steps → step ≡ get_or steps i step
-    → ((n : ℕ) → MatchOption second (2 ^ 64 ≤ n) (λ d. d ≡ n)
-    → one ≡ cond (posts_to group step && nat_le n until) 1 0)
-    → one ≤ 1 → ((n : ℕ) → second_after n step ≡ n + seconds)
-    → ((m : ℕ) → second ≡ Some m → MatchOption then (2 ^ 64 ≤ m + seconds) (λ d. d ≡ m + seconds))
-    → (second ≡ None → then ≡ None)
-    → AreCounted group until steps (i + 1) (posts + one) then
-one_counted group until steps i posts one seconds second then step h within is one_is few lasts some none =
-    let taken : take (i + 1) steps ≡ take i steps ++ step ∷ [] =
-    (take_at_read steps i step within).1 ∙ ap (λ y. take i steps ++ y ∷ []) (sym is) in
-    let now = second_by 0 (take i steps) in
-    let later : second_by 0 (take (i + 1) steps) ≡ now + seconds =
-    ap (second_by 0) taken ∙ second_push 0 (take i steps) step ∙ lasts now in
-    record {
-      posts_are = omega (
-        arith,
-        h.posts_are,
-        one_is now h.second_is,
-        ap (posts_by group until 0) taken,
-        posts_push group until 0 (take i steps) step,
-      );
-      few = omega (arith, h.few, few);
-      second_is = subst (λ n. MatchOption then (2 ^ 64 ≤ n) (λ d. d ≡ n)) (sym later)
-          (later_keeps second then now seconds h.second_is some none);
-    }
-
-pub all_counted : (group until : ℕ) (steps : List Step) (i posts : ℕ) (second : Option ℕ)
-    → AreCounted group until steps i posts second → length steps ≤ i → posts ≡ posts_by group until 0 steps
-all_counted group until steps i posts second h all =
-    h.posts_are ∙ ap (posts_by group until 0) (take_all i steps all)
-
 -- the posts of one device more
-pub posts_more : (slots : List Slot) (group until i : ℕ) (x : Slot) (posts one sum : ℕ) → i < length slots
-    → x ≡ get_or slots i x → posts ≡ min (posts_of (take i slots) group until) (2 ^ 64 - 1)
-    → one ≡ posts_in x.row group until → sum ≡ min (posts + one) (2 ^ 64 - 1)
-    → sum ≡ min (posts_of (take (i + 1) slots) group until) (2 ^ 64 - 1)
-posts_more slots group until i x posts one sum l e so_far is all =
+pub posts_more : (slots : List Slot) (group i : ℕ) (x : Slot) (posts one sum : ℕ) → i < length slots
+    → x ≡ get_or slots i x → posts ≡ min (all_posts (take i slots) group) (2 ^ 64 - 1)
+    → one ≡ min (posts_made x.row group) (2 ^ 64 - 1) → sum ≡ min (posts + one) (2 ^ 64 - 1)
+    → sum ≡ min (all_posts (take (i + 1) slots) group) (2 ^ 64 - 1)
+posts_more slots group i x posts one sum l e so_far is all =
     let taken : take (i + 1) slots ≡ take i slots ++ x ∷ [] =
     (take_at_read slots i x l).1 ∙ ap (λ y. take i slots ++ y ∷ []) (sym e) in
-    let more : posts_of (take (i + 1) slots) group until ≡ posts_of (take i slots) group until + posts_in x.row group
-    until =
-    ap (λ xs. posts_of xs group until) taken
-    ∙ sum_by_push (λ (slot : Slot). posts_in slot.row group until) (take i slots) x in
+    let more : all_posts (take (i + 1) slots) group ≡ all_posts (take i slots) group + posts_made x.row group =
+    ap (λ xs. all_posts xs group) taken
+    ∙ sum_by_push (λ (slot : Slot). posts_made slot.row group) (take i slots) x in
     omega (arith, so_far, is, all, more)
 
 pub with_on : {A B C : Type 0} → A ⊎ B → C → A ⊎ (C × B)

@@ -1,8 +1,8 @@
 -- Devices at second 0.
-use Rattle.std.proofs.Common.{◌≡◌, Bool, true, ℕ, ◌+◌, ◌^◌, ◌<◌, ◌≤◌, ◌⊎◌, inl, inr, take, List, [], ◌∷◌, ◌++◌, length, None, Some, slice_get, false}
+use Rattle.std.proofs.Common.{◌≡◌, Bool, true, ℕ, ◌+◌, ◌^◌, ◌<◌, ◌≤◌, ◌⊎◌, inl, inr, List, [], ◌∷◌, ◌++◌, length, None, Some, slice_get, false}
 use Rattle.std.proofs.Common.{Option, refl, sym, ap, subst, ◌∙◌, arith, length-append}
 use Rattle.std.specs.Option.{MatchOption}
-use Rattle.lemmas.proofs.Lists.{pushed_cases, take_none}
+use Rattle.lemmas.proofs.Lists.{pushed_cases}
 use Rattle.device_machine.specs.State.{Device, Shows}
 use Rattle.device_template.specs.Template.{Template}
 use Rattle.scenario_image.specs.declared.step.Step.{Step}
@@ -15,9 +15,10 @@ use Rattle.fleet_link.specs.declared.row.RowState.{RowState}
 use Rattle.fleet_link.specs.declared.row.RowState.TheVariants.{Due, Ended, Waits}
 use Rattle.fleet_link.specs.declared.recording.Recording.{Recording}
 use Rattle.fleet_link.specs.declared.slot.Slot.{Slot}
-use Rattle.fleet_link.specs.Playing.{changes_by, played_steps, row_state, second_by, second_of_row, IsTimely}
+use Rattle.fleet_link.specs.Playing.{changes_by, happened_of, is_endless, played_steps, row_state, second_by}
+use Rattle.fleet_link.specs.Playing.{second_of_row, AreBy, IsAtSecond, IsTimely, IsUnderWay}
 use Rattle.fleet_link.specs.Recorded.{IsRecorded}
-use Rattle.fleet_link.specs.Serving.{AreRecorded, HaveShare, IsDue, IsFleet, IsRowServed, IsServed}
+use Rattle.fleet_link.specs.Serving.{AreRecorded, AreRepeated, HaveShare, IsDue, IsFleet, IsRowServed, IsServed}
 use Rattle.fleet_link.specs.Traffic.{Traffic}
 use Rattle.fleet_link.proofs.Recordings.{none_recorded_yet}
 use Rattle.fleet_link.proofs.Served.{rests}
@@ -29,36 +30,60 @@ row_of s d valid row at =
     let good : IsGoodRow s.classes row = all_at (IsGoodRow s.classes) s.rows d row valid.each at in
     (good.class, record { place = row.class; row = at; stated = good.stated })
 
+-- a row before its first step
+pub record IsBegun (own : List Step) (row : PlayedRow) : Type 0 where
+  pub steps : row.steps.items ≡ own
+  pub passes : row.passes ≡ 0
+  pub place : row.place ≡ 0
+  pub second : row.second ≡ Some 0
+  pub happened : happened_of row ≡ []
+
+begun_second : (own : List Step) (row : PlayedRow) → IsBegun own row → IsAtSecond row
+begun_second own row h =
+    subst (λ o. MatchOption o (2 ^ 64 ≤ second_of_row row) (λ d. d ≡ second_of_row row)) (sym h.second)
+    (sym (ap (second_by 0) h.happened))
+
+turning_some : (repeated : Bool) (own : List Step) → is_endless repeated own ≡ true → 0 < length own
+turning_some true [] h = let e : false ≡ true = h in absurd cc
+turning_some false [] h = let e : false ≡ true = h in absurd cc
+turning_some repeated (step ∷ own) h = omega arith
+
+begun_under_way : (own : List Step) (row : PlayedRow) → IsBegun own row → IsUnderWay own row
+begun_under_way own row h =
+    record {
+      steps = h.steps;
+      turns = 0;
+      count = omega (arith, ap length h.happened, h.place);
+      passes = omega (arith, h.passes);
+      within = omega (arith, h.place);
+      once = λ e. refl;
+      anew = λ e. let some = turning_some row.repeated own e in omega (arith, some, h.place);
+      happened = λ k said step r at.
+          let e : None ≡ Some step = ap (λ l. slice_get l k) (sym h.happened) ∙ at in absurd cc;
+      second = begun_second own row h;
+    }
+
 -- a device of a class at its start, with nothing recorded
 pub slot_starts : (class : Template) (own : List Step) (slot : Slot) (told : Option Traffic)
     → Shows slot.device (start class)
     → slot.second ≡ 0 → slot.end ≡ None → IsDue slot.device slot.due → IsRecorded slot.recording []
-    → slot.row.steps.items ≡ own → slot.row.place ≡ 0 → slot.row.second ≡ Some 0
-    → IsServed class own told slot false told
-slot_starts class own slot told shows second end due recorded row place first =
+    → IsBegun own slot.row → IsServed class own told slot false told
+slot_starts class own slot told shows second end due recorded row =
     rests class own told slot false told (record {
       steps = [];
       failures = 0;
       told = carries_none told;
       clock = second;
       each = tt;
-      changed = sym (ap (changes_by 0) before);
+      changed = sym (ap (changes_by 0) row.happened);
       shows = λ e. shows;
       ended = refl;
       recorded = recorded;
-    }) end due (record {
-      happened = λ k said step l s at. absurd (omega (arith, l, place));
-      coming = λ k le. ap (λ l. slice_get l k) row;
-      count = ap length row;
-    }) (record {
-      next = subst (λ o. MatchOption o (2 ^ 64 ≤ second_of_row slot.row) (λ d. d ≡ second_of_row slot.row)) (sym first)
-          (sym (ap (second_by 0) before));
+    }) end due (begun_under_way own slot.row row) (record {
+      next = begun_second own slot.row row;
       timely = subst (λ n. IsTimely n (row_state slot.row)) (sym second) (from_start (row_state slot.row));
     })
   where
-    before : take slot.row.place slot.row.steps.items ≡ []
-    before = ap (λ n. take n slot.row.steps.items) place ∙ take_none slot.row.steps.items
-
     from_start : (state : RowState) → IsTimely 0 state
     from_start (Due d) = omega arith
     from_start (Waits group count) = tt
@@ -70,11 +95,11 @@ pub slot_served : (s : Scenario) (played : Bool) (d : ℕ) (device : Device) (sl
     → ((class : Template) (steps : List Step) → IsRowOf s d class steps → Shows device (start class))
     → slot.device ≡ device → slot.second ≡ 0 → slot.end ≡ None → IsDue device slot.due
     → slot.row ≡ own → ((class : Template) (steps : List Step) → IsRowOf s d class steps
-    → own.steps.items ≡ played_steps played steps) → own.place ≡ 0 → own.second ≡ Some 0
-    → slot.recording ≡ recording → recording.steps.items ≡ [] → recording.left ≡ recording.share
+    → own.steps.items ≡ played_steps played steps) → own.passes ≡ 0 → own.place ≡ 0 → own.second ≡ Some 0
+    → happened_of own ≡ [] → slot.recording ≡ recording → recording.steps.items ≡ [] → recording.left ≡ recording.share
     → recording.complete ≡ true → (told : Option Traffic) → IsRowServed s played d told slot false told
-slot_served s played d device slot own recording valid within shows is second end due kept_row steps place first kept
-    none left complete told =
+slot_served s played d device slot own recording valid within shows is second end due kept_row steps passes place first
+    none_yet kept none left complete told =
     let found = item_at s.rows d within in
     let row = row_of s d valid found.0 found.1 in
     record {
@@ -85,8 +110,13 @@ slot_served s played d device slot own recording valid within shows is second en
           (subst (λ x. Shows x (start row.0)) (sym is) (shows row.0 found.0.steps row.1))
           second end (subst (λ x. IsDue x slot.due) (sym is) due)
           (subst (λ r. IsRecorded r []) (sym kept) (none_recorded_yet recording none left complete))
-          (ap (λ r. r.steps.items) kept_row ∙ steps row.0 found.0.steps row.1)
-          (ap (λ r. r.place) kept_row ∙ place) (ap (λ r. r.second) kept_row ∙ first);
+          (subst (IsBegun (played_steps played found.0.steps)) (sym kept_row) (record {
+            steps = steps row.0 found.0.steps row.1;
+            passes = passes;
+            place = place;
+            second = first;
+            happened = none_yet;
+          }));
     }
 
 -- the devices of the first rows
@@ -95,7 +125,7 @@ pub record AreFirst (s : Scenario) (played : Bool) (n : ℕ) (slots : List Slot)
   pub each : (told : Option Traffic) (e : ℕ) (slot : Slot) → slice_get slots e ≡ Some slot
       → IsRowServed s played e told slot false told
   pub early : (e : ℕ) (slot : Slot) → slice_get slots e ≡ Some slot → slot.second ≤ 0
-  pub first : (e : ℕ) (slot : Slot) → slice_get slots e ≡ Some slot → slot.row.place ≡ 0
+  pub first : (e : ℕ) (slot : Slot) → slice_get slots e ≡ Some slot → happened_of slot.row ≡ []
 
 pub none_first : (s : Scenario) (played : Bool) (slots : List Slot) → slots ≡ [] → AreFirst s played 0 slots
 none_first s played slots none =
@@ -117,8 +147,7 @@ by_place P n e slots x y count here before (inr h) =
 
 pub more_first : (s : Scenario) (played : Bool) (n : ℕ) (slots more : List Slot) (y : Slot) → AreFirst s played n slots
     → more ≡ slots ++ y ∷ [] → ((told : Option Traffic) → IsRowServed s played n told y false told) → y.second ≡ 0
-    → y.row.place ≡ 0
-    → AreFirst s played (n + 1) more
+    → happened_of y.row ≡ [] → AreFirst s played (n + 1) more
 more_first s played n slots more y h is here second place =
     record {
       count = omega (arith, h.count, ap length is, length-append slots (y ∷ []));
@@ -126,7 +155,7 @@ more_first s played n slots more y h is here second place =
           (h.each told e x) (pushed_cases slots y e x (ap (λ l. slice_get l e) (sym is) ∙ at));
       early = λ e x at. by_place (λ k z. z.second ≤ 0) n e slots x y h.count (omega (arith, second)) (h.early e x)
           (pushed_cases slots y e x (ap (λ l. slice_get l e) (sym is) ∙ at));
-      first = λ e x at. by_place (λ k z. z.row.place ≡ 0) n e slots x y h.count place (h.first e x)
+      first = λ e x at. by_place (λ k z. happened_of z.row ≡ []) n e slots x y h.count place (h.first e x)
           (pushed_cases slots y e x (ap (λ l. slice_get l e) (sym is) ∙ at));
     }
 
@@ -138,8 +167,19 @@ all_first s played slots now told h zero =
       count = h.count;
       each = λ e x at. h.each (told e) e x at;
       early = λ e x at. let k : x.second ≤ 0 = h.early e x at in omega arith;
-      met = λ e k group count row x at got l need. absurd (omega (arith, l, h.first e x got));
+      made = λ e x at. subst (AreBy now 0) (sym (h.first e x at)) tt;
+      met = λ e k group count row x at got l need. absurd (omega (arith, l, ap length (h.first e x got)));
     }
+
+pub none_repeated : (slots : List Slot) (repeated : Bool) → slots ≡ [] → AreRepeated slots repeated
+none_repeated slots repeated none e slot h =
+    let k : None ≡ Some slot = ap (λ l. slice_get l e) (sym none) ∙ h in absurd cc
+
+pub more_repeated : (slots more : List Slot) (y : Slot) (repeated : Bool) → AreRepeated slots repeated
+    → more ≡ slots ++ y ∷ [] → y.row.repeated ≡ repeated → AreRepeated more repeated
+more_repeated slots more y repeated h is here e x at =
+    by_place (λ k z. z.row.repeated ≡ repeated) (length slots) e slots x y refl here (h e x)
+    (pushed_cases slots y e x (ap (λ l. slice_get l e) (sym is) ∙ at))
 
 pub none_recorded : (slots : List Slot) → slots ≡ [] → AreRecorded slots
 none_recorded slots none e slot h = let k : None ≡ Some slot = ap (λ l. slice_get l e) (sym none) ∙ h in absurd cc

@@ -1,10 +1,11 @@
 -- A row, one step further.
-use Rattle.std.proofs.Common.{◌≡◌, ℕ, ◌+◌, ◌^◌, ◌<◌, ◌≤◌, List, [], ◌++◌, Option, None, Some, take, length, slice_get}
+use Rattle.std.proofs.Common.{◌≡◌, ℕ, ◌+◌, ◌^◌, ◌<◌, ◌≤◌, List, [], ◌∷◌, ◌++◌, Option, None, Some, length, slice_get}
 use Rattle.std.proofs.Common.{◌⊎◌, inl, inr, true, false, Result, Ok, Err, OnOk, IfErr, refl, sym, ap, subst, ◌∙◌, append-nil, arith}
+use Rattle.std.proofs.Common.{append_assoc, length-append}
 use Rattle.std.proofs.lemmas.Bool.{cases_lt}
 use Rattle.std.proofs.lemmas.Option.{slice_get_within}
 use Rattle.std.specs.Option.{MatchOption}
-use Rattle.lemmas.proofs.Lists.{item_at, take_one_more}
+use Rattle.lemmas.proofs.Lists.{item_at}
 use Rattle.device_machine.specs.declared.event.Event.{Event as Happening}
 use Rattle.device_machine.specs.declared.event.Event.TheVariants.{Recv, Put, Firmware, Tick}
 use Rattle.device_machine.specs.State.{Machine, Device}
@@ -17,16 +18,17 @@ use Rattle.fleet_link.specs.declared.recording.Recording.{Recording}
 use Rattle.fleet_link.specs.declared.slot.DeviceEnd.{DeviceEnd}
 use Rattle.fleet_link.specs.declared.slot.DeviceEnd.TheVariants.{Memory}
 use Rattle.fleet_link.specs.declared.slot.Slot.{Slot}
-use Rattle.fleet_link.specs.Playing.{change_at, change_in, changes_by, changes_of, row_state, second_after, second_by}
-use Rattle.fleet_link.specs.Playing.{second_of_row, state_of, Change, IsFleetStep, IsLaterThan, IsOnTime, IsTimely}
-use Rattle.fleet_link.specs.Playing.{is_need, ComesTo, GoesOn, IsUnderWay}
+use Rattle.fleet_link.specs.Playing.{change_at, change_in, changes_of, happened_count, happened_of, is_need, row_state}
+use Rattle.fleet_link.specs.Playing.{second_after, second_of_row, state_of, Change, ComesTo, GoesOn, IsAdvanced}
+use Rattle.fleet_link.specs.Playing.{IsAtSecond, IsFleetStep, IsLaterThan, IsOnTime, IsRowStep, IsTimely, IsUnderWay}
 use Rattle.fleet_link.specs.Serving.{heard_at, IsServing}
 use Rattle.fleet_link.specs.Traffic.{Heard, Traffic}
-use Rattle.fleet_link.proofs.Served.{changes_push, second_push}
+use Rattle.fleet_link.proofs.Advanced.{advanced_count, advanced_made, advanced_next, advanced_under_way, not_earlier}
+use Rattle.fleet_link.proofs.Advanced.{one_way}
 
 -- ---- a row whose next step is due
 
-due_second : (o : Option ℕ) (next : Option Step) (due : ℕ) → state_of o next ≡ Due due → o ≡ Some due
+pub due_second : (o : Option ℕ) (next : Option Step) (due : ℕ) → state_of o next ≡ Due due → o ≡ Some due
 due_second None next due h = let e : Ended ≡ Due due = h in absurd cc
 due_second (Some n) None due h = let e : Ended ≡ Due due = h in absurd cc
 due_second (Some n) (Some (Event event)) due h = let e : Due n ≡ Due due = h in cc
@@ -64,51 +66,27 @@ on_time_until row second due is h =
 
 -- ---- its next step has happened
 
-row_changes : (old new : PlayedRow) (step : Step) → new.steps ≡ old.steps → new.place ≡ old.place + 1
-    → slice_get old.steps.items old.place ≡ Some step
-    → changes_of new ≡ changes_of old ++ change_at (second_of_row old) (change_in step)
-row_changes old new step same next at =
-    ap (λ v. changes_by 0 (take new.place v.items)) same
-    ∙ ap (λ n. changes_by 0 (take n old.steps.items)) next
-    ∙ ap (changes_by 0) (take_one_more old.steps.items old.place step at)
-    ∙ changes_push 0 (take old.place old.steps.items) step
-
-row_second : (old new : PlayedRow) (step : Step) → new.steps ≡ old.steps → new.place ≡ old.place + 1
-    → slice_get old.steps.items old.place ≡ Some step
-    → second_of_row new ≡ second_after (second_of_row old) step
-row_second old new step same next at =
-    ap (λ v. second_by 0 (take new.place v.items)) same
-    ∙ ap (λ n. second_by 0 (take n old.steps.items)) next
-    ∙ ap (second_by 0) (take_one_more old.steps.items old.place step at)
-    ∙ second_push 0 (take old.place old.steps.items) step
-
-pub advanced_changes : (old new : PlayedRow) → new.steps ≡ old.steps → new.place ≡ old.place + 1
-    → (step : Step) → slice_get old.steps.items old.place ≡ Some step
-    → changes_of new ≡ changes_of old ++ change_at (second_of_row old) (change_in step)
-advanced_changes old new same next step at = row_changes old new step same next at
-
-pub advanced_on_time : (old new : PlayedRow) (seconds : ℕ) → new.steps ≡ old.steps → new.place ≡ old.place + 1
-    → ((step : Step) (n : ℕ) → slice_get old.steps.items old.place ≡ Some step → second_after n step ≡ n + seconds)
-    → ((n : ℕ) → old.second ≡ Some n → MatchOption new.second (2 ^ 64 ≤ n + seconds) (λ d. d ≡ n + seconds))
+pub advanced_on_time : (old new : PlayedRow)
+    → ((step : Step) → slice_get old.steps.items old.place ≡ Some step → IsAdvanced step old new)
     → (second due : ℕ) → row_state old ≡ Due due → IsOnTime old second → IsOnTime new second
-advanced_on_time old new seconds same next passes later second due is h =
+advanced_on_time old new advanced second due is h =
     let found = item_at old.steps.items old.place (due_within old due is) in
-    let at : second_of_row new ≡ due + seconds =
-    row_second old new found.0 same next found.1 ∙ passes found.0 (second_of_row old) found.1
-    ∙ ap (λ n. n + seconds) (sym (due_is old second due is h)) in
-    let so = later due (due_second old.second (slice_get old.steps.items old.place) due is) in
+    let a = advanced found.0 found.1 in
+    let grown = not_earlier due found.0 in
     record {
-      next = subst (λ n. MatchOption new.second (2 ^ 64 ≤ n) (λ d. d ≡ n)) (sym at) so;
-      timely = timely new.second (slice_get new.steps.items new.place) so (due_timely old second due is h);
+      next = advanced_next found.0 old new a h.next;
+      timely = timely new.second (slice_get new.steps.items new.place) (second_after due found.0)
+          (a.second due (due_second old.second (slice_get old.steps.items old.place) due is)) grown
+          (due_timely old second due is h);
     }
   where
-    timely : (o : Option ℕ) (step : Option Step) → MatchOption o (2 ^ 64 ≤ due + seconds) (λ d. d ≡ due + seconds)
+    timely : (o : Option ℕ) (step : Option Step) (n : ℕ) → MatchOption o (2 ^ 64 ≤ n) (λ d. d ≡ n) → due ≤ n
         → second ≤ due → IsTimely second (state_of o step)
-    timely None step k le = tt
-    timely (Some n) None k le = tt
-    timely (Some n) (Some (Event event)) k le = omega (arith, k, le)
-    timely (Some n) (Some (Post group)) k le = omega (arith, k, le)
-    timely (Some n) (Some (Need group count)) k le = tt
+    timely None step n k l le = tt
+    timely (Some m) None n k l le = tt
+    timely (Some m) (Some (Event event)) n k l le = omega (arith, k, l, le)
+    timely (Some m) (Some (Post group)) n k l le = omega (arith, k, l, le)
+    timely (Some m) (Some (Need group count)) n k l le = tt
 
 -- ---- a device whose row makes a step
 
@@ -323,29 +301,45 @@ later_settled (Err end) stepped slot now later ended same on = let e : Some end 
 
 -- ---- a row that goes on
 
-pub goes_on_same : (old new : PlayedRow) → new ≡ old → GoesOn old new
-goes_on_same old new same =
-    subst (GoesOn old) (sym same) (record {
+pub goes_on_same : (until : ℕ) (old new : PlayedRow) → new ≡ old → GoesOn until old new
+goes_on_same until old new same =
+    subst (GoesOn until old) (sym same) (record {
       steps = refl;
-      later = omega arith;
-      free = λ k step a b at. absurd (omega (arith, a, b));
+      repeated = refl;
+      more = [];
+      happened = sym (append-nil (happened_of old));
+      under_way = λ own u. u;
+      free = λ own k group count u a b r. absurd (omega (arith, a, b));
+      made = λ own latest u le m. m;
     })
 
-pub goes_then : (first old new : PlayedRow) → GoesOn first old → new ≡ old → GoesOn first new
-goes_then first old new h same = subst (GoesOn first) (sym same) h
+pub goes_then : (until : ℕ) (first old new : PlayedRow) → GoesOn until first old → new ≡ old → GoesOn until first new
+goes_then until first old new h same = subst (GoesOn until first) (sym same) h
 
-pub goes_both : (a b c : PlayedRow) → GoesOn a b → GoesOn b c → GoesOn a c
-goes_both a b c h k =
+pub goes_both : (until then : ℕ) (a b c : PlayedRow) → then ≤ until → GoesOn until a b → GoesOn then b c
+    → GoesOn until a c
+goes_both until then a b c before h k =
     record {
       steps = k.steps ∙ h.steps;
-      later = omega (arith, h.later, k.later);
-      free = λ i step x y at. by_place i step x y at (cases_lt i b.place);
+      repeated = k.repeated ∙ h.repeated;
+      more = h.more ++ k.more;
+      happened = k.happened ∙ ap (λ l. l ++ k.more) h.happened ∙ append_assoc (happened_of a) h.more k.more;
+      under_way = λ own u. k.under_way own (h.under_way own u);
+      free = λ own i group count u x y r. by_place own i group count u x y r (cases_lt i (happened_count b));
+      made = λ own latest u le m.
+          k.made own latest (h.under_way own u) (omega (arith, before, le)) (h.made own latest u le m);
     }
   where
-    by_place : (i : ℕ) (step : Step) → a.place ≤ i → i < c.place → slice_get a.steps.items i ≡ Some step
-        → (i < b.place) ⊎ (b.place ≤ i) → is_need step ≡ false
-    by_place i step x y at (inl l) = h.free i step x l at
-    by_place i step x y at (inr le) = k.free i step le y (ap (λ v. slice_get v.items i) h.steps ∙ at)
+    by_place : (own : List Step) (i group count : ℕ) → IsUnderWay own a → happened_count a ≤ i
+        → i < happened_count c → IsRowStep own i (Need group count)
+        → (i < happened_count b) ⊎ (happened_count b ≤ i) → ⊥
+    by_place own i group count u x y r (inl l) = h.free own i group count u x l r
+    by_place own i group count u x y r (inr le) = k.free own i group count (h.under_way own u) le y r
+
+-- it has not gone back
+pub goes_later : (until : ℕ) (old new : PlayedRow) → GoesOn until old new → happened_count old ≤ happened_count new
+goes_later until old new h =
+    omega (arith, ap length h.happened, length-append (happened_of old) h.more)
 
 due_free : (o : Option ℕ) (step : Step) (due : ℕ) → state_of o (Some step) ≡ Due due → is_need step ≡ false
 due_free None step due h = let e : Ended ≡ Due due = h in absurd cc
@@ -353,39 +347,59 @@ due_free (Some n) (Event event) due h = refl
 due_free (Some n) (Post group) due h = refl
 due_free (Some n) (Need group count) due h = let e : Waits group count ≡ Due due = h in absurd cc
 
--- its next step, which is due, has happened
-pub due_goes_on : (old mid new : PlayedRow) (due : ℕ) → row_state old ≡ Due due → mid ≡ old → new.steps ≡ mid.steps
-    → new.place ≡ mid.place + 1 → GoesOn old new
-due_goes_on old mid new due is same steps place =
-    record {
-      steps = steps ∙ ap (λ r. r.steps) same;
-      later = omega (arith, place, ap (λ r. r.place) same);
-      free = λ k step a b at.
-          let here : k ≡ old.place = omega (arith, a, b, place, ap (λ r. r.place) same) in
-          due_free old.second step due
-          (ap (state_of old.second) (sym at ∙ ap (slice_get old.steps.items) here) ∙ is);
-    }
-
 comes_same : (said : Step) → is_need said ≡ false → ComesTo said said
 comes_same (Event event) h = refl
 comes_same (Post group) h = refl
 comes_same (Need group count) h = let e : true ≡ false = h in absurd cc
 
-pub still_under_way : (own : List Step) (old new : PlayedRow) → IsUnderWay own old → GoesOn old new
-    → IsUnderWay own new
-still_under_way own old new h g =
+not_need : (step : Step) (group count : ℕ) → is_need step ≡ false → step ≡ Need group count → ⊥
+not_need step group count free is = let e : true ≡ false = sym (ap is_need is) ∙ free in cc
+
+one_goes_on : (until due : ℕ) (old new : PlayedRow) (step : Step) → row_state old ≡ Due due → due ≤ until
+    → slice_get old.steps.items old.place ≡ Some step → IsAdvanced step old new → GoesOn until old new
+one_goes_on until due old new step is le at h =
     record {
-      happened = λ k said step l s at. by_place k said step l s
-          (ap (λ v. slice_get v.items k) (sym g.steps) ∙ at) (cases_lt k old.place);
-      coming = λ k le. ap (λ v. slice_get v.items k) g.steps ∙ h.coming k (omega (arith, g.later, le));
-      count = ap (λ v. length v.items) g.steps ∙ h.count;
+      steps = h.steps;
+      repeated = h.repeated;
+      more = step ∷ [];
+      happened = h.happened;
+      under_way = λ own u. advanced_under_way own step step old new h at (comes_same step free) u;
+      free = λ own k group count u a b r. never own k group count u a b r;
+      made = λ own latest u l m.
+          advanced_made step old new latest h (omega (arith, le, l, sym (due_at u.second))) m;
     }
   where
-    by_place : (k : ℕ) (said step : Step) → k < new.place → slice_get own k ≡ Some said
-        → slice_get old.steps.items k ≡ Some step → (k < old.place) ⊎ (old.place ≤ k) → ComesTo said step
-    by_place k said step l s at (inl before) = h.happened k said step before s at
-    by_place k said step l s at (inr le) =
-        let there : slice_get old.steps.items k ≡ Some said = h.coming k le ∙ s in
-        let e : Some said ≡ Some step = sym there ∙ at in
-        let same : said ≡ step = cc in
-        subst (ComesTo said) same (comes_same said (g.free k said le l there))
+    free : is_need step ≡ false
+    free = due_free old.second step due (ap (state_of old.second) (sym at) ∙ is)
+
+    due_at : IsAtSecond old → due ≡ second_of_row old
+    due_at e =
+        subst (λ o. MatchOption o (2 ^ 64 ≤ second_of_row old) (λ d. d ≡ second_of_row old))
+        (due_second old.second (slice_get old.steps.items old.place) due is) e
+
+    never : (own : List Step) (k group count : ℕ) → IsUnderWay own old → happened_count old ≤ k
+        → k < happened_count new → IsRowStep own k (Need group count) → ⊥
+    never own k group count u a b r =
+        let here : slice_get own old.place ≡ Some step = ap (λ l. slice_get l old.place) (sym u.steps) ∙ at in
+        let place : k ≡ happened_count old = omega (arith, a, b, advanced_count step old new h) in
+        let same = one_way (length own) r.turn u.turns r.place old.place
+        (slice_get_within own r.place (Need group count) r.step) (slice_get_within own old.place step here)
+        (sym r.at ∙ place ∙ u.count) in
+        let e : Some step ≡ Some (Need group count) = sym here ∙ ap (slice_get own) (sym same.1) ∙ r.step in
+        let k : step ≡ Need group count = cc in
+        not_need step group count free k
+
+-- its next step, which is due, has happened
+pub due_goes_on : (until : ℕ) (old mid new : PlayedRow) (due : ℕ) → row_state old ≡ Due due → due ≤ until → mid ≡ old
+    → ((step : Step) → slice_get mid.steps.items mid.place ≡ Some step → IsAdvanced step mid new)
+    → GoesOn until old new
+due_goes_on until old mid new due is le same advanced =
+    let found = item_at old.steps.items old.place (due_within old due is) in
+    let here : slice_get mid.steps.items mid.place ≡ Some found.0 =
+    ap (λ (r : PlayedRow). slice_get r.steps.items r.place) same ∙ found.1 in
+    one_goes_on until due old new found.0 is le found.1
+    (subst (λ r. IsAdvanced found.0 r new) same (advanced found.0 here))
+
+pub still_under_way : (until : ℕ) (own : List Step) (old new : PlayedRow) → IsUnderWay own old → GoesOn until old new
+    → IsUnderWay own new
+still_under_way until own old new h g = g.under_way own h

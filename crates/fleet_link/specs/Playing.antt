@@ -1,6 +1,7 @@
 -- What the row of a device does by itself as seconds pass: its changes, each at its second.
-use Rattle.std.specs.Prelude.{◌≡◌, ℕ, ◌+◌, ◌-◌, ◌==◌, ◌^◌, ◌&&◌, ◌<◌, ◌≤◌, ⊤, Bool, true, false, List, [], ◌∷◌, ◌++◌, filter, length, take}
-use Rattle.std.specs.Prelude.{slice_get, slice_set, nat_le, Option, None, Some, MatchOption, if◌then◌else◌}
+use Rattle.std.specs.Prelude.{◌≡◌, ℕ, zero, suc, ◌+◌, ◌-◌, ◌==◌, ◌^◌, ◌&&◌, ◌<◌, ◌≤◌, ⊤, Bool, true, false, List, [], ◌∷◌, ◌++◌, filter, length, take}
+use Rattle.std.specs.Prelude.{slice_get, nat_le, count_by, min, Option, None, Some, MatchOption, if◌then◌else◌, ◌*◌}
+use Rattle.std.specs.List.{list_any}
 use Rattle.device_machine.specs.declared.event.Event.{Event as Happening}
 use Rattle.device_machine.specs.declared.event.Event.TheVariants.{Recv, Put, Firmware, Tick}
 use Rattle.fleet_core.specs.Run.{posts_to}
@@ -9,6 +10,7 @@ use Rattle.scenario_image.specs.declared.step.Step.TheVariants.{Event, Post, Nee
 use Rattle.fleet_link.specs.declared.row.PlayedRow.{PlayedRow}
 use Rattle.fleet_link.specs.declared.row.RowState.{RowState}
 use Rattle.fleet_link.specs.declared.row.RowState.TheVariants.{Due, Waits, Ended}
+use Rattle.fleet_link.specs.declared.seen.SeenSteps.{SeenSteps, Begun, Then'}
 
 -- ---- the seconds of steps
 
@@ -89,21 +91,65 @@ ComesTo (Event event) step = step ≡ Event event
 ComesTo (Post group) step = step ≡ Post group
 ComesTo (Need group count) step = (seconds : ℕ) × (step ≡ Event (Tick seconds))
 
--- of these steps of a row those before its place have happened, and the others are to come
-pub record IsUnderWay (own : List Step) (row : PlayedRow) : Type 0 where
-  pub happened : (k : ℕ) (said step : Step) → k < row.place → slice_get own k ≡ Some said
-      → slice_get row.steps.items k ≡ Some step → ComesTo said step
-  pub coming : (k : ℕ) → row.place ≤ k → slice_get row.steps.items k ≡ slice_get own k
-  pub count : length row.steps.items ≡ length own
+abbrev pub steps_seen : SeenSteps → List Step
+steps_seen Begun = []
+steps_seen (Then' at before step) = steps_seen before ++ step.value ∷ []
 
--- the changes that a row has made: those of its first steps, each at the second to which the ticks before it add up,
--- and the seconds for which needs held it up
+-- what has happened of a row, pass after pass: what its steps came to
+abbrev pub happened_of : PlayedRow → List Step
+happened_of row = steps_seen row.happened
+
+-- how many steps of a row have happened, in all its passes
+abbrev pub happened_count : PlayedRow → ℕ
+happened_count row = length (happened_of row)
+
+-- a second passes in a step, or more
+abbrev pub takes_time : Step → Bool
+takes_time (Event (Recv server bytes)) = false
+takes_time (Event (Put path value)) = false
+takes_time (Event (Firmware code)) = false
+takes_time (Event (Tick seconds)) = nat_le 1 seconds
+takes_time (Post group) = false
+takes_time (Need group count) = false
+
+-- steps begin anew when all of them have happened: they are to be repeated, and have a tick. (Passes without one would
+-- all be in one second.)
+abbrev pub is_endless : Bool → List Step → Bool
+is_endless repeated own = repeated && list_any takes_time own
+
+-- counted on and on, pass after pass, the kth of these steps is this one
+pub record IsRowStep (own : List Step) (k : ℕ) (said : Step) : Type 0 where
+  pub turn : ℕ
+  pub place : ℕ
+  pub at : k ≡ turn * length own + place
+  pub step : slice_get own place ≡ Some said
+
+-- the changes that a row has made, each at the second to which the ticks before it add up, and the seconds for which
+-- needs held the row up, in all its passes: so a pass begins at the second at which the one before it ended
 abbrev pub changes_of : PlayedRow → List Change
-changes_of row = changes_by 0 (take row.place row.steps.items)
+changes_of row = changes_by 0 (happened_of row)
 
 -- the second of its next step: that to which the ticks before it add up
 abbrev pub second_of_row : PlayedRow → ℕ
-second_of_row row = second_by 0 (take row.place row.steps.items)
+second_of_row row = second_by 0 (happened_of row)
+
+-- the next step of a row is due at its second, if that has 64 bits
+abbrev pub IsAtSecond : PlayedRow → Type 0
+IsAtSecond row = MatchOption row.second (2 ^ 64 ≤ second_of_row row) (λ due. due ≡ second_of_row row)
+
+-- These steps of a row are played. So many passes are whole, none but where they are endless, and of the one that is
+-- under way the steps before the row's place have happened. What has happened is what they come to, one by one.
+pub record IsUnderWay (own : List Step) (row : PlayedRow) : Type 0 where
+  pub steps : row.steps.items ≡ own
+  pub turns : ℕ
+  pub count : happened_count row ≡ turns * length own + row.place
+  pub passes : row.passes ≡ min turns (2 ^ 64 - 1)
+  pub within : row.place ≤ length own
+  pub once : is_endless row.repeated own ≡ false → turns ≡ 0
+  pub anew : is_endless row.repeated own ≡ true → row.place < length own
+  pub happened : (k : ℕ) (said step : Step) → IsRowStep own k said → slice_get (happened_of row) k ≡ Some step
+      → ComesTo said step
+  pub second : IsAtSecond row
 
 -- how a row goes on of which this is the next step, due at this second
 abbrev pub state_of : Option ℕ → Option Step → RowState
@@ -140,17 +186,51 @@ IsTimely second (Due due) = second ≤ due
 IsTimely second (Waits group count) = ⊤
 IsTimely second Ended = ⊤
 
--- the next step of a row is due at its second, if that has 64 bits, and at this second it is not too late for it
+-- the next step of a row is due at its second, and at this second it is not too late for it
 pub record IsOnTime (row : PlayedRow) (second : ℕ) : Type 0 where
-  pub next : MatchOption row.second (2 ^ 64 ≤ second_of_row row) (λ due. due ≡ second_of_row row)
+  pub next : IsAtSecond row
   pub timely : IsTimely second (row_state row)
 
--- a row has gone on, and has passed no need
-pub record GoesOn (old new : PlayedRow) : Type 0 where
+-- each of these steps, of which the first is at this second, is at the latest one or before
+abbrev pub AreBy : ℕ → ℕ → List Step → Type 0
+AreBy latest second [] = ⊤
+AreBy latest second (step ∷ steps) = (second ≤ latest) × AreBy latest (second_after second step) steps
+
+-- no step of a row has happened later than this second
+abbrev pub HasHappenedBy : ℕ → PlayedRow → Type 0
+HasHappenedBy latest row = AreBy latest 0 (happened_of row)
+
+-- the next step of a row is the last of a pass, after which its steps begin anew
+abbrev pub ends_pass : PlayedRow → Bool
+ends_pass row = nat_le (length row.steps.items) (row.place + 1) && is_endless row.repeated row.steps.items
+
+-- the next step of a row has happened, and has come to this one
+pub record IsAdvanced (step : Step) (old new : PlayedRow) : Type 0 where
   pub steps : new.steps ≡ old.steps
-  pub later : old.place ≤ new.place
-  pub free : (k : ℕ) (step : Step) → old.place ≤ k → k < new.place → slice_get old.steps.items k ≡ Some step
-      → is_need step ≡ false
+  pub repeated : new.repeated ≡ old.repeated
+  pub happened : happened_of new ≡ happened_of old ++ step ∷ []
+  pub place : new.place ≡ (if ends_pass old then 0 else old.place + 1)
+  pub passes : new.passes ≡ (if ends_pass old then min (old.passes + 1) (2 ^ 64 - 1) else old.passes)
+  pub second : (n : ℕ) → old.second ≡ Some n
+      → MatchOption new.second (2 ^ 64 ≤ second_after n step) (λ due. due ≡ second_after n step)
+  pub none : old.second ≡ None → new.second ≡ None
+
+-- a row has gone on up to a second, and has passed no need
+pub record GoesOn (until : ℕ) (old new : PlayedRow) : Type 0 where
+  pub steps : new.steps ≡ old.steps
+  pub repeated : new.repeated ≡ old.repeated
+  pub more : List Step
+  pub happened : happened_of new ≡ happened_of old ++ more
+  pub under_way : (own : List Step) → IsUnderWay own old → IsUnderWay own new
+  pub free : (own : List Step) (k group count : ℕ) → IsUnderWay own old → happened_count old ≤ k
+      → k < happened_count new → IsRowStep own k (Need group count) → ⊥
+  pub made : (own : List Step) (latest : ℕ) → IsUnderWay own old → until ≤ latest → HasHappenedBy latest old
+      → HasHappenedBy latest new
+
+-- so many passes of steps, one after another, and the first steps of the next one
+abbrev pub passes_of : ℕ → ℕ → List Step → List Step
+passes_of zero place own = take place own
+passes_of (suc turns) place own = own ++ passes_of turns place own
 
 -- ---- posts and needs
 
@@ -161,9 +241,18 @@ posts_by group until second (step ∷ steps) =
     (if posts_to group step && nat_le second until then 1 else 0)
     + posts_by group until (second_after second step) steps
 
--- how many of them a row has made
+-- how many of them a row has made, in all its passes
 abbrev pub posts_in : PlayedRow → ℕ → ℕ → ℕ
-posts_in row group until = posts_by group until 0 (take row.place row.steps.items)
+posts_in row group until = posts_by group until 0 (happened_of row)
+
+-- how many posts to a group there are among steps
+abbrev pub posts_among : ℕ → List Step → ℕ
+posts_among group steps = count_by (posts_to group) steps
+
+-- how many of them a row has made: in its whole passes, and in the one that is under way
+abbrev pub posts_made : PlayedRow → ℕ → ℕ
+posts_made row group =
+    row.passes * posts_among group row.steps.items + posts_among group (take row.place row.steps.items)
 
 -- A row waits at a need of this group, of whose posts so many stand at this second: enough. It came there by then,
 -- within the last 2^32 seconds. (A group has 8 bits, and a need's count has 32.)
@@ -186,6 +275,5 @@ pub record IsPassed (group posts now : ℕ) (old new : PlayedRow) : Type 0 where
   pub second : ℕ
   pub second_is : old.second ≡ Some second
   pub reached : second ≤ now
-  pub steps : new.steps.items ≡ slice_set old.steps.items old.place (Event (Tick (now - second)))
-  pub place : new.place ≡ old.place + 1
+  pub advanced : IsAdvanced (Event (Tick (now - second))) old new
   pub resumed : new.second ≡ Some now

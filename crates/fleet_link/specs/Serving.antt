@@ -1,5 +1,5 @@
 -- A fleet that is served: what each of its devices is, of what its port handed out and took in.
-use Rattle.std.specs.Prelude.{◌≡◌, ℕ, ◌+◌, ◌≤◌, ◌<◌, Bool, true, take, List, [], ◌∷◌, ◌++◌, length, slice_get, Option, None}
+use Rattle.std.specs.Prelude.{◌≡◌, ℕ, ◌+◌, ◌≤◌, ◌<◌, Bool, true, false, take, List, [], ◌∷◌, ◌++◌, length, slice_get, Option, None}
 use Rattle.std.specs.Prelude.{Some, IfSome, MatchOption}
 use Rattle.std.specs.List.{sum_by, AllByRecursion}
 use Rattle.device_machine.specs.declared.event.Event.TheVariants.{Recv, Put, Firmware, Tick}
@@ -16,8 +16,9 @@ use Rattle.fleet_link.specs.declared.recording.Recording.{Recording}
 use Rattle.fleet_link.specs.declared.slot.DeviceEnd.{DeviceEnd}
 use Rattle.fleet_link.specs.declared.slot.DeviceEnd.TheVariants.{Memory, Port, Spent}
 use Rattle.fleet_link.specs.declared.slot.Slot.{Slot}
-use Rattle.fleet_link.specs.Playing.{changes_by, changes_of, played_steps, posts_in, row_state, second_after, second_by, Change}
-use Rattle.fleet_link.specs.Playing.{CanPass, IsFleetStep, IsLaterThan, IsOnTime, IsUnderWay}
+use Rattle.fleet_link.specs.Playing.{changes_by, changes_of, happened_of, happened_count, played_steps, posts_in, posts_made}
+use Rattle.fleet_link.specs.Playing.{row_state, second_after, second_by, Change}
+use Rattle.fleet_link.specs.Playing.{CanPass, IsFleetStep, IsLaterThan, HasHappenedBy, IsOnTime, IsRowStep, IsUnderWay}
 use Rattle.fleet_link.specs.Recorded.{IsRecorded}
 use Rattle.fleet_link.specs.Traffic.{Carries, Heard, Traffic}
 
@@ -75,10 +76,10 @@ pub record IsServing (f : Machine) (before : Option Traffic) (pending : List Hea
 abbrev pub IsDue : Device → Option ℕ → Type 0
 IsDue device due = (f : Machine) → Shows device f → MatchOption due (IsSilent f) (IsNextSending f)
 
--- A device of a class is served from its start, and these steps of its row are played: those at the row's place and
--- after it are still to come, and the changes of those before it are all that it has made of its own. While it goes on
--- nothing is pending, and the second in which it is due next is known, and still to come. One that has ended hears no
--- more. It ended for want of memory only if it may have.
+-- A device of a class is served from its start, and these steps of its row are played, once or over and over: the
+-- changes of those that have happened are all that it has made of its own. While it goes on nothing is pending, and the
+-- second in which it is due next is known, and still to come. One that has ended hears no more. It ended for want of
+-- memory only if it may have.
 pub record IsServed (class : Template) (row : List Step) (before : Option Traffic) (slot : Slot) (broken : Bool)
     (after : Option Traffic) : Type 0 where
   pub unheard : List Heard
@@ -109,17 +110,18 @@ posts_of slots group until = sum_by (λ slot. posts_in slot.row group until) slo
 abbrev pub AreMet : Scenario → Bool → List Slot → Type 0
 AreMet s played slots =
     (e k group count : ℕ) (row : Row) (slot : Slot) → slice_get s.rows e ≡ Some row → slice_get slots e ≡ Some slot
-    → k < slot.row.place → slice_get (played_steps played row.steps) k ≡ Some (Need group count)
-    → count ≤ posts_of slots group (second_by 0 (take (k + 1) slot.row.steps.items))
+    → k < happened_count slot.row → IsRowStep (played_steps played row.steps) k (Need group count)
+    → count ≤ posts_of slots group (second_by 0 (take (k + 1) (happened_of slot.row)))
 
 -- the devices of a scenario are served, each on its port, and at most to this second; their rows are played, or are
--- not. One of them ended for want of memory only if the session is broken off
+-- not, and no step of them has happened later. One of them ended for want of memory only if the session is broken off
 pub record IsFleet (s : Scenario) (played : Bool) (before : ℕ → Option Traffic) (slots : List Slot) (now : ℕ)
     (broken : Bool) (after : ℕ → Option Traffic) : Type 0 where
   pub count : length slots ≡ length s.rows
   pub each : (e : ℕ) (slot : Slot) → slice_get slots e ≡ Some slot
       → IsRowServed s played e (before e) slot broken (after e)
   pub early : (e : ℕ) (slot : Slot) → slice_get slots e ≡ Some slot → slot.second ≤ now
+  pub made : (e : ℕ) (slot : Slot) → slice_get slots e ≡ Some slot → HasHappenedBy now slot.row
   pub met : AreMet s played slots
 
 -- nothing is to be done by a device at this second or before: it sends nothing by itself, and no step of its row is
@@ -147,23 +149,38 @@ AreRecorded slots = (e : ℕ) (slot : Slot) → slice_get slots e ≡ Some slot 
 -- how many steps of the row of a device have happened, if there is the device
 abbrev pub place_in : Option Slot → ℕ
 place_in None = 0
-place_in (Some slot) = slot.row.place
+place_in (Some slot) = happened_count slot.row
+
+-- whether the row of a device is to be repeated
+abbrev pub repeats_in : Option Slot → Bool
+repeats_in None = false
+repeats_in (Some slot) = slot.row.repeated
 
 -- how many bytes of an image its recording may take
 abbrev pub share_in : Option Slot → ℕ
 share_in None = 0
 share_in (Some slot) = slot.recording.share
 
--- no row has gone back, and each recording may take what it might
+-- no row has gone back, each is repeated that was to be, and each recording may take what it might
 pub record HaveGoneOn (before after : List Slot) : Type 0 where
   pub further : (e : ℕ) → place_in (slice_get before e) ≤ place_in (slice_get after e)
+  pub repeats : (e : ℕ) → repeats_in (slice_get after e) ≡ repeats_in (slice_get before e)
   pub shares : (e : ℕ) → share_in (slice_get after e) ≡ share_in (slice_get before e)
+
+-- how many posts to a group the rows of all devices have made
+abbrev pub all_posts : List Slot → ℕ → ℕ
+all_posts slots group = sum_by (λ slot. posts_made slot.row group) slots
 
 -- Each need at which the row of a device waited and whose posts stood, at this second, was passed.
 abbrev pub ArePassed : List Slot → List Slot → ℕ → Type 0
 ArePassed before after now =
     (e group : ℕ) (slot : Slot) → slice_get before e ≡ Some slot → slot.end ≡ None
-    → CanPass group (posts_of before group now) now slot.row → slot.row.place < place_in (slice_get after e)
+    → CanPass group (all_posts before group) now slot.row → happened_count slot.row < place_in (slice_get after e)
+
+-- the rows of all devices are to be repeated, or none is
+abbrev pub AreRepeated : List Slot → Bool → Type 0
+AreRepeated slots repeated =
+    (e : ℕ) (slot : Slot) → slice_get slots e ≡ Some slot → slot.row.repeated ≡ repeated
 
 -- each device may record this many bytes of an image
 abbrev pub HaveShare : List Slot → ℕ → Type 0

@@ -2,7 +2,8 @@
 ghost use Rattle.std.specs.Prelude.{◌≡◌, ◌<◌, [], ℕ, Option, IfOk, None, false, true, length};
 ghost use Rattle.fleet_link.specs.Traffic.{Traffic};
 ghost use Rattle.fleet_link.specs.Recorded.{share_of};
-ghost use Rattle.fleet_link.specs.Serving.{AreRecorded, HaveShare, IsFleet, IsRowServed};
+ghost use Rattle.fleet_link.specs.Playing.{happened_of};
+ghost use Rattle.fleet_link.specs.Serving.{AreRecorded, AreRepeated, HaveShare, IsFleet, IsRowServed};
 
 use crate::recording::Recording;
 use crate::row::PlayedRow;
@@ -45,29 +46,32 @@ fn slot_of_row(
     scenario: &Scenario,
     device: u16,
     played: bool,
+    repeated: bool,
     saved: bool,
 ) -> Result<Slot, AllocError>
     requires { device < length scenario.now.rows }
     ensures served { IfOk result (λ slot. (told : Option Traffic)
         → IsRowServed scenario.now played device told slot false told) }
     ensures second { IfOk result (λ slot. slot.second ≡ 0) }
-    ensures place { IfOk result (λ slot. slot.row.place ≡ 0) }
+    ensures first { IfOk result (λ slot. happened_of slot.row ≡ []) }
+    ensures repeated { IfOk result (λ slot. slot.row.repeated ≡ repeated) }
     ensures recorded { IfOk result (λ slot. slot.recording.complete ≡ true) }
     ensures share { IfOk result (λ slot. slot.recording.share ≡ share_of (length scenario.now.rows) saved) }
 {
     let rows = scenario.rows();
-    let row = PlayedRow::of_device(alloc, scenario, device, played)?;
+    let row = PlayedRow::of_device(alloc, scenario, device, played, repeated)?;
     let device = start_of_row(scenario, device)?;
     Ok(Slot::new(device, row, recording_of(alloc, rows, saved)))
 }
 
 impl Fleet {
-    /// The devices of a scenario, each at the start of its row's class, at second 0. Their rows are played, or are not;
-    /// their steps are recorded if they are to be saved.
+    /// The devices of a scenario, each at the start of its row's class, at second 0. Their rows are played, once or
+    /// over and over, or are not; their steps are recorded if they are to be saved.
     fn start_rows(
         alloc: Global,
         scenario: &Scenario,
         played: bool,
+        repeated: bool,
         saved: bool,
     ) -> Result<Fleet, AllocError>
         ensures fleet { (told : ℕ → Option Traffic)
@@ -76,12 +80,13 @@ impl Fleet {
         ensures recorded { IfOk result (λ fleet. AreRecorded fleet.slots.items) }
         ensures shares { IfOk result (λ fleet. HaveShare fleet.slots.items
             (share_of (length scenario.now.rows) saved)) }
+        ensures repeated { IfOk result (λ fleet. AreRepeated fleet.slots.items repeated) }
         ensures began { IfOk result (λ fleet. fleet.began ≡ None) }
     {
         let rows = scenario.rows();
         let mut slots = Vec::with_capacity(alloc, rows)?;
         for device in 0..rows {
-            slots.push(slot_of_row(alloc, scenario, device as u16, played, saved)?)?;
+            slots.push(slot_of_row(alloc, scenario, device as u16, played, repeated, saved)?)?;
         }
         Ok(Fleet {
             slots,
@@ -99,9 +104,10 @@ impl Fleet {
         ensures recorded { IfOk result (λ fleet. AreRecorded fleet.slots.items) }
         ensures shares { IfOk result (λ fleet. HaveShare fleet.slots.items
             (share_of (length scenario.now.rows) saved)) }
+        ensures repeated { IfOk result (λ fleet. AreRepeated fleet.slots.items false) }
         ensures began { IfOk result (λ fleet. fleet.began ≡ None) }
     {
-        Fleet::start_rows(alloc, scenario, false, saved)
+        Fleet::start_rows(alloc, scenario, false, false, saved)
     }
 
     /// The same, but their rows are played: what they say, but for their datagrams, happens as seconds pass.
@@ -116,9 +122,29 @@ impl Fleet {
         ensures recorded { IfOk result (λ fleet. AreRecorded fleet.slots.items) }
         ensures shares { IfOk result (λ fleet. HaveShare fleet.slots.items
             (share_of (length scenario.now.rows) saved)) }
+        ensures repeated { IfOk result (λ fleet. AreRepeated fleet.slots.items false) }
         ensures began { IfOk result (λ fleet. fleet.began ≡ None) }
     {
-        Fleet::start_rows(alloc, scenario, true, saved)
+        Fleet::start_rows(alloc, scenario, true, false, saved)
+    }
+
+    /// The same, but a row begins anew when all of it has happened: the second at which it ended is then its second 0.
+    /// A row without a tick, whose passes would all be in one second, is played once.
+    pub fn start_repeated(
+        alloc: Global,
+        scenario: &Scenario,
+        saved: bool,
+    ) -> Result<Fleet, AllocError>
+        ensures fleet { (told : ℕ → Option Traffic)
+            → IfOk result (λ fleet. IsFleet scenario.now true told fleet.slots.items fleet.second false told) }
+        ensures second { IfOk result (λ fleet. fleet.second ≡ 0) }
+        ensures recorded { IfOk result (λ fleet. AreRecorded fleet.slots.items) }
+        ensures shares { IfOk result (λ fleet. HaveShare fleet.slots.items
+            (share_of (length scenario.now.rows) saved)) }
+        ensures repeated { IfOk result (λ fleet. AreRepeated fleet.slots.items true) }
+        ensures began { IfOk result (λ fleet. fleet.began ≡ None) }
+    {
+        Fleet::start_rows(alloc, scenario, true, true, saved)
     }
 
     /// The devices, in the order of their rows.

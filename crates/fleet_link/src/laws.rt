@@ -1,6 +1,7 @@
 //! What follows from the definitions, for their readers. The calls do nothing; their contracts are the laws.
-ghost use Rattle.std.specs.Prelude.{◌≡◌, ℕ, ◌<◌, Bool, List, Option, Some, None, true, [], slice_get, IfSome};
-ghost use Rattle.std.specs.List.{AllByRecursion};
+ghost use Rattle.std.specs.Prelude.{◌≡◌, ℕ, ◌+◌, ◌<◌, ◌++◌, Bool, List, Option, Some, None, false, true, [], slice_get};
+ghost use Rattle.std.specs.Prelude.{IfSome};
+ghost use Rattle.std.specs.List.{list_any, AllByRecursion};
 ghost use Rattle.device_machine.specs.State.{Machine};
 ghost use Rattle.live_link.specs.Live.{IsLiveStep};
 ghost use Rattle.fleet_core.specs.Run.{IsComplete, IsSerial};
@@ -11,7 +12,9 @@ ghost use Rattle.trace_file.specs.declared.entry.Entry.{Entry};
 ghost use Rattle.fleet_link.specs.declared.slot.Slot.{Slot};
 ghost use Rattle.fleet_link.specs.Traffic.{Traffic};
 ghost use Rattle.fleet_link.specs.Saved.{IsPlayedBack, IsSaved};
-ghost use Rattle.fleet_link.specs.Playing.{changes_by, played_steps, second_by, IsFleetStep};
+ghost use Rattle.fleet_link.specs.declared.row.PlayedRow.{PlayedRow};
+ghost use Rattle.fleet_link.specs.Playing.{changes_by, happened_of, is_need, passes_of, played_steps, second_by};
+ghost use Rattle.fleet_link.specs.Playing.{IsFleetStep, IsUnderWay};
 ghost use Rattle.fleet_link.specs.Serving.{IsFleet};
 
 /// The scenario of a session plays back: in its serial run, and in every other complete run, each device whose steps
@@ -46,4 +49,15 @@ pub fn unchanged_steps_are_live()
 pub fn played_steps_keep_changes()
     ensures { (second : ℕ) (steps : List Step) → changes_by second (played_steps true steps)
         ≡ changes_by second steps }
+{}
+
+/// A row without needs does the same in each pass, and the passes of a repeated one follow each other: its changes are
+/// those of the first pass, each at its second, and then those of the next one, from the second at which the first one
+/// ended.
+pub fn passes_repeat()
+    ensures happened { (own : List Step) (row : PlayedRow) (u : IsUnderWay own row) → list_any is_need own ≡ false
+        → happened_of row ≡ passes_of u.turns row.place own }
+    ensures follow { (second turns place : ℕ) (own : List Step)
+        → changes_by second (passes_of (turns + 1) place own)
+        ≡ changes_by second own ++ changes_by (second_by second own) (passes_of turns place own) }
 {}

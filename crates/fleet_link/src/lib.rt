@@ -12,6 +12,7 @@ mod ports;
 mod recording;
 mod row;
 mod saving;
+mod seen;
 mod sending;
 mod serving;
 mod slot;
@@ -22,7 +23,8 @@ pub use directory::FixedServer;
 pub use fault::FleetFault;
 pub use fleet::Fleet;
 pub use laws::{
-    clocks_show_seconds, played_steps_keep_changes, saved_rows_play_back, unchanged_steps_are_live,
+    clocks_show_seconds, passes_repeat, played_steps_keep_changes, saved_rows_play_back,
+    unchanged_steps_are_live,
 };
 pub use memory::{ScriptedPorts, Sending};
 pub use ports::{Arrival, Ports, PortsFault, Receipt};

@@ -1,6 +1,7 @@
 //! The row of a device, which happens as seconds pass.
 ghost use Rattle.std.specs.Prelude.{◌≡◌, ◌+◌, ◌-◌, ◌<◌, ◌≤◌, ◌∷◌, ◌++◌, [], ℕ, List, Option, Some, None, filter, length};
-ghost use Rattle.std.specs.Prelude.{◌^◌, ◌&&◌, ◌⊎◌, slice_get, slice_set, nat_le, take, if◌then◌else◌, IfOk, IfSome, MatchOption, OnOk};
+ghost use Rattle.std.specs.Prelude.{◌^◌, ◌⊎◌, slice_get, take, min, if◌then◌else◌, IfOk, IfSome, MatchOption, OnOk};
+ghost use Rattle.std.specs.List.{list_any};
 ghost use Rattle.device_template.specs.Template.{Template};
 ghost use Rattle.scenario_image.specs.declared.step.Step.{Step};
 ghost use Rattle.scenario_image.specs.Play.{IsRowOf};
@@ -8,10 +9,11 @@ ghost use Rattle.device_machine.specs.declared.event.Event.TheVariants as events
 ghost use Rattle.fleet_core.specs.Run.{posts_to};
 ghost use Rattle.scenario_image.specs.declared.step.Step.TheVariants.{Event as event_step};
 ghost use Rattle.fleet_link.specs.declared.row.RowState.TheVariants as states;
-ghost use Rattle.fleet_link.specs.Playing.{change_at, change_in, changes_of, is_own, played_steps, row_state};
-ghost use Rattle.fleet_link.specs.Playing.{posts_in, second_after, second_of_row, state_of, IsLaterThan, IsOnTime};
-ghost use Rattle.fleet_link.specs.Playing.{IsPassed};
+ghost use Rattle.fleet_link.specs.Playing.{change_at, change_in, changes_of, ends_pass, happened_of, is_own, takes_time};
+ghost use Rattle.fleet_link.specs.Playing.{played_steps, posts_among, posts_made, row_state, second_after, second_of_row};
+ghost use Rattle.fleet_link.specs.Playing.{IsAdvanced, IsLaterThan, IsOnTime, IsPassed};
 
+use crate::seen::SeenSteps;
 use device_machine::Event;
 use scenario_image::{Scenario, Step};
 use std::alloc::{AllocError, Global};
@@ -33,13 +35,18 @@ pub enum RowState {
 /// The steps of a device's row, which happen as seconds pass.
 #[derive(Drop)]
 pub struct PlayedRow {
-    /// The steps but for datagrams; none where rows are not played. A need that was passed is the seconds for which it
-    /// held the row up.
+    /// The steps but for datagrams; none where rows are not played.
     steps: Vec<Step>,
-    /// How many of them have happened.
+    /// Whether they are to begin anew when all of them have happened.
+    repeated: bool,
+    /// How often all of them have happened.
+    passes: u64,
+    /// How many of them have happened since.
     place: usize,
     /// The second of the session at which the next one is due; none where that is past 2^64 - 1.
     second: Option<u64>,
+    /// What has happened, pass after pass. A need that was passed is the seconds for which it held the row up.
+    happened: SeenSteps,
 }
 
 /// Adds a step.
@@ -109,45 +116,59 @@ fn seconds_of(step: &Step) -> u32
     }
 }
 
-/// Whether this second has come.
-fn has_come(second: Option<u64>, until: u64) -> bool
-    ensures { (n : ℕ) → MatchOption second (2 ^ 64 ≤ n) (λ due. due ≡ n) → result ≡ nat_le n until }
+/// Whether a second passes in the step, or more.
+fn takes_time(step: &Step) -> bool
+    ensures { result ≡ takes_time step.now }
 {
-    match second {
-        None => false,
-        Some(second) => second <= until,
+    match step {
+        Step::Event(Event::Tick(seconds)) => *seconds >= 1,
+        Step::Event(Event::Recv { .. } | Event::Put { .. } | Event::Firmware(_))
+        | Step::Post(_)
+        | Step::Need(_, _) => false,
     }
 }
 
-/// 1 where the step is a post to this group, and its second has come.
-fn post_of(step: &Step, group: u8, second: Option<u64>, until: u64) -> u64
-    ensures one { (n : ℕ) → MatchOption second (2 ^ 64 ≤ n) (λ due. due ≡ n)
-        → result ≡ (if posts_to group step.now && nat_le n until then 1 else 0) }
-    ensures few { result ≤ 1 }
+/// Whether seconds pass in one of the steps.
+fn has_tick(steps: &[Step]) -> bool
+    ensures { result ≡ list_any takes_time steps.now }
+{
+    steps.iter().any(|step| takes_time(step))
+}
+
+/// Whether the step is a post to this group.
+fn is_post(step: &Step, group: u8) -> bool
+    ensures { result ≡ posts_to group step.now }
 {
     match step {
-        Step::Event(_) | Step::Need(_, _) => 0,
-        Step::Post(other) => {
-            if *other == group && has_come(second, until) {
-                1
-            } else {
-                0
-            }
-        }
+        Step::Post(other) => *other == group,
+        Step::Event(_) | Step::Need(_, _) => false,
     }
+}
+
+/// How many posts to this group there are among steps.
+fn count_posts(steps: &[Step], group: u8) -> u64
+    ensures { result ≡ posts_among group steps.now }
+{
+    steps.iter().filter(|step| is_post(step, group)).count() as u64
 }
 
 impl PlayedRow {
-    /// These steps, before the first of them.
-    pub(crate) fn new(steps: Vec<Step>) -> PlayedRow
+    /// These steps, before the first of them; they are to be repeated, or are not.
+    pub(crate) fn new(steps: Vec<Step>, repeated: bool) -> PlayedRow
         ensures steps { result.steps ≡ steps }
+        ensures repeated { result.repeated ≡ repeated }
+        ensures passes { result.passes ≡ 0 }
         ensures place { result.place ≡ 0 }
         ensures second { result.second ≡ Some 0 }
+        ensures happened { happened_of result ≡ [] }
     {
         PlayedRow {
             steps,
+            repeated,
+            passes: 0,
             place: 0,
             second: Some(0),
+            happened: SeenSteps::Begun,
         }
     }
 
@@ -157,18 +178,22 @@ impl PlayedRow {
         scenario: &Scenario,
         device: u16,
         played: bool,
+        repeated: bool,
     ) -> Result<PlayedRow, AllocError>
         ensures steps { (class : Template) (steps : List Step) → IsRowOf scenario.now device class steps
             → IfOk result (λ row. row.steps.items ≡ played_steps played steps) }
+        ensures repeated { IfOk result (λ row. row.repeated ≡ repeated) }
+        ensures passes { IfOk result (λ row. row.passes ≡ 0) }
         ensures place { IfOk result (λ row. row.place ≡ 0) }
         ensures second { IfOk result (λ row. row.second ≡ Some 0) }
+        ensures happened { IfOk result (λ row. happened_of row ≡ []) }
     {
         if !played {
-            return Ok(PlayedRow::new(Vec::new(alloc)));
+            return Ok(PlayedRow::new(Vec::new(alloc), repeated));
         }
         match scenario.row(device) {
-            None => Ok(PlayedRow::new(Vec::new(alloc))),
-            Some((_, steps)) => Ok(PlayedRow::new(own_steps(alloc, steps)?)),
+            None => Ok(PlayedRow::new(Vec::new(alloc), repeated)),
+            Some((_, steps)) => Ok(PlayedRow::new(own_steps(alloc, steps)?, repeated)),
         }
     }
 
@@ -231,33 +256,57 @@ impl PlayedRow {
         seconds_of(&self.steps[self.place])
     }
 
+    /// Whether its next step is the last of a pass, after which its steps begin anew.
+    fn ends_pass(&self) -> bool
+        requires { self.now.place < length self.now.steps.items }
+        ensures { result ≡ ends_pass self.now }
+    {
+        if self.place + 1 < self.steps.len() {
+            return false;
+        }
+        self.repeated && has_tick(self.steps.as_slice())
+    }
+
+    /// Goes to the step after its next one.
+    fn go_on(&mut self)
+        requires { self.old.place < length self.old.steps.items }
+        ensures steps { self.new.steps ≡ self.old.steps }
+        ensures repeated { self.new.repeated ≡ self.old.repeated }
+        ensures place { self.new.place ≡ (if ends_pass self.old then 0 else self.old.place + 1) }
+        ensures passes { self.new.passes
+            ≡ (if ends_pass self.old then min (self.old.passes + 1) (2 ^ 64 - 1) else self.old.passes) }
+        ensures second { self.new.second ≡ self.old.second }
+        ensures happened { self.new.happened ≡ self.old.happened }
+    {
+        if !self.ends_pass() {
+            self.place += 1;
+            return;
+        }
+        self.place = 0;
+        self.passes = self.passes.saturating_add(1);
+    }
+
     /// Notes that its next step has happened.
     pub(crate) fn advance(&mut self)
         requires { self.old.place < length self.old.steps.items }
-        ensures steps { self.new.steps ≡ self.old.steps }
-        ensures place { self.new.place ≡ self.old.place + 1 }
-        ensures changes { (step : Step) → slice_get self.old.steps.items self.old.place ≡ Some step
-            → changes_of self.new
-            ≡ changes_of self.old ++ change_at (second_of_row self.old) (change_in step) }
-        ensures on_time { (second due : ℕ) → row_state self.old ≡ states.Due due → IsOnTime self.old second
-            → IsOnTime self.new second }
+        ensures { (step : Step) → slice_get self.old.steps.items self.old.place ≡ Some step
+            → IsAdvanced step self.old self.new }
     {
+        let place = self.place;
         let seconds = self.next_seconds();
+        self.go_on();
         self.second = later(self.second, seconds);
-        self.place += 1;
+        self.happened = self.happened.with(&self.steps[place]);
     }
 
-    /// How many posts to this group it has made, up to this second.
-    pub(crate) fn posts(&self, group: u8, until: u64) -> u64
-        ensures { result ≡ posts_in self.now group until }
+    /// How many posts to this group it has made: in its whole passes, and in the one that is under way.
+    pub(crate) fn posts(&self, group: u8) -> u64
+        ensures { result ≡ min (posts_made self.now group) (2 ^ 64 - 1) }
     {
-        let mut posts = 0u64;
-        let mut second = Some(0u64);
-        for step in first_of(self.steps.as_slice(), self.place) {
-            posts += post_of(step, group, second, until);
-            second = later(second, seconds_of(step));
-        }
-        posts
+        let steps = self.steps.as_slice();
+        let all = count_posts(steps, group);
+        let first = count_posts(first_of(steps, self.place), group);
+        self.passes.saturating_mul(all).saturating_add(first)
     }
 
     /// Passes the need that is its next step, at this second, if it is one to this group, and so many posts to it
@@ -291,17 +340,15 @@ impl PlayedRow {
     /// Notes that its next step has held it up from one second to another.
     fn pass(&mut self, second: u64, now: u64)
         requires within { self.old.place < length self.old.steps.items }
+        requires second { self.old.second ≡ Some second }
         requires order { second ≤ now }
         requires few { now < second + 2 ^ 32 }
-        ensures steps { self.new.steps.items
-            ≡ slice_set self.old.steps.items self.old.place (event_step (events.Tick (now - second))) }
-        ensures place { self.new.place ≡ self.old.place + 1 }
+        ensures advanced { IsAdvanced (event_step (events.Tick (now - second))) self.old self.new }
         ensures second { self.new.second ≡ Some now }
     {
-        let seconds = (now - second) as u32;
-        let place = self.place;
-        self.steps[place] = Step::Event(Event::Tick(seconds));
-        self.place = place + 1;
+        let held = Step::Event(Event::Tick((now - second) as u32));
+        self.go_on();
         self.second = Some(now);
+        self.happened = self.happened.with(&held);
     }
 }

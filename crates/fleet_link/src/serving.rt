@@ -8,8 +8,8 @@ ghost use Rattle.scenario_image.specs.Scenario.{Scenario};
 ghost use Rattle.fleet_link.specs.Traffic.{Traffic, Carries, at_port, failed_once, handed_at, traffic_of_receipt};
 ghost use Rattle.fleet_link.specs.Timing.{AreAsked};
 ghost use Rattle.fleet_link.specs.declared.slot.Slot.{Slot};
-ghost use Rattle.fleet_link.specs.Playing.{is_waiting, is_waiting_for, row_state, CanPass};
-ghost use Rattle.fleet_link.specs.Serving.{place_in, posts_of, AreAt, ArePassed, AreSwept, HaveGoneOn, IsFleet};
+ghost use Rattle.fleet_link.specs.Playing.{happened_count, is_waiting, is_waiting_for, row_state, CanPass};
+ghost use Rattle.fleet_link.specs.Serving.{all_posts, place_in, AreAt, ArePassed, AreSwept, HaveGoneOn, IsFleet};
 
 use crate::fault::FleetFault;
 use crate::fleet::Fleet;
@@ -36,13 +36,13 @@ fn wait_of(slices: usize) -> u32 {
     (MILLIS / slices).min(LONGEST_WAIT) as u32
 }
 
-/// How many posts to this group the rows of all devices have made, up to this second.
-fn posts_of(slots: &[Slot], group: u8, until: u64) -> u64
-    ensures { result ≡ min (posts_of slots.now group until) (2 ^ 64 - 1) }
+/// How many posts to this group the rows of all devices have made.
+fn all_posts(slots: &[Slot], group: u8) -> u64
+    ensures { result ≡ min (all_posts slots.now group) (2 ^ 64 - 1) }
 {
     let mut posts = 0u64;
     for slot in slots {
-        posts = posts.saturating_add(slot.posts(group, until));
+        posts = posts.saturating_add(slot.posts(group));
     }
     posts
 }
@@ -68,13 +68,13 @@ impl Fleet {
             → IsFleet s played before self.old.slots.items self.old.second false told
             → IsFleet s played before self.new.slots.items self.new.second false told }
         ensures passed { (e : ℕ) (slot : Slot) → slice_get self.old.slots.items e ≡ Some slot → slot.end ≡ None
-            → CanPass group (posts_of self.old.slots.items group self.old.second) self.old.second slot.row
-            → slot.row.place < place_in (slice_get self.new.slots.items e) }
+            → CanPass group (all_posts self.old.slots.items group) self.old.second slot.row
+            → happened_count slot.row < place_in (slice_get self.new.slots.items e) }
         ensures same { (e : ℕ) (slot : Slot) → slice_get self.old.slots.items e ≡ Some slot
             → (slice_get self.new.slots.items e ≡ Some slot)
-            ⊎ (slot.row.place < place_in (slice_get self.new.slots.items e)) }
-        ensures posts { (other until : ℕ) → posts_of self.old.slots.items other until
-            ≤ posts_of self.new.slots.items other until }
+            ⊎ (happened_count slot.row < place_in (slice_get self.new.slots.items e)) }
+        ensures posts { (other : ℕ) → min (all_posts self.old.slots.items other) (2 ^ 64 - 1)
+            ≤ min (all_posts self.new.slots.items other) (2 ^ 64 - 1) }
         ensures second { self.new.second ≡ self.old.second }
         ensures began { self.new.began ≡ self.old.began }
         ensures went { HaveGoneOn self.old.slots.items self.new.slots.items }
@@ -84,7 +84,7 @@ impl Fleet {
         if !is_awaited(self.slots.as_slice(), group) {
             return;
         }
-        let posts = posts_of(self.slots.as_slice(), group, now);
+        let posts = all_posts(self.slots.as_slice(), group);
         for place in 0..self.slots.len() {
             self.slots[place].pass_need(group, posts, now);
         }

@@ -1,15 +1,16 @@
 //! One device of a fleet: its second, its steps.
 ghost use Rattle.std.specs.Prelude.{◌≡◌, ◌≢◌, ◌⊎◌, ◌+◌, ◌^◌, ◌≤◌, ◌<◌, ◌∷◌, ◌++◌, [], ℕ, List, Option, Some, None, Err};
-ghost use Rattle.std.specs.Prelude.{IfErr, IfOk, OnErr, OnOk, IsTrue, false, true, is_err, length, vec_capacity};
-ghost use Rattle.std.specs.Prelude.{vec_len};
+ghost use Rattle.std.specs.Prelude.{IfErr, IfOk, OnErr, OnOk, IsTrue, false, true, is_err, length, min, slice_get};
+ghost use Rattle.std.specs.Prelude.{◌-◌, vec_capacity, vec_len};
 ghost use Rattle.device_machine.specs.State.{Machine, Shows};
 ghost use Rattle.device_machine.specs.Reactions.{flat_after, is_refused, outputs_of};
 ghost use Rattle.device_template.specs.Template.{Template};
 ghost use Rattle.live_link.specs.Wire.{AreRead};
 ghost use Rattle.scenario_image.specs.declared.step.Step.{Step};
 ghost use Rattle.scenario_image.specs.declared.step.Step.TheVariants.{Event as event_step};
-ghost use Rattle.fleet_link.specs.Playing.{change_at, change_in, changes_of, posts_in, row_state, second_after};
-ghost use Rattle.fleet_link.specs.Playing.{is_waiting, is_waiting_for, Change, GoesOn, IsFleetStep, IsLaterThan, IsOnTime, IsPassed};
+ghost use Rattle.fleet_link.specs.Playing.{change_at, change_in, changes_of, posts_made, row_state, second_after};
+ghost use Rattle.fleet_link.specs.Playing.{is_waiting, is_waiting_for, Change, GoesOn, IsAdvanced, IsFleetStep};
+ghost use Rattle.fleet_link.specs.Playing.{IsLaterThan, IsOnTime, IsPassed};
 ghost use Rattle.fleet_link.specs.Recorded.{HasRoom};
 ghost use Rattle.fleet_link.specs.Traffic.{Carries, Heard, Traffic, failed_once, handed_at, no_traffic};
 ghost use Rattle.fleet_link.specs.Serving.{heard_at, IsDue, IsServed, IsServing, IsSweptAt};
@@ -311,9 +312,9 @@ impl Slot {
         ensures fixed { P.fixed ports.new ≡ P.fixed ports.old }
         ensures asked { AreRead (P.asked ports.old) (P.asked ports.new) [] }
         ensures most { (most : ℕ) → self.old.second ≤ most → due ≤ most → self.new.second ≤ most }
-        ensures steps { self.new.row.steps ≡ self.old.row.steps }
-        ensures goes_on { GoesOn self.old.row self.new.row }
-        ensures next { OnOk result (self.new.row.place ≡ self.old.row.place + 1) }
+        ensures goes_on { GoesOn due self.old.row self.new.row }
+        ensures next { OnOk result ((step : Step) → slice_get self.old.row.steps.items self.old.row.place ≡ Some step
+            → IsAdvanced step self.old.row self.new.row) }
         ensures end { self.new.end ≡ self.old.end }
     {
         let Some(event) = self.row.next_change()? else {
@@ -344,8 +345,7 @@ impl Slot {
         ensures asked { AreRead (P.asked ports.old) (P.asked ports.new) [] }
         ensures second { self.old.second ≤ now → OnOk result (self.new.second ≡ now) }
         ensures most { (most : ℕ) → self.old.second ≤ most → now ≤ most → self.new.second ≤ most }
-        ensures steps { self.new.row.steps ≡ self.old.row.steps }
-        ensures goes_on { GoesOn self.old.row self.new.row }
+        ensures goes_on { GoesOn now self.old.row self.new.row }
         ensures later { OnOk result (IsLaterThan now (row_state self.new.row)) }
         ensures end { self.new.end ≡ self.old.end }
     {
@@ -383,8 +383,7 @@ impl Slot {
         ensures asked { AreRead (P.asked ports.old) (P.asked ports.new) [] }
         ensures second { self.old.second ≤ now → OnOk result (self.new.second ≡ now) }
         ensures most { (most : ℕ) → self.old.second ≤ most → now ≤ most → self.new.second ≤ most }
-        ensures steps { self.new.row.steps ≡ self.old.row.steps }
-        ensures goes_on { GoesOn self.old.row self.new.row }
+        ensures goes_on { GoesOn now self.old.row self.new.row }
         ensures later { OnOk result (IsLaterThan now (row_state self.new.row)) }
         ensures end { self.new.end ≡ self.old.end }
     {
@@ -444,7 +443,7 @@ impl Slot {
         ensures asked { AreRead (P.asked ports.old) (P.asked ports.new) [] }
         ensures second { self.old.second ≤ now → self.new.end ≡ None → self.new.second ≡ now }
         ensures later { self.new.end ≡ None → IsLaterThan now (row_state self.new.row) }
-        ensures goes_on { GoesOn self.old.row self.new.row }
+        ensures goes_on { GoesOn now self.old.row self.new.row }
         ensures most { (most : ℕ) → self.old.second ≤ most → now ≤ most → self.new.second ≤ most }
     {
         match self.end {
@@ -473,7 +472,7 @@ impl Slot {
         ensures second { self.old.second ≤ now → self.new.end ≡ None → self.new.second ≡ now }
         ensures later { self.new.end ≡ None → IsLaterThan now (row_state self.new.row) }
         ensures over { self.old.end ≢ None → self.new ≡ self.old }
-        ensures goes_on { GoesOn self.old.row self.new.row }
+        ensures goes_on { GoesOn now self.old.row self.new.row }
         ensures most { (most : ℕ) → self.old.second ≤ most → now ≤ most → self.new.second ≤ most }
     {
         match self.end {
@@ -515,7 +514,7 @@ impl Slot {
         ensures share { self.new.recording.share ≡ self.old.recording.share }
         ensures fixed { P.fixed ports.new ≡ P.fixed ports.old }
         ensures asked { AreRead (P.asked ports.old) (P.asked ports.new) [] }
-        ensures goes_on { GoesOn self.old.row self.new.row }
+        ensures goes_on { GoesOn now self.old.row self.new.row }
         ensures most { (most : ℕ) → self.old.second ≤ most → now ≤ most → self.new.second ≤ most }
         ensures swept { (class : Template) (row : List Step) (before : Option Traffic)
             → IsServed class row before self.old false (P.told ports.old place)
@@ -563,11 +562,11 @@ impl Slot {
         }
     }
 
-    /// How many posts to this group its row has made, up to this second.
-    pub(crate) fn posts(&self, group: u8, until: u64) -> u64
-        ensures { result ≡ posts_in self.now.row group until }
+    /// How many posts to this group its row has made.
+    pub(crate) fn posts(&self, group: u8) -> u64
+        ensures { result ≡ min (posts_made self.now.row group) (2 ^ 64 - 1) }
     {
-        self.row.posts(group, until)
+        self.row.posts(group)
     }
 
     /// Passes the need at which its row waits, if it is one to this group, and so many posts to it stand.

@@ -2,6 +2,7 @@ use Rattle.std.proofs.Common.{◌≡◌, ◌≤◌, ◌<◌, length, true, false
 use Rattle.std.proofs.Math.ListN.{length-set}
 use Rattle.fleet_link.proofs.Fleets.{breaks, errs, next_at, next_served, read_at, stand_at}
 use Rattle.fleet_link.proofs.Gone.{gone_both, gone_same, gone_set}
+use Rattle.fleet_link.proofs.Stepped.{goes_later}
 use Rattle.fleet_link.proofs.Told.{read_none, still_none}
 use Rattle.fleet_link.proofs.fleet.Fleet.finish.Goals as goal
 
@@ -42,7 +43,8 @@ loop-place-preserved g c =
           ∙ omega (arith, at.invariant.second))
           (at.invariant.finished s played before h);
       went = gone_both c.args.self.now.slots.items slots.items _ at.invariant.went
-          (gone_set slots.items at.place c.index_mut.result.now c.reach.new.self got c.reach.ensures.goes_on.later
+          (gone_set slots.items at.place c.index_mut.result.now c.reach.new.self got
+          (goes_later _ _ _ c.reach.ensures.goes_on) c.reach.ensures.goes_on.repeated
           c.reach.ensures.share);
       fixed = c.reach.ensures.fixed ∙ at.invariant.fixed;
       asked = still_none _ _ _ at.invariant.asked c.reach.ensures.asked;
@@ -80,5 +82,6 @@ returns-in_err-reach-clause-went g c =
     omega (arith, at.invariant.count, c.len-place-end.ensures, c.args.self.now.slots.ok.0) in
     let got = read_at slots.items at.place c.index_mut.result.now within c.index_mut.ensures.value in
     gone_both c.args.self.now.slots.items slots.items _ at.invariant.went
-    (gone_set slots.items at.place c.index_mut.result.now c.reach.new.self got c.reach.ensures.goes_on.later
+    (gone_set slots.items at.place c.index_mut.result.now c.reach.new.self got
+    (goes_later _ _ _ c.reach.ensures.goes_on) c.reach.ensures.goes_on.repeated
     c.reach.ensures.share)

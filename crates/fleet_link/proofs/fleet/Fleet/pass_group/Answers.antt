@@ -4,20 +4,23 @@ use Rattle.std.proofs.Math.ListN.{length-set}
 use Rattle.std.specs.List.{list_any}
 use Rattle.fleet_link.specs.declared.slot.Slot.{Slot}
 use Rattle.fleet_link.specs.Playing.{is_waiting_for, row_state}
-use Rattle.fleet_link.specs.Serving.{posts_of}
-use Rattle.fleet_link.proofs.Fleets.{passed_at, read_at, stand_still}
+use Rattle.fleet_link.specs.Serving.{all_posts}
+use Rattle.fleet_link.proofs.Fleets.{all_stand, passed_at, read_at, stand_still}
 use Rattle.fleet_link.proofs.Gone.{gone_same, none_can_for, none_tried, one_tried}
 use Rattle.fleet_link.proofs.fleet.Fleet.pass_group.Goals as goal
 
 pub loop-place-init : goal.loop-place-init
 loop-place-init c = record {
   fleet = λ s played before told h. h;
-  stand = omega (
-    arith,
-    c.posts_of-posts.ensures,
-    ap (λ l. posts_of l c.args.group c.args.self.now.second) c.as_slice-2.ensures.value,
-  );
-  tried = none_tried c.args.group c.posts_of-posts.result c.args.self.now.second c.args.self.now.slots.items;
+  stand = λ s played before told h.
+      let stand = all_stand s played before told c.args.self.now.slots.items c.args.self.now.second c.args.group h in
+      omega (
+        arith,
+        c.all_posts-posts.ensures,
+        ap (λ l. all_posts l c.args.group) c.as_slice-2.ensures.value,
+        stand,
+      );
+  tried = none_tried c.args.group c.all_posts-posts.result c.args.self.now.second c.args.self.now.slots.items;
   second = refl;
   began = refl;
   count = refl;
@@ -35,12 +38,14 @@ loop-place-preserved c =
       fleet = λ s played before told h.
           let so = at.invariant.fleet s played before told h in
           passed_at s played before told slots.items at.self.second c.args.self.now.second at.place c.args.group
-          c.posts_of-posts.result c.index_mut.result.now c.pass_need.new.self now so got c.pass_need.ensures.served
-          c.pass_need.ensures.passed c.pass_need.ensures.second at.invariant.stand;
-      stand = (let grown = stand_still slots.items at.place c.args.group c.posts_of-posts.result
+          c.all_posts-posts.result c.index_mut.result.now c.pass_need.new.self now so got c.pass_need.ensures.served
+          c.pass_need.ensures.passed c.pass_need.ensures.second (at.invariant.stand s played before told h);
+      stand = λ s played before told h.
+          (let grown = stand_still slots.items at.place c.args.group c.all_posts-posts.result
           c.args.self.now.second c.args.group c.args.self.now.second c.index_mut.result.now c.pass_need.new.self got
-          c.pass_need.ensures.passed in omega (arith, at.invariant.stand, grown));
-      tried = one_tried c.args.group c.posts_of-posts.result c.args.self.now.second c.args.self.now.slots.items
+          c.pass_need.ensures.passed in
+          let so = at.invariant.stand s played before told h in omega (arith, so, grown));
+      tried = one_tried c.args.group c.all_posts-posts.result c.args.self.now.second c.args.self.now.slots.items
           slots.items at.place c.index_mut.result.now c.pass_need.new.self at.invariant.tried got (record {
             passed = c.pass_need.ensures.passed;
             kept = c.pass_need.ensures.kept;
@@ -62,7 +67,7 @@ pub returns-then-not-is_awaited-clause-same : goal.returns-then-not-is_awaited-c
 returns-then-not-is_awaited-clause-same c = λ e slot got. inl got
 
 pub returns-then-not-is_awaited-clause-posts : goal.returns-then-not-is_awaited-clause-posts
-returns-then-not-is_awaited-clause-posts c = λ other until. omega arith
+returns-then-not-is_awaited-clause-posts c = λ other. omega arith
 
 pub returns-then-not-is_awaited-clause-went : goal.returns-then-not-is_awaited-clause-went
 returns-then-not-is_awaited-clause-went c = gone_same c.args.self.now.slots.items
@@ -80,9 +85,9 @@ returns-clause-passed c =
       c.len-place-end.ensures,
       c.args.self.now.slots.ok.0,
     ) in
-    c.loop-place.invariant.tried.passed e slot within got on (posts_of first c.args.group now)
-    (c.posts_of-posts.ensures
-    ∙ ap (λ l. min (posts_of l c.args.group now) (2 ^ 64 - 1)) c.as_slice-2.ensures.value) can
+    c.loop-place.invariant.tried.passed e slot within got on (all_posts first c.args.group)
+    (c.all_posts-posts.ensures
+    ∙ ap (λ l. min (all_posts l c.args.group) (2 ^ 64 - 1)) c.as_slice-2.ensures.value) can
 
 pub returns-clause-same : goal.returns-clause-same
 returns-clause-same c = c.loop-place.invariant.tried.same

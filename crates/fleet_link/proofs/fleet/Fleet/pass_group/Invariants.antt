@@ -11,7 +11,9 @@ invariant-loop-place l = record {
   fleet : (s : Scenario) (played : Bool) (before told : ℕ → Option Traffic)
       → IsFleet s played before l.fn.self.slots.items l.fn.self.second false told
       → IsFleet s played before l.self.slots.items l.self.second false told;
-  stand : l.posts ≤ posts_of l.self.slots.items l.group l.now;
+  stand : (s : Scenario) (played : Bool) (before told : ℕ → Option Traffic)
+      → IsFleet s played before l.fn.self.slots.items l.fn.self.second false told
+      → l.posts ≤ posts_of l.self.slots.items l.group l.now;
   tried : AreTried l.group l.posts l.now l.fn.self.slots.items l.self.slots.items l.place;
   second : l.self.second ≡ l.fn.self.second;
   began : l.self.began ≡ l.fn.self.began;

@@ -2,6 +2,7 @@ use Rattle.std.proofs.Common.{◌≡◌, ◌≤◌, ◌<◌, length, true, false
 use Rattle.std.proofs.Math.ListN.{length-set}
 use Rattle.fleet_link.proofs.Fleets.{breaks, errs, next_served, next_swept, read_at, swept_at}
 use Rattle.fleet_link.proofs.Gone.{gone_both, gone_same, gone_set}
+use Rattle.fleet_link.proofs.Stepped.{goes_later}
 use Rattle.fleet_link.proofs.Told.{read_none, still_none}
 use Rattle.fleet_link.proofs.fleet.Fleet.sweep.Goals as goal
 
@@ -38,7 +39,8 @@ loop-place-preserved g c =
           c.index_mut.result.now c.sweep.new.self (at.invariant.fleet s played before le h) got c.sweep.ensures.swept
           (at.invariant.swept s played before le h k);
       went = gone_both c.args.self.now.slots.items slots.items _ at.invariant.went
-          (gone_set slots.items at.place c.index_mut.result.now c.sweep.new.self got c.sweep.ensures.goes_on.later
+          (gone_set slots.items at.place c.index_mut.result.now c.sweep.new.self got
+          (goes_later _ _ _ c.sweep.ensures.goes_on) c.sweep.ensures.goes_on.repeated
           c.sweep.ensures.share);
       fixed = c.sweep.ensures.fixed ∙ at.invariant.fixed;
       asked = still_none _ _ _ at.invariant.asked c.sweep.ensures.asked;
@@ -73,5 +75,6 @@ returns-in_err-sweep-clause-went g c =
     let within : at.place < length slots.items = omega (arith, at.invariant.count, c.requires) in
     let got = read_at slots.items at.place c.index_mut.result.now within c.index_mut.ensures.value in
     gone_both c.args.self.now.slots.items slots.items _ at.invariant.went
-    (gone_set slots.items at.place c.index_mut.result.now c.sweep.new.self got c.sweep.ensures.goes_on.later
+    (gone_set slots.items at.place c.index_mut.result.now c.sweep.new.self got
+    (goes_later _ _ _ c.sweep.ensures.goes_on) c.sweep.ensures.goes_on.repeated
     c.sweep.ensures.share)

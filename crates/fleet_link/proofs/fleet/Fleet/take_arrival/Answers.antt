@@ -3,6 +3,7 @@ use Rattle.std.specs.Result.{is_err}
 use Rattle.fleet_link.specs.Traffic.{handed_at}
 use Rattle.fleet_link.proofs.Fleets.{beyond, gone_due, gone_on, read_at}
 use Rattle.fleet_link.proofs.Gone.{gone_same, gone_set}
+use Rattle.fleet_link.proofs.Stepped.{goes_later}
 use Rattle.fleet_link.proofs.fleet.Fleet.take_arrival.Goals as goal
 
 pub returns-then-place-len-clause-fleet : goal.returns-then-place-len-clause-fleet
@@ -47,5 +48,6 @@ returns-clause-went g c =
     let place = c.args.arrival.device in
     let within : place < length slots.items = omega (arith, slots.ok.0, c.len.ensures) in
     gone_set slots.items place c.index_mut.result.now c.hear.new.self
-    (read_at slots.items place c.index_mut.result.now within c.index_mut.ensures.value) c.hear.ensures.goes_on.later
+    (read_at slots.items place c.index_mut.result.now within c.index_mut.ensures.value)
+    (goes_later _ _ _ c.hear.ensures.goes_on) c.hear.ensures.goes_on.repeated
     c.hear.ensures.share

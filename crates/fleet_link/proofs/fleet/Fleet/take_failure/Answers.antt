@@ -1,6 +1,7 @@
 use Rattle.std.proofs.Common.{◌<◌, ◌≤◌, ap, length, refl, arith, false}
 use Rattle.fleet_link.specs.Traffic.{failed_once}
 use Rattle.fleet_link.specs.declared.row.PlayedRow.{PlayedRow}
+use Rattle.fleet_link.specs.Playing.{happened_count}
 use Rattle.fleet_link.proofs.Fleets.{beyond, failed_at, read_at, swept_set}
 use Rattle.fleet_link.proofs.Gone.{gone_same, gone_set}
 use Rattle.fleet_link.proofs.fleet.Fleet.take_failure.Goals as goal
@@ -30,11 +31,11 @@ pub returns-then-device-len-clause-went : goal.returns-then-device-len-clause-we
 returns-then-device-len-clause-went c =
     let slots = c.args.self.now.slots in
     let within : c.args.device < length slots.items = omega (arith, slots.ok.0, c.len.ensures) in
-    let later : c.index_mut.result.now.row.place ≤ c.fail.new.self.row.place =
-    omega (arith, ap (λ (r : PlayedRow). r.place) c.fail.ensures.row) in
+    let later : happened_count c.index_mut.result.now.row ≤ happened_count c.fail.new.self.row =
+    omega (arith, ap happened_count c.fail.ensures.row) in
     gone_set slots.items c.args.device c.index_mut.result.now c.fail.new.self
     (read_at slots.items c.args.device c.index_mut.result.now within c.index_mut.ensures.value) later
-    c.fail.ensures.share
+    (ap (λ (r : PlayedRow). r.repeated) c.fail.ensures.row) c.fail.ensures.share
 
 pub returns-else-device-len-clause-went : goal.returns-else-device-len-clause-went
 returns-else-device-len-clause-went c = gone_same c.args.self.now.slots.items

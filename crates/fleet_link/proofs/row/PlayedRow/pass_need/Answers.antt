@@ -18,7 +18,6 @@ returns-clause-passed c =
       second = c.in-Some.second;
       second_is = c.in-Some.is;
       reached = omega arith;
-      steps = c.pass.ensures.steps;
-      place = c.pass.ensures.place;
+      advanced = c.pass.ensures.advanced;
       resumed = c.pass.ensures.second;
     })

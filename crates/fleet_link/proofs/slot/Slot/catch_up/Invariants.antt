@@ -1,10 +1,11 @@
 -- The device has been served so far, its row is on time, and nothing but its own traffic has gone through any port.
-use Rattle.std.proofs.Common.{◌≡◌, ◌-◌, ◌≤◌, ℕ, List, [], Option, None, length}
+use Rattle.std.proofs.Common.{◌≡◌, ◌≤◌, ℕ, List, [], Option, None}
 use Rattle.device_machine.specs.State.{Machine}
 use Rattle.live_link.specs.Wire.{AreRead}
 use Rattle.fleet_link.specs.Playing.{changes_of, GoesOn, IsOnTime}
 use Rattle.fleet_link.specs.Serving.{IsServing}
 use Rattle.fleet_link.specs.Traffic.{Carries, Heard, Traffic, no_traffic}
+use Rattle.fleet_link.proofs.Turning.{steps_left}
 use Rattle.fleet_link.proofs.slot.Slot.catch_up.Given as goal
 
 abbrev pub invariant-loop-due : goal.invariant-loop-due
@@ -21,10 +22,9 @@ invariant-loop-due g l = record {
   fixed : g.P.Ports.fixed l.ports ≡ g.P.Ports.fixed l.fn.ports;
   asked : AreRead (g.P.Ports.asked l.fn.ports) (g.P.Ports.asked l.ports) [];
   most : (most : ℕ) → l.fn.self.second ≤ most → l.now ≤ most → l.self.second ≤ most;
-  goes_on : GoesOn l.fn.self.row l.self.row;
-  steps : l.self.row.steps ≡ l.fn.self.row.steps;
+  goes_on : GoesOn l.now l.fn.self.row l.self.row;
   ended : l.self.end ≡ l.fn.self.end;
 }
 
 abbrev pub decreases-loop-due : goal.decreases-loop-due
-decreases-loop-due g l = length l.self.row.steps.items - l.self.row.place
+decreases-loop-due g l = steps_left l.now l.self.row

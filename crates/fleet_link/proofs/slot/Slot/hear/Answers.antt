@@ -18,7 +18,7 @@ returns-in-None-clause-served g c =
     (g.P.Ports.told stepped.new.ports c.args.place)
     (stepped.ensures.served (start class) before on time le) (stepped.ensures.on_time time)
     (stepped.ensures.refused (start class) before on time)
-    (still_under_way own c.args.self.now.row stepped.new.self.row h.row_is stepped.ensures.goes_on)
+    (still_under_way c.args.now own c.args.self.now.row stepped.new.self.row h.row_is stepped.ensures.goes_on)
     c.settle.ensures.device c.settle.ensures.second c.settle.ensures.row c.settle.ensures.recording c.settle.ensures.ok
     c.settle.ensures.ended c.settle.ensures.memory
 
@@ -36,8 +36,8 @@ returns-in-None-clause-later g c =
 
 pub returns-in-None-clause-goes_on : goal.returns-in-None-clause-goes_on
 returns-in-None-clause-goes_on g c =
-    goes_then c.args.self.now.row c.take_packet-taken.new.self.row c.settle.new.self.row
+    goes_then c.args.now c.args.self.now.row c.take_packet-taken.new.self.row c.settle.new.self.row
     c.take_packet-taken.ensures.goes_on c.settle.ensures.row
 
 pub returns-in-Some-clause-goes_on : goal.returns-in-Some-clause-goes_on
-returns-in-Some-clause-goes_on g c = goes_on_same c.args.self.now.row c.args.self.now.row refl
+returns-in-Some-clause-goes_on g c = goes_on_same c.args.now c.args.self.now.row c.args.self.now.row refl

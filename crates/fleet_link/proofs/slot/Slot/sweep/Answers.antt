@@ -14,4 +14,4 @@ returns-clause-swept g c =
     c.reach.ensures.second c.reach.ensures.later c.reach.ensures.over
 
 pub returns-then-not-is_due-clause-goes_on : goal.returns-then-not-is_due-clause-goes_on
-returns-then-not-is_due-clause-goes_on g c = goes_on_same c.args.self.now.row c.args.self.now.row refl
+returns-then-not-is_due-clause-goes_on g c = goes_on_same c.args.now c.args.self.now.row c.args.self.now.row refl

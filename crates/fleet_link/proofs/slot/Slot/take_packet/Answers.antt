@@ -19,5 +19,6 @@ returns-clause-served g c =
 
 pub returns-clause-goes_on : goal.returns-clause-goes_on
 returns-clause-goes_on g c =
-    goes_then c.args.self.now.row c.catch_up.new.self.row c.take_event.new.self.row c.catch_up.ensures.goes_on
+    goes_then c.args.now c.args.self.now.row c.catch_up.new.self.row c.take_event.new.self.row
+    c.catch_up.ensures.goes_on
     c.take_event.ensures.row
