@@ -1,6 +1,6 @@
 -- Devices on UDP: what their session came to, put together from its parts.
-use Rattle.std.proofs.Common.{ℕ, Bool, Bor, ◌==◌, ◌≡◌, ◌⊎◌, ◌≤◌, arith, List, [], ◌∷◌, length, map, Option, None, Some, inl, inr}
-use Rattle.std.proofs.Common.{IfErr, IfOk, Result, Ok, Err, option_map, false, true, refl, sym, subst, ap, ◌∙◌}
+use Rattle.std.proofs.Common.{ℕ, Bool, Bor, ◌==◌, ◌&&◌, ◌≡◌, ◌⊎◌, ◌≤◌, arith, List, [], ◌∷◌, length, map, Option, None, Some, inl}
+use Rattle.std.proofs.Common.{inr, IfErr, IfOk, Result, Ok, Err, option_map, false, true, refl, sym, subst, ap, ◌∙◌}
 use Rattle.std.specs.Io.KnownBytes.{Appends}
 use Rattle.std.specs.declared.net.socket_addr.SocketAddr.{SocketAddr}
 use Rattle.command_line.specs.declared.fleet_words.AskedFleet.{AskedFleet}
@@ -14,7 +14,7 @@ use Rattle.scenario_image.specs.Scenario.{Scenario}
 use Rattle.fleet_link.specs.declared.directory.FixedServer.{FixedServer}
 use Rattle.fleet_link.specs.declared.slot.Slot.{Slot}
 use Rattle.fleet_link.specs.Saved.{IsSaved}
-use Rattle.fleet_link.specs.Serving.{AreAt, IsFleet}
+use Rattle.fleet_link.specs.Serving.{AreAt, AreRepeated, IsFleet}
 use Rattle.fleet_link.specs.Timing.{AreAsked}
 use Rattle.fleet_link.proofs.Told.{read_none}
 use Rattle.fleet_link.specs.Traffic.{Traffic, no_traffic}
@@ -250,19 +250,21 @@ ended_so seconds quit second now rb ra ab aa first same (inr (inl h)) = inr (inl
 ended_so seconds quit second now rb ra ab aa first same (inr (inr h)) =
     inr (inr (subst IsEndless (sym same) (endless rb ra ab aa first second h)))
 
-pub served : (s : Scenario) (played : Bool) (seconds : Option ℕ) (quit : Bool) (wire : Option Wired)
+pub served : (s : Scenario) (played repeat : Bool) (seconds : Option ℕ) (quit : Bool) (wire : Option Wired)
     (session : Session) (before after : ℕ → Option Traffic)
     → IsFleet s played before session.slots session.second false after
     → AreAt session.slots (length session.slots) session.second
     → (has_passed seconds session.second ≡ true) ⊎ ((quit ≡ true) ⊎ IsEndless session.second)
     → ((e : ℕ) → before e ≡ Some no_traffic) → IsAccount wire after session.account
-    → IsServed s played seconds quit wire session
-served s played seconds quit wire session before after fleet finished ended new counted = record {
+    → AreRepeated session.slots (played && repeat)
+    → IsServed s played repeat seconds quit wire session
+served s played repeat seconds quit wire session before after fleet finished ended new counted repeated = record {
   before = before;
   new = new;
   after = after;
   counted = counted;
   fleet = fleet;
+  repeated = repeated;
   finished = finished;
   ended = ended;
 }
@@ -308,7 +310,7 @@ pub done_if : (before after : World) (asked : AskedFleet) (terminal : Bool) (par
     (r : Result Status Refusal)
     → IsReadyTold asked.json (length part.rows) place ports before.streams first
     → IsWireBy asked.wire (length part.rows) wire
-    → IsServed part asked.play asked.seconds quit wire session → telling ≡ telling_for asked terminal part
+    → IsServed part asked.play asked.repeat asked.seconds quit wire session → telling ≡ telling_for asked terminal part
     → AreTold telling session.second first last → after.streams.errors ≡ last.errors
     → IfOk r (IsConcluded (record { made = before.made; streams = without_errors last })
     (record { made = after.made; streams = without_errors after.streams }) asked part session)
@@ -345,7 +347,7 @@ pub lost_if : (files : FilesKnown) (streams : StreamFaults) (before after : Stre
     (terminal : Bool) (part : Scenario) (place : SocketAddr) (ports : List ℕ) (quit : Bool) (wire : Option Wired)
     (session : Session) (telling : Telling) (first last : Streams) (r : Result Status Refusal)
     → IsReadyTold asked.json (length part.rows) place ports before first → IsWireBy asked.wire (length part.rows) wire
-    → IsServed part asked.play asked.seconds quit wire session → telling ≡ telling_for asked terminal part
+    → IsServed part asked.play asked.repeat asked.seconds quit wire session → telling ≡ telling_for asked terminal part
     → AreTold telling session.second first last → after.errors ≡ last.errors
     → IfErr r (λ e. IsUnconcluded files streams (without_errors last) (without_errors after) asked session e.fault)
     → IfErr r (λ e. IsSessionFault files streams before after asked terminal part place ports quit e.fault)

@@ -1,8 +1,10 @@
--- Ports that let go of what was kept to count datagrams tell what they told.
-use Rattle.std.proofs.Common.{ℕ, ◌≡◌, ◌++◌, ◌∙◌, Bool, List, [], Option, Some, ap, append-nil, refl, subst, sym}
+-- Ports that let go of what was kept to count datagrams tell what they told; rows are repeated that were to be.
+use Rattle.std.proofs.Common.{ℕ, ◌≡◌, ◌<◌, ◌++◌, ◌∙◌, Bool, List, [], Option, Some, ap, append-nil, get_or, length, refl, slice_get}
+use Rattle.std.proofs.Common.{subst, sym}
+use Rattle.std.proofs.lemmas.Option.{slice_get-get_or, slice_get_within}
 use Rattle.scenario_image.specs.Scenario.{Scenario}
 use Rattle.fleet_link.specs.declared.slot.Slot.{Slot}
-use Rattle.fleet_link.specs.Serving.{IsFleet, IsRowServed}
+use Rattle.fleet_link.specs.Serving.{repeats_in, AreRepeated, IsFleet, IsRowServed}
 use Rattle.fleet_link.specs.Timing.{AreAsked}
 use Rattle.fleet_link.specs.Traffic.{Traffic}
 use Rattle.fleet_link.specs.Counting.{AreCountsOf}
@@ -22,8 +24,18 @@ fleet_as s played before slots now broken told same are h = record {
   count = h.count;
   each = λ e slot at. subst (IsRowServed s played e (before e) slot broken) (sym (are e)) (h.each e slot at);
   early = h.early;
+  made = h.made;
   met = h.met;
 }
+
+-- rows that were to be repeated still are, and no others
+pub repeated_as : (old new : List Slot) (repeat : Bool) → length new ≡ length old
+    → ((e : ℕ) → repeats_in (slice_get new e) ≡ repeats_in (slice_get old e)) → AreRepeated old repeat
+    → AreRepeated new repeat
+repeated_as old new repeat same kept were e slot at =
+    let within : e < length old = subst (λ n. e < n) same (slice_get_within new e slot at) in
+    let was = slice_get-get_or old e slot within in
+    ap repeats_in (sym at) ∙ kept e ∙ ap repeats_in was ∙ were e (get_or old e slot) was
 
 pub asked_as : (rb ra ab told same : Option (List ℕ)) (first : Option ℕ) (now calls : ℕ) → same ≡ told
     → AreAsked rb ra ab told first now calls → AreAsked rb ra ab same first now calls

@@ -15,7 +15,7 @@ use Rattle.fleet_link.specs.declared.directory.FixedServer.{FixedServer}
 use Rattle.fleet_link.specs.declared.slot.Slot.{Slot}
 use Rattle.fleet_link.specs.declared.udp.Counts.{Counts}
 use Rattle.fleet_link.specs.Saved.{IsSaved}
-use Rattle.fleet_link.specs.Serving.{AreAt, IsFleet}
+use Rattle.fleet_link.specs.Serving.{AreAt, AreRepeated, IsFleet}
 use Rattle.fleet_link.specs.Timing.{second_of}
 use Rattle.fleet_link.specs.Traffic.{Traffic, no_traffic}
 use Rattle.fleet_wire.specs.declared.happened.Happened.{Happened}
@@ -61,13 +61,14 @@ pub record IsEndless (second : ℕ) : Type 0 where
 -- The devices of a scenario were served, each from the start of its class to the end of the session, at ports that were
 -- new, with this wire on them or with none, and whose datagrams were counted; their rows were played, or were not. The
 -- session has at least these seconds, unless it was asked to end.
-pub record IsServed (s : Scenario) (played : Bool) (seconds : Option ℕ) (quit : Bool) (wire : Option Wired)
+pub record IsServed (s : Scenario) (played repeat : Bool) (seconds : Option ℕ) (quit : Bool) (wire : Option Wired)
     (session : Session) : Type 0 where
   pub before : ℕ → Option Traffic
   pub new : (e : ℕ) → before e ≡ Some no_traffic
   pub after : ℕ → Option Traffic
   pub counted : IsAccount wire after session.account
   pub fleet : IsFleet s played before session.slots session.second false after
+  pub repeated : AreRepeated session.slots (played && repeat)
   pub finished : AreAt session.slots (length session.slots) session.second
   pub ended :
       (has_passed seconds session.second ≡ true) ⊎ ((quit ≡ true) ⊎ IsEndless session.second)
@@ -250,7 +251,7 @@ pub record IsSessionDone (before after : World) (asked : AskedFleet) (terminal :
   pub wire : Option Wired
   pub wire_is : IsWireBy asked.wire (length part.rows) wire
   pub session : Session
-  pub served : IsServed part asked.play asked.seconds quit wire session
+  pub served : IsServed part asked.play asked.repeat asked.seconds quit wire session
   pub last : Streams
   pub told : AreTold (telling_for asked terminal part) session.second first last
   pub concluded : IsConcluded (record { made = before.made; streams = last }) after asked part session status
@@ -281,7 +282,7 @@ pub record IsSessionLost (files : FilesKnown) (streams : StreamFaults) (before a
     pub wire : Option Wired
     pub wire_is : IsWireBy asked.wire (length part.rows) wire
     pub session : Session
-    pub served : IsServed part asked.play asked.seconds quit wire session
+    pub served : IsServed part asked.play asked.repeat asked.seconds quit wire session
     pub last : Streams
     pub told : AreTold (telling_for asked terminal part) session.second first last
     pub why : IsUnconcluded files streams last after asked session fault

@@ -1,8 +1,8 @@
 //! Devices of a scenario on ports, for a session.
-ghost use Rattle.std.specs.Prelude.{ℕ, ◌≡◌, ◌+◌, ◌≤◌, ◌⊎◌, Bool, Option, None, List, IfErr, IfOk, OnOk, false, length};
-ghost use Rattle.std.specs.Prelude.{true};
+ghost use Rattle.std.specs.Prelude.{ℕ, ◌≡◌, ◌+◌, ◌≤◌, ◌⊎◌, ◌&&◌, Bool, Option, None, List, IfErr, IfOk, OnOk, false, length};
+ghost use Rattle.std.specs.Prelude.{slice_get, true};
 ghost use Rattle.scenario_image.specs.Scenario.{Scenario as ScenarioData};
-ghost use Rattle.fleet_link.specs.Serving.{AreAt, IsFleet};
+ghost use Rattle.fleet_link.specs.Serving.{repeats_in, AreAt, AreRepeated, IsFleet};
 ghost use Rattle.fleet_link.specs.Timing.{AreAsked};
 ghost use Rattle.fleet_link.specs.Traffic.{Traffic};
 ghost use Rattle.command_files.specs.World.{Streams};
@@ -30,18 +30,28 @@ fn fault_of(fault: FleetFault) -> Fault
     }
 }
 
-/// The devices of a scenario at their start. Their rows are played, or are not; their steps are recorded if they are to
-/// be saved.
-fn start(alloc: Global, part: &Scenario, played: bool, saved: bool) -> Result<Fleet, AllocError>
+/// The devices of a scenario at their start. Their rows are played, once or over and over, or are not; their steps are
+/// recorded if they are to be saved.
+fn start(
+    alloc: Global,
+    part: &Scenario,
+    played: bool,
+    repeat: bool,
+    saved: bool,
+) -> Result<Fleet, AllocError>
     ensures fleet { (told : ℕ → Option Traffic)
         → IfOk result (λ fleet. IsFleet part.now played told fleet.slots.items fleet.second false told) }
     ensures second { IfOk result (λ fleet. fleet.second ≡ 0) }
     ensures began { IfOk result (λ fleet. fleet.began ≡ None) }
+    ensures repeated { IfOk result (λ fleet. AreRepeated fleet.slots.items (played && repeat)) }
 {
-    if played {
-        Fleet::start_played(alloc, part, saved)
+    if !played {
+        return Fleet::start(alloc, part, saved);
+    }
+    if repeat {
+        Fleet::start_repeated(alloc, part, saved)
     } else {
-        Fleet::start(alloc, part, saved)
+        Fleet::start_played(alloc, part, saved)
     }
 }
 
@@ -82,6 +92,8 @@ fn turn<'a, P: Counted, C: Seconds, O: Output, E: Output>(
         → OnOk result (AreAsked read_before (C.read clock.new) asked_before (P.asked ports.new) fleet.new.began
         fleet.new.second (calls + 1)) }
     ensures wire { OnOk result (P.wire ports.new ≡ P.wire ports.old) }
+    ensures repeats { OnOk result ((e : ℕ) → repeats_in (slice_get fleet.new.slots.items e)
+        ≡ repeats_in (slice_get fleet.old.slots.items e)) }
     ensures told { (start : Streams)
         → AreTold telling fleet.old.second start
         (record { input = None; output = O.taken output.old; errors = E.taken errors.old })
@@ -158,6 +170,8 @@ fn go_on<'a, P: Counted, C: Seconds, Q: Quit, O: Output, E: Output>(
         ⊎ AreAsked read_before (C.read clock.new) asked_before (P.asked ports.new) fleet.new.began fleet.new.second
         (calls + turns))) }
     ensures wire { OnOk result (P.wire ports.new ≡ P.wire ports.old) }
+    ensures repeats { OnOk result ((e : ℕ) → repeats_in (slice_get fleet.new.slots.items e)
+        ≡ repeats_in (slice_get fleet.old.slots.items e)) }
     ensures told { (start : Streams)
         → AreTold telling fleet.old.second start
         (record { input = None; output = O.taken output.old; errors = E.taken errors.old })
@@ -183,8 +197,8 @@ fn go_on<'a, P: Counted, C: Seconds, Q: Quit, O: Output, E: Output>(
 }
 
 /// All devices of a scenario are served on these ports, for the seconds that are asked for by this clock or until the
-/// session is asked to end, and each second that a turn comes to is told. Their rows are played, and their steps
-/// recorded, if that is asked for. What went through the ports is counted.
+/// session is asked to end, and each second that a turn comes to is told. Their rows are played, once or over and over,
+/// and their steps recorded, if that is asked for. What went through the ports is counted.
 #[tactic(auto, using(crate::proofs::Told::cut_at_start))]
 pub fn serve_part<'a, P: Counted, C: Seconds, Q: Quit, O: Output, E: Output>(
     alloc: Global,
@@ -203,6 +217,7 @@ pub fn serve_part<'a, P: Counted, C: Seconds, Q: Quit, O: Output, E: Output>(
     ensures ended { IfOk result (λ r. (has_passed asked.now.seconds r.fleet.second ≡ true)
         ⊎ ((Q.asked quit.new ≡ true) ⊎ IsEndless r.fleet.second)) }
     ensures account { IfOk result (λ r. IsAccount (P.wire ports.old) (P.told ports.new) r.account) }
+    ensures repeated { IfOk result (λ r. AreRepeated r.fleet.slots.items (asked.now.play && asked.now.repeat)) }
     ensures told { IfOk result (λ r. AreTold telling r.fleet.second
         (record { input = None; output = O.taken output.old; errors = E.taken errors.old })
         (record { input = None; output = O.taken output.new; errors = E.taken errors.new })) }
@@ -211,7 +226,7 @@ pub fn serve_part<'a, P: Counted, C: Seconds, Q: Quit, O: Output, E: Output>(
         (record { input = None; output = O.taken output.old; errors = E.taken errors.old })
         (record { input = None; output = O.taken output.new; errors = E.taken errors.new }) r.fault) }
 {
-    let mut fleet = start(alloc, part, asked.play, asked.save.is_some())?;
+    let mut fleet = start(alloc, part, asked.play, asked.repeat, asked.save.is_some())?;
     go_on(
         alloc,
         telling,

@@ -116,9 +116,13 @@ with_service a =
 abbrev pub copies : Rule
 copies = optional_from (codes "copies") 1 16384
 
--- `[--devices A-B] [--copies N] [--play]`
+-- `[--devices A-B] [--copies N]`
 abbrev pub with_rows : App → App
-with_rows a = with_rule (with_rule (with_rule a (text_option (codes "devices"))) copies) (flag (codes "play"))
+with_rows a = with_rule (with_rule a (text_option (codes "devices"))) copies
+
+-- `[--play] [--loop]`
+abbrev pub with_play : App → App
+with_play a = with_rule (with_rule a (flag (codes "play"))) (flag (codes "loop"))
 
 -- `[--bind ADDRESS] [--server S=ADDRESS[:PORT]] ..`
 abbrev pub with_places : App → App
@@ -153,7 +157,7 @@ with_ends a =
 
 -- `fleet FILE PORT`, and its options
 abbrev pub fleet_app : App
-fleet_app = with_ends (with_wire (with_places (with_rows (with_service (new_app (codes "fleet"))))))
+fleet_app = with_ends (with_wire (with_places (with_play (with_rows (with_service (new_app (codes "fleet")))))))
 
 -- `join OUT IMAGE ..`
 abbrev pub join_app : App

@@ -1,6 +1,6 @@
 -- The words of the command line: which `clap` takes, and what they then ask for.
-use Rattle.std.specs.Prelude.{◌≡◌, ◌≢◌, ◌↔◌, ◌⊎◌, ◌<◌, ◌^◌, ℕ, pos, Bool, true, false, IsTrue, List, [], ◌∷◌, Option}
-use Rattle.std.specs.Prelude.{None, Some, fold, map, option_map, unwrap_or, codes}
+use Rattle.std.specs.Prelude.{◌≡◌, ◌≢◌, ◌↔◌, ◌⊎◌, ◌<◌, ◌^◌, ◌||◌, ℕ, pos, Bool, true, false, IsTrue, List, [], ◌∷◌}
+use Rattle.std.specs.Prelude.{Option, None, Some, fold, map, option_map, unwrap_or, codes}
 use Rattle.std.specs.Str.{bytes_eq}
 use Rattle.std.specs.Str.Parse.{IsNumeral, digits_value, without_leading_plus}
 use Rattle.clap.specs.Words.{App, IsAmong, Row, Rule, Text as Word, all_of, fault_of, first_of, new_app, new_rule}
@@ -110,12 +110,13 @@ commands =
     ∷ command (codes "live") (needed (codes "IMAGE") ∷ needed_number (codes "DEVICE") 0 65535
     ∷ needed_number (codes "PORT") 0 65535 ∷ needed_number (codes "TURNS") 1 100000 ∷ text_option (codes "save")
     ∷ flag (codes "show") ∷ [])
-    -- `fleet FILE PORT [--seconds N] [--devices A-B] [--copies N] [--play] [--bind ADDRESS]
+    -- `fleet FILE PORT [--seconds N] [--devices A-B] [--copies N] [--play] [--loop] [--bind ADDRESS]
     -- [--server S=ADDRESS[:PORT]] .. [--lose-in WHICH] [--lose-out WHICH] [--twice WHICH] [--swap WHICH]
     -- [--late WHICH] [--late-by N] [--seed N] [--save FILE] [--strict] [--json]`
     ∷ command (codes "fleet") (needed (codes "FILE") ∷ needed_number (codes "PORT") 0 65535
     ∷ optional_from (codes "seconds") 1 4294967295 ∷ text_option (codes "devices")
-    ∷ optional_from (codes "copies") 1 16384 ∷ flag (codes "play") ∷ text_or (codes "bind") (codes "127.0.0.1")
+    ∷ optional_from (codes "copies") 1 16384 ∷ flag (codes "play") ∷ flag (codes "loop")
+    ∷ text_or (codes "bind") (codes "127.0.0.1")
     ∷ text_options (codes "server") ∷ text_option (codes "lose-in") ∷ text_option (codes "lose-out")
     ∷ text_option (codes "twice") ∷ text_option (codes "swap") ∷ text_option (codes "late")
     ∷ number_from (codes "late-by") 1 4294967295 (codes "1") ∷ number (codes "seed") 4294967295 (codes "0")
@@ -257,7 +258,9 @@ AsksForFleet found fleet =
     × IsNumber 16 (one_of (codes "PORT") found.1) fleet.port
     × IsOptionalNumber 32 (one_of (codes "seconds") found.1) fleet.seconds
     × (first_of (codes "devices") found.1 ≡ option_map (λ w. w.now) fleet.devices)
-    × IsOptionalNumber 16 (one_of (codes "copies") found.1) fleet.copies × (is_set (codes "play") found.1 ≡ fleet.play)
+    × IsOptionalNumber 16 (one_of (codes "copies") found.1) fleet.copies
+    × ((is_set (codes "play") found.1 || is_set (codes "loop") found.1) ≡ fleet.play)
+    × (is_set (codes "loop") found.1 ≡ fleet.repeat)
     × IsText found (codes "bind") fleet.bind.now
     × (unwrap_or (all_of (codes "server") found.1) [] ≡ map (λ w. w.now) fleet.servers.items)
     × AsksForWire found.1 fleet.wire × (first_of (codes "save") found.1 ≡ option_map (λ p. p.now) fleet.save)

@@ -3,7 +3,7 @@ ghost use Rattle.std.specs.Prelude.{◌≡◌, codes, false, IfOk};
 ghost use Rattle.clap.specs.Words.{app_of, rule_of};
 ghost use Rattle.command_line.specs.Words.{needed_number, text_options};
 ghost use Rattle.command_line.specs.Inside.{bind, copies, fleet_app, late_by, seconds, seed, with_ends, with_losses};
-ghost use Rattle.command_line.specs.Inside.{with_moves, with_places, with_rows, with_service, with_wire};
+ghost use Rattle.command_line.specs.Inside.{with_moves, with_places, with_play, with_rows, with_service, with_wire};
 
 use crate::help;
 use crate::subcommands::{described, flag, needed, text_option};
@@ -15,7 +15,8 @@ pub(crate) fn fleet_command<'a>(alloc: Global) -> Result<Command<'a>, AllocError
 {
     let about = "Lets all devices of a scenario answer, each at a UDP port of its own";
     let service = with_service(alloc, described(alloc, "fleet", about, help::FLEET))?;
-    let places = with_places(alloc, with_rows(alloc, service)?)?;
+    let rows = with_play(alloc, with_rows(alloc, service)?)?;
+    let places = with_places(alloc, rows)?;
     with_ends(alloc, with_wire(alloc, places)?)
 }
 
@@ -96,15 +97,24 @@ fn with_service<'a>(alloc: Global, command: Command<'a>) -> Result<Command<'a>, 
         .arg(seconds(alloc))
 }
 
-/// Adds the words for which devices there are, and for whether the steps of their rows happen.
+/// Adds the words for which devices there are.
 fn with_rows<'a>(alloc: Global, command: Command<'a>) -> Result<Command<'a>, AllocError>
     ensures { IfOk result (λ c. app_of c ≡ with_rows (app_of command.entry)) }
 {
-    let play = flag(alloc, "play").help("Lets the steps of the rows happen as seconds pass");
     command
         .arg(text_option(alloc, "devices", "A-B").help("Only the devices from A to B"))?
-        .arg(copies(alloc))?
-        .arg(play)
+        .arg(copies(alloc))
+}
+
+/// Adds the words for whether the steps of the rows happen, and whether they do so over and over.
+fn with_play<'a>(alloc: Global, command: Command<'a>) -> Result<Command<'a>, AllocError>
+    ensures { IfOk result (λ c. app_of c ≡ with_play (app_of command.entry)) }
+{
+    let play = flag(alloc, "play").help("Lets the steps of the rows happen as seconds pass");
+    let repeat = flag(alloc, "loop").help(
+        "The same, and begins a row anew when all of it has happened",
+    );
+    command.arg(play)?.arg(repeat)
 }
 
 /// Adds the words for where the ports of the devices and their servers are.

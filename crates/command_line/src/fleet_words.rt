@@ -24,6 +24,8 @@ pub struct AskedFleet<'a> {
     pub copies: Option<u16>,
     /// Whether the steps of the rows happen as seconds pass.
     pub play: bool,
+    /// Whether a row of which all steps have happened begins anew; its steps then happen, asked for or not.
+    pub repeat: bool,
     /// The IP address of the ports.
     pub bind: &'a str,
     /// Where servers are, each as `S=ADDRESS` or `S=ADDRESS:PORT`.
@@ -65,7 +67,8 @@ fn fleet_with<'a>(found: &ArgMatches<'a>, servers: Vec<&'a str>) -> Option<Asked
         seconds: number(found, "seconds"),
         devices: value_of(found, "devices"),
         copies: small_number(found, "copies"),
-        play: flag(found, "play"),
+        play: flag(found, "play") || flag(found, "loop"),
+        repeat: flag(found, "loop"),
         bind: value_of(found, "bind")?,
         servers,
         wire: wire_of(found)?,

@@ -182,8 +182,9 @@ device d at PORT + d of the address of `--bind`, or, with `--devices`, only devi
 PORT. Where PORT is 0, each is at a port that the system chooses, and a line for each says which:
   device D at port P
 With `--copies` there are N devices, 1 to 16384: the rows over and over. With `--play` the steps of the rows
-happen as seconds pass. With `--server` the server S of all devices is at that address, at any port of it or
-at this one; an IPv6 address with a port is in brackets. Once all ports are there, prints on standard error
+happen as seconds pass; with `--loop` they do, and a row begins anew when all of it has happened. With
+`--server` the server S of all devices is at that address, at any port of it or at this one; an IPv6 address
+with a port is in brackets. Once all ports are there, prints on standard error
   lwbench: ready N at ADDRESS:PORT
 It ends after so many seconds as `--seconds` says, or, if it is not given, when standard input ends; and when
 a line of standard input is q. Writes the image of what happened to the FILE of `--save`, which is replaced

@@ -7,6 +7,7 @@ loop-turn-init g c = record {
   fleet = λ s played before h. h;
   asked = λ read_before asked_before calls h. asked_less read_before _ asked_before _ _ _ _ (calls + 0) h (omega arith);
   wire = refl;
+  repeats = λ e. refl;
   told = λ start h. h;
 }
 
@@ -19,6 +20,7 @@ loop-turn-preserved g c = record {
       (c.in_ok-turn.ensures.asked read_before asked_before (calls + c.loop-turn._turn)
       (c.loop-turn.invariant.asked read_before asked_before calls h)) (omega arith);
   wire = c.in_ok-turn.ensures.wire ∙ c.loop-turn.invariant.wire;
+  repeats = λ e. c.in_ok-turn.ensures.repeats e ∙ c.loop-turn.invariant.repeats e;
   told = λ start h. c.in_ok-turn.ensures.told start (c.loop-turn.invariant.told start h);
 }
 
@@ -27,3 +29,6 @@ returns-clause-fleet g c = λ s played before h. c.loop-turn.invariant.fleet s p
 
 pub returns-clause-told : goal.returns-clause-told
 returns-clause-told g c = λ start h. c.loop-turn.invariant.told start h
+
+pub returns-clause-repeats : goal.returns-clause-repeats
+returns-clause-repeats g c = λ e. c.loop-turn.invariant.repeats e

@@ -1,7 +1,7 @@
 -- All devices are served so far, and each second was told.
-use Rattle.std.proofs.Common.{ℕ, ◌≡◌, ◌+◌, Bool, List, false, Option, None}
+use Rattle.std.proofs.Common.{ℕ, ◌≡◌, ◌+◌, Bool, List, false, Option, None, slice_get}
 use Rattle.scenario_image.specs.Scenario.{Scenario}
-use Rattle.fleet_link.specs.Serving.{IsFleet}
+use Rattle.fleet_link.specs.Serving.{repeats_in, IsFleet}
 use Rattle.fleet_link.specs.Timing.{AreAsked}
 use Rattle.fleet_link.specs.Traffic.{Traffic}
 use Rattle.command_files.specs.World.{Streams}
@@ -18,6 +18,8 @@ invariant-loop-turn g l = record {
       → AreAsked read_before (g.C.Seconds.read l.clock) asked_before (g.P.Ports.asked l.ports) l.fleet.began
       l.fleet.second (calls + l._turn);
   wire : g.P.Counted.wire l.ports ≡ g.P.Counted.wire l.fn.ports;
+  repeats : (e : ℕ) → repeats_in (slice_get l.fleet.slots.items e)
+      ≡ repeats_in (slice_get l.fn.fleet.slots.items e);
   told : (start : Streams)
       → AreTold l.telling l.fn.fleet.second start
       (record { input = None; output = g.O.Output.taken l.fn.output; errors = g.E.Output.taken l.fn.errors })

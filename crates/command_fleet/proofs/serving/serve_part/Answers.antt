@@ -2,7 +2,7 @@ use Rattle.std.proofs.Common.{◌≡◌, ◌⊎◌, ◌∙◌, None, inl, subst,
 use Rattle.command_files.specs.World.{StreamFaults, Streams}
 use Rattle.command_files.specs.declared.fault.Fault.TheVariants as faults
 use Rattle.command_fleet.proofs.Sessions.{ended_so, none_asked}
-use Rattle.command_fleet.proofs.Settled.{account_as, fleet_as}
+use Rattle.command_fleet.proofs.Settled.{account_as, fleet_as, repeated_as}
 use Rattle.command_fleet.proofs.Told.{cut_off, none_told, same_told}
 use Rattle.command_fleet.proofs.serving.serve_part.Goals as goal
 
@@ -22,6 +22,16 @@ returns-in-Some-clause-finished g c =
     let played = c.args.asked.now.play in
     c.in-Ok.ensures.finished part played told
     (c.in_ok-go_on.ensures.fleet part played told (c.in_ok-fleet.ensures.fleet told))
+
+pub returns-in-Some-clause-repeated : goal.returns-in-Some-clause-repeated
+returns-in-Some-clause-repeated g c =
+    let told = g.P.Ports.told c.args.ports.now in
+    let part = c.args.part.now in
+    let played = c.args.asked.now.play in
+    let were = c.in_ok-fleet.ensures.fleet told in
+    let are = c.in-Ok.ensures.fleet part played told (c.in_ok-go_on.ensures.fleet part played told were) in
+    repeated_as c.in_ok-fleet.fleet.slots.items c.finish.new.self.slots.items _ (are.count ∙ sym were.count)
+    (λ e. c.finish.ensures.went.repeats e ∙ c.in_ok-go_on.ensures.repeats e) c.in_ok-fleet.ensures.repeated
 
 pub returns-in-Some-clause-ended : goal.returns-in-Some-clause-ended
 returns-in-Some-clause-ended g c =

@@ -16,3 +16,6 @@ returns-in-Ok-clause-asked g c =
 pub returns-in-Ok-clause-wire : goal.returns-in-Ok-clause-wire
 returns-in-Ok-clause-wire g c =
     always c.tell_if_later.result _ (c.settle.ensures.wire ∙ c.wire_is_fixed.ensures _ _ c.turn.ensures.fixed)
+
+pub returns-in-Ok-clause-repeats : goal.returns-in-Ok-clause-repeats
+returns-in-Ok-clause-repeats g c = always c.tell_if_later.result _ (λ e. c.turn.ensures.went.repeats e)

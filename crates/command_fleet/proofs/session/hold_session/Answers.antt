@@ -41,8 +41,9 @@ returns-clause-done g c =
       second = c.in_ok-served.served.fleet.second;
       account = c.in_ok-served.served.account;
     } in
-    let were = served part asked.play asked.seconds quit wire session _ _ c.in_ok-served.ensures.fleet
-    c.in_ok-served.ensures.finished c.in_ok-served.ensures.ended c.requires.new c.in_ok-served.ensures.account in
+    let were = served part asked.play asked.repeat asked.seconds quit wire session _ _
+    c.in_ok-served.ensures.fleet c.in_ok-served.ensures.finished c.in_ok-served.ensures.ended c.requires.new
+    c.in_ok-served.ensures.account c.in_ok-served.ensures.repeated in
     done_if (record { made = g.F.Files.made c.args.files.now; streams = before })
     (record { made = g.F.Files.made c.conclude_session.new.files; streams = after }) asked c.args.terminal part
     c.args.place c.args.free.now quit wire session c.telling_of-telling.result first last c.conclude_session.result
@@ -93,8 +94,9 @@ returns-clause-refused g c =
       second = c.in_ok-served.served.fleet.second;
       account = c.in_ok-served.served.account;
     } in
-    let were = served part asked.play asked.seconds quit wire session _ _ c.in_ok-served.ensures.fleet
-    c.in_ok-served.ensures.finished c.in_ok-served.ensures.ended c.requires.new c.in_ok-served.ensures.account in
+    let were = served part asked.play asked.repeat asked.seconds quit wire session _ _
+    c.in_ok-served.ensures.fleet c.in_ok-served.ensures.finished c.in_ok-served.ensures.ended c.requires.new
+    c.in_ok-served.ensures.account c.in_ok-served.ensures.repeated in
     lost_if files faults before after asked c.args.terminal part c.args.place c.args.free.now quit wire session
     c.telling_of-telling.result first last c.conclude_session.result opened c.requires.wire were is
     c.in_ok-served.ensures.told refl c.conclude_session.ensures.refused
