@@ -49,7 +49,7 @@ zip_more R [] (b ∷ ys) x y all one = absurd all
 zip_more R (a ∷ xs) [] x y all one = absurd all
 zip_more R (a ∷ xs) (b ∷ ys) x y all one = (all.0, zip_more R xs ys x y all.1 one)
 
--- the words behind references
+-- the words themselves
 abbrev pub words_in : List (Bor (List ℕ)) → List (List ℕ)
 words_in words = map (λ w. w.now) words
 

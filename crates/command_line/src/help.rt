@@ -186,8 +186,8 @@ happen as seconds pass; with `--loop` they do, and a row begins anew when all of
 `--server` the server S of all devices is at that address, at any port of it or at this one; an IPv6 address
 with a port is in brackets. Once all ports are there, prints on standard error
   lwbench: ready N at ADDRESS:PORT
-It ends after so many seconds as `--seconds` says, or, if it is not given, when standard input ends; and when
-a line of standard input is q. Writes the image of what happened to the FILE of `--save`, which is replaced
+It ends after the seconds of `--seconds`, or, if it is not given, when standard input ends; and when a line
+of standard input is q. Writes the image of what happened to the FILE of `--save`, which is replaced
 where it exists, and no file without it: the steps of each device, at most 4096. At the end prints
   done seconds S devices N received N sent N dropped N lost N
 A datagram is dropped that comes from no account of its device, or is longer than 1500 bytes; one is lost

@@ -78,8 +78,8 @@ IsDue device due = (f : Machine) → Shows device f → MatchOption due (IsSilen
 
 -- A device of a class is served from its start, and these steps of its row are played, once or over and over: the
 -- changes of those that have happened are all that it has made of its own. While it goes on nothing is pending, and the
--- second in which it is due next is known, and still to come. One that has ended hears no more. It ended for want of
--- memory only if it may have.
+-- second in which it is due next is known, and still to come. One that has ended hears no more. It ended because memory
+-- ran out only if it may have.
 pub record IsServed (class : Template) (row : List Step) (before : Option Traffic) (slot : Slot) (broken : Bool)
     (after : Option Traffic) : Type 0 where
   pub unheard : List Heard
@@ -114,7 +114,8 @@ AreMet s played slots =
     → count ≤ posts_of slots group (second_by 0 (take (k + 1) (happened_of slot.row)))
 
 -- the devices of a scenario are served, each on its port, and at most to this second; their rows are played, or are
--- not, and no step of them has happened later. One of them ended for want of memory only if the session is broken off
+-- not, and no step of them has happened later. One of them ended because memory ran out only if the session is broken
+-- off
 pub record IsFleet (s : Scenario) (played : Bool) (before : ℕ → Option Traffic) (slots : List Slot) (now : ℕ)
     (broken : Bool) (after : ℕ → Option Traffic) : Type 0 where
   pub count : length slots ≡ length s.rows
