@@ -45,21 +45,7 @@ fn size_of_event(event: &Event) -> usize
 fn copy_step(step: &Step) -> Result<Step, AllocError>
     ensures { IfOk result (λ copy. copy ≡ step.now) }
 {
-    match step {
-        Step::Event(Event::Recv { server, bytes }) => {
-            let bytes = bytes.clone()?;
-            let server = *server;
-            Ok(Step::Event(Event::Recv { server, bytes }))
-        }
-        Step::Event(Event::Put { path, value }) => {
-            let value = value.copy()?;
-            Ok(Step::Event(Event::Put { path: *path, value }))
-        }
-        Step::Event(Event::Firmware(code)) => Ok(Step::Event(Event::Firmware(*code))),
-        Step::Event(Event::Tick(seconds)) => Ok(Step::Event(Event::Tick(*seconds))),
-        Step::Post(group) => Ok(Step::Post(*group)),
-        Step::Need(group, count) => Ok(Step::Need(*group, *count)),
-    }
+    step.clone()
 }
 
 /// Copies of steps.
