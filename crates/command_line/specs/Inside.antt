@@ -150,14 +150,19 @@ seed = number (codes "seed") 4294967295 (codes "0")
 abbrev pub with_wire : App → App
 with_wire a = with_rule (with_rule (with_moves (with_losses a)) late_by) seed
 
--- `[--save FILE] [--strict] [--json]`
+-- `[--save FILE] [--strict]`
 abbrev pub with_ends : App → App
-with_ends a =
-    with_rule (with_rule (with_rule a (text_option (codes "save"))) (flag (codes "strict"))) (flag (codes "json"))
+with_ends a = with_rule (with_rule a (text_option (codes "save"))) (flag (codes "strict"))
+
+-- `[--show] [--json]`
+abbrev pub with_telling : App → App
+with_telling a = with_rule (with_rule a (flag (codes "show"))) (flag (codes "json"))
 
 -- `fleet FILE PORT`, and its options
 abbrev pub fleet_app : App
-fleet_app = with_ends (with_wire (with_places (with_play (with_rows (with_service (new_app (codes "fleet")))))))
+fleet_app =
+    with_telling
+    (with_ends (with_wire (with_places (with_play (with_rows (with_service (new_app (codes "fleet"))))))))
 
 -- `join OUT IMAGE ..`
 abbrev pub join_app : App

@@ -3,7 +3,8 @@ ghost use Rattle.std.specs.Prelude.{◌≡◌, codes, false, IfOk};
 ghost use Rattle.clap.specs.Words.{app_of, rule_of};
 ghost use Rattle.command_line.specs.Words.{needed_number, text_options};
 ghost use Rattle.command_line.specs.Inside.{bind, copies, fleet_app, late_by, seconds, seed, with_ends, with_losses};
-ghost use Rattle.command_line.specs.Inside.{with_moves, with_places, with_play, with_rows, with_service, with_wire};
+ghost use Rattle.command_line.specs.Inside.{with_moves, with_places, with_play, with_rows, with_service, with_telling};
+ghost use Rattle.command_line.specs.Inside.{with_wire};
 
 use crate::help;
 use crate::subcommands::{described, flag, needed, text_option};
@@ -17,10 +18,11 @@ pub(crate) fn fleet_command<'a>(alloc: Global) -> Result<Command<'a>, AllocError
     let service = with_service(alloc, described(alloc, "fleet", about, help::FLEET))?;
     let rows = with_play(alloc, with_rows(alloc, service)?)?;
     let places = with_places(alloc, rows)?;
-    with_ends(alloc, with_wire(alloc, places)?)
+    let ends = with_ends(alloc, with_wire(alloc, places)?)?;
+    with_telling(alloc, ends)
 }
 
-/// Adds the words for what is left of the devices, for the status, and for the form of what is told.
+/// Adds the words for what is left of the devices, and for the status.
 fn with_ends<'a>(alloc: Global, command: Command<'a>) -> Result<Command<'a>, AllocError>
     ensures { IfOk result (λ c. app_of c ≡ with_ends (app_of command.entry)) }
 {
@@ -28,8 +30,16 @@ fn with_ends<'a>(alloc: Global, command: Command<'a>) -> Result<Command<'a>, All
     let strict = flag(alloc, "strict").help(
         "Ends with status 3 where a datagram was dropped or lost",
     );
+    command.arg(save)?.arg(strict)
+}
+
+/// Adds the words for what is told while the devices go on, and in which form.
+fn with_telling<'a>(alloc: Global, command: Command<'a>) -> Result<Command<'a>, AllocError>
+    ensures { IfOk result (λ c. app_of c ≡ with_telling (app_of command.entry)) }
+{
+    let show = flag(alloc, "show").help("Prints each datagram that a device receives or sends");
     let json = flag(alloc, "json").help("Prints JSON Lines, for scripts");
-    command.arg(save)?.arg(strict)?.arg(json)
+    command.arg(show)?.arg(json)
 }
 
 /// Adds the words for a wire that loses datagrams.

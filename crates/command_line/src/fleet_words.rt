@@ -36,6 +36,8 @@ pub struct AskedFleet<'a> {
     pub save: Option<&'a str>,
     /// Whether the status tells that a datagram was dropped or lost.
     pub strict: bool,
+    /// Whether each datagram that a device receives or sends is told.
+    pub show: bool,
     /// Whether what happened is told as JSON Lines.
     pub json: bool,
 }
@@ -74,6 +76,7 @@ fn fleet_with<'a>(found: &ArgMatches<'a>, servers: Vec<&'a str>) -> Option<Asked
         wire: wire_of(found)?,
         save: value_of(found, "save"),
         strict: flag(found, "strict"),
+        show: flag(found, "show"),
         json: flag(found, "json"),
     })
 }

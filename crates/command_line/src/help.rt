@@ -191,13 +191,18 @@ of standard input is q. Writes the image of what happened to the FILE of `--save
 where it exists, and no file without it: the steps of each device, at most 4096. At the end prints
   done seconds S devices N received N sent N dropped N lost N
 A datagram is dropped that comes from no account of its device, or is longer than 1500 bytes; one is lost
-that the system did not take. With `--strict` the status is 3 where one was dropped or lost. With `--json`
-prints JSON Lines in place of these lines: when all ports are there, each second, and at the end.
+that the system did not take. With `--strict` the status is 3 where one was dropped or lost. With `--show`
+prints a line for each datagram that a device receives or sends, in words:
+  S s  device D  from SERVER  WORDS
+  S s  device D  to SERVER    WORDS
+With `--json` prints JSON Lines in place of these lines: when all ports are there, each second, of each
+datagram with `--show`, and at the end.
 
 A wire between the devices and their ports loses, doubles, exchanges and delays datagrams. WHICH is a share,
 as 10%, or a list of numbers, as 2,5-6: the datagrams of each device that go one way count from 1. One that
-is swapped goes right after the next one, one that is late after `--late-by` seconds. The line at the end then
-goes on
+is swapped goes right after the next one, one that is late after `--late-by` seconds. Each of them has a line,
+which says which it is, and the line at the end goes on:
+  S s  device D  in    datagram N lost
   wire lost N twice N swapped N late N
 
 Example:
