@@ -1,5 +1,5 @@
 -- The objects are read again.
-use Rattle.std.proofs.Common.{ℕ, ◌≤◌, arith}
+use Rattle.std.proofs.Common.{◌≤◌, arith}
 use Rattle.serde_json.specs.Data.{depth}
 use Rattle.serde_json.specs.Read.{max_depth}
 use Rattle.trace_json.specs.Writing.{Has64Bits, IsReadAgain}

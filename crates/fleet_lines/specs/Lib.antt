@@ -1,3 +1,5 @@
 pub mod Shown
 pub mod Lines
 pub mod Objects
+pub mod Traffic
+pub mod Counting

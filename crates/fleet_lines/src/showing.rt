@@ -4,7 +4,6 @@ use crate::shown::Shown;
 use crate::shown_ports::ShownPorts;
 use crate::tape::Tape;
 use fleet_link::{Ports, PortsFault, Receipt};
-use fleet_wire::{Note, WiredPorts};
 use std::alloc::Global;
 use std::snapshot::Snapshot;
 
@@ -132,25 +131,5 @@ impl<P: Ports> Ports for ShownPorts<P> {
         ensures same { self.new.tape ≡ self.old.tape }
     {
         self.ports.wait(millis)
-    }
-}
-
-impl ShownPorts<WiredPorts> {
-    ghost use Rattle.std.specs.Prelude.{◌≡◌, ◌++◌, [], ℕ};
-    ghost use Rattle.fleet_wire.specs.Wire.{asked_by, told_by};
-    ghost use Rattle.fleet_wire.specs.Wired.{fixed_on};
-
-    /// What happened to datagrams on the wire since this was asked last.
-    pub fn take_notes(&mut self) -> Vec<Note>
-        ensures notes { result.items ≡ self.old.ports.lossy.wire.notes.items }
-        ensures left { self.new.ports.lossy.wire.notes.items ≡ [] }
-        ensures fixed { fixed_on self.new.ports
-            ≡ record (fixed_on self.old.ports) { taken = (fixed_on self.old.ports).taken ++ result.items } }
-        ensures told { (e : ℕ) → told_by self.new.ports.lossy.wire e ≡ told_by self.old.ports.lossy.wire e }
-        ensures asked { asked_by self.new.ports.lossy.wire ≡ asked_by self.old.ports.lossy.wire }
-        ensures began { self.new.began ≡ self.old.began }
-        ensures same { self.new.tape ≡ self.old.tape }
-    {
-        self.ports.take_notes()
     }
 }
