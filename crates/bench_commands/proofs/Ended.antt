@@ -1,5 +1,5 @@
 -- What a command came to, put together from its parts.
-use Rattle.std.proofs.Common.{ℕ, ◌≡◌, ◌⊎◌, ◌<◌, Bool, true, false, List, Option, None, Some}
+use Rattle.std.proofs.Common.{ℕ, ◌≡◌, ◌⊎◌, Bool, true, false, List, Option, None, Some}
 use Rattle.std.proofs.Common.{Result, Ok, Err, IfErr, IfOk}
 use Rattle.std.proofs.Common.{OnErr, OnOk, inl, inr, refl, sym, subst, arith, ◌∙◌}
 use Rattle.std.specs.Io.KnownBytes.{Appends}
@@ -7,7 +7,6 @@ use Rattle.std.specs.Result.{IsErrAnd}
 use Rattle.std.specs.String.{string_bytes}
 use Rattle.command_line.specs.Words.{IsReadAs}
 use Rattle.command_line.specs.declared.words.Asked.{Asked}
-use Rattle.command_line.specs.declared.fleet_words.AskedFleet.{AskedFleet}
 use Rattle.command_line.specs.declared.words.Asked.TheVariants as asked
 use Rattle.command_line.specs.declared.words.Job.{Job}
 use Rattle.command_line.specs.declared.words.Job.TheVariants as jobs
@@ -18,49 +17,17 @@ use Rattle.bench_commands.specs.Command.{IsFinished, IsFormOf, IsLogAnswered, Is
 use Rattle.bench_commands.specs.Command.{IsLost, IsRefused, IsToldIn, IsUnfinished, wants_json}
 use Rattle.command_files.specs.Files.{Grows, most_bytes}
 use Rattle.command_files.specs.Input.{IsWithin, WhereKnown}
-use Rattle.command_fleet.specs.Fleet.{IsFleetDone, IsFleetFault, IsHeldFault, IsSessionBroken, telling_for}
-use Rattle.command_fleet.specs.Telling.{IsCut, IsRefused as IsSecondRefused, Passed}
-use Rattle.command_fleet.specs.declared.telling.Telling.{Telling}
-use Rattle.command_fleet.specs.declared.telling.Telling.TheVariants.{Nothing, Objects, Progress}
+use Rattle.command_fleet.specs.Telling.{came}
 use Rattle.command_live.specs.Live.{IsLiveDone, IsLiveFault}
 use Rattle.command_words.specs.Inputs.{IsInputRefused, IsInputSaid}
-use Rattle.command_files.specs.World.{FilesKnown, IsAside, IsIdle, IsSilent, StreamFaults, Streams, World}
+use Rattle.command_files.specs.World.{FilesKnown, IsAside, IsIdle, StreamFaults, Streams, World}
 use Rattle.command_files.specs.declared.answer.Answer.{Answer}
 use Rattle.command_files.specs.declared.fault.Fault.{Fault}
-use Rattle.command_files.specs.declared.fault.Fault.TheVariants.{Bind, Memory}
+use Rattle.command_files.specs.declared.fault.Fault.TheVariants.{Memory}
 use Rattle.command_files.specs.declared.refusal.Refusal.{Refusal}
 use Rattle.command_files.specs.declared.status.Status.{Status}
 use Rattle.command_files.specs.declared.status.Status.TheVariants as ends
-
--- ---- what is known of a call that has neither an input nor standard error
-
-abbrev pub aside_faults : StreamFaults → StreamFaults
-aside_faults faults = record { input_fails = ⊥; output_refuses = faults.output_refuses; errors_refuse = λ _. ⊥ }
-
-abbrev pub aside_streams : Option (List ℕ) → Streams
-aside_streams output = record { input = None; output = output; errors = None }
-
-abbrev pub aside_world : World → World
-aside_world world = record { made = world.made; streams = aside_streams world.streams.output }
-
--- what is known of a call that has no standard error
-abbrev pub silent_faults : StreamFaults → StreamFaults
-silent_faults faults =
-    record { input_fails = faults.input_fails; output_refuses = faults.output_refuses; errors_refuse = λ _. ⊥ }
-
-abbrev pub silent_world : World → World
-silent_world world = record {
-  made = world.made;
-  streams = record { input = world.streams.input; output = world.streams.output; errors = None };
-}
-
--- what is known of a call that has no input
-abbrev pub beside_faults : StreamFaults → StreamFaults
-beside_faults faults =
-    record { input_fails = ⊥; output_refuses = faults.output_refuses; errors_refuse = faults.errors_refuse }
-
-abbrev pub beside_input : Streams → Streams
-beside_input streams = record { input = None; output = streams.output; errors = streams.errors }
+use Rattle.bench_commands.proofs.Seen.{aside_faults, aside_streams, aside_world, silent_faults, silent_world}
 
 -- ---- done
 
@@ -177,50 +144,6 @@ lived_if files faults before after terminal words live (Ok status) read done end
     lived files faults before after terminal words live status read done ended aside
 lived_if files faults before after terminal words live (Err e) read done ended aside = tt
 
--- a session of several devices that may have been lost
-pub served_if : {E : Type 0}
-    → (files : FilesKnown) (faults : StreamFaults) (before after : World) (terminal : Bool) (words : List (List ℕ))
-    (fleet : AskedFleet) (result : Result Status E) → IsReadAs words (asked.Fleet fleet)
-    → IfOk result (IsFleetDone files (record { made = before.made; streams = beside_input before.streams })
-    (record { made = after.made; streams = beside_input after.streams }) fleet terminal)
-    → after.streams.input ≡ before.streams.input → IfOk result (IsFinished files faults before after terminal words)
-served_if files faults before after terminal words fleet (Ok status) read served unread =
-    let done = served.done.3 in
-    inr (inr (inr (
-      record {
-        fleet = fleet;
-        read = read;
-        done = record {
-          part = served.part;
-          place = served.place;
-          ready = served.ready;
-          done = (
-            served.done.0,
-            served.done.1,
-            served.done.2,
-            record {
-              first = done.first;
-              ready_told = record { shown = done.ready_told.shown; printed = done.ready_told.printed };
-              wire = done.wire;
-              wire_is = done.wire_is;
-              session = done.session;
-              served = done.served;
-              last = done.last;
-              told = done.told;
-              concluded = record {
-                printed = done.concluded.printed;
-                saved = done.concluded.saved;
-                ended = done.concluded.ended;
-              };
-              quiet = done.quiet;
-            },
-          );
-        };
-      },
-      unread,
-    )))
-served_if files faults before after terminal words fleet (Err e) read served unread = tt
-
 -- ---- not done
 
 -- a session was not concluded
@@ -268,88 +191,6 @@ pub live_lost_if : (files : FilesKnown) (faults : StreamFaults) (before after : 
 live_lost_if files faults before after terminal words live (Ok status) read lost aside none = tt
 live_lost_if files faults before after terminal words live (Err r) read lost aside none =
     live_lost files faults before after terminal words live r.fault read lost aside none
-
--- a second that was not told is the same beside an input
-refused_so : (telling : Telling) (faults : StreamFaults) (passed : Passed) (between after : Streams) (fault : Fault)
-    → IsSecondRefused telling (beside_faults faults) passed between (beside_input after) fault
-    → IsSecondRefused telling faults passed between after fault
-refused_so Nothing faults passed between after fault refused = absurd refused
-refused_so (Progress devices) faults passed between after fault refused = refused
-refused_so Objects faults passed between after fault refused = refused
-
--- and so is a session that was broken off
-cut_so : (telling : Telling) (faults : StreamFaults) (first after : Streams) (fault : Fault)
-    → IsCut telling (beside_faults faults) first (beside_input after) fault → IsCut telling faults first after fault
-cut_so telling faults first after fault cut =
-    record { second = cut.second; between = cut.between; told = cut.told; why = so cut.second cut.between cut.why }
-  where
-    so : (second : ℕ) (between : Streams)
-        → (IsSilent between (beside_input after) × ((fault ≡ Memory) ⊎ (fault ≡ Bind)))
-        ⊎ ((passed : Passed) × (second < passed.second)
-        × IsSecondRefused telling (beside_faults faults) passed between (beside_input after) fault)
-        → (IsSilent between after × ((fault ≡ Memory) ⊎ (fault ≡ Bind)))
-        ⊎ ((passed : Passed) × (second < passed.second) × IsSecondRefused telling faults passed between after fault)
-    so second between (inl silent) = inl silent
-    so second between (inr (passed, later, refused)) =
-        inr (passed, later, refused_so telling faults passed between after fault refused)
-
-session_so : (files : FilesKnown) (faults : StreamFaults) (before after : Streams) (fleet : AskedFleet)
-    (terminal : Bool) (fault : Fault)
-    → IsSessionBroken files (beside_faults faults) (beside_input before) (beside_input after) fleet terminal fault
-    → IsSessionBroken files faults before after fleet terminal fault
-session_so files faults before after fleet terminal fault broken =
-    record { part = broken.part; place = broken.place; ready = broken.ready; why = so broken.why }
-  where
-    so : IsHeldFault files (beside_faults faults) (beside_input before) (beside_input after) fleet terminal
-        broken.part broken.place fault
-        → IsHeldFault files faults before after fleet terminal broken.part broken.place fault
-    so (inl none) = inl none
-    so (inr (ports, free, quit, inl untold)) = inr (ports, free, quit, inl untold)
-    so (inr (ports, free, quit, inr (inl lost))) =
-        inr (
-          ports,
-          free,
-          quit,
-          inr (inl (record {
-            first = lost.first;
-            ready_told = record { shown = lost.ready_told.shown; printed = lost.ready_told.printed };
-            cut = cut_so (telling_for fleet terminal broken.part) faults lost.first after fault lost.cut;
-          })),
-        )
-    so (inr (ports, free, quit, inr (inr lost))) =
-        inr (
-          ports,
-          free,
-          quit,
-          inr (inr (record {
-            first = lost.first;
-            ready_told = record { shown = lost.ready_told.shown; printed = lost.ready_told.printed };
-            wire = lost.wire;
-            wire_is = lost.wire_is;
-            session = lost.session;
-            served = lost.served;
-            last = lost.last;
-            told = lost.told;
-            why = lost.why;
-            quiet = lost.quiet;
-          })),
-        )
-
--- a session of several devices that may have been concluded
-pub fleet_lost_if : (files : FilesKnown) (faults : StreamFaults) (before after : World) (terminal : Bool)
-    (words : List (List ℕ)) (fleet : AskedFleet) (result : Result Status Refusal) → IsReadAs words (asked.Fleet fleet)
-    → IfErr result (λ r. IsFleetFault files (beside_faults faults) (beside_input before.streams)
-    (beside_input after.streams) fleet terminal r.fault)
-    → after.streams.input ≡ before.streams.input → OnErr result (after.made ≡ before.made)
-    → IfErr result (λ r. IsUnfinished files faults before after terminal words r.fault)
-fleet_lost_if files faults before after terminal words fleet (Ok status) read lost unread none = tt
-fleet_lost_if files faults before after terminal words fleet (Err r) read lost unread none =
-    inr (inr (inr (record { fleet = fleet; read = read; lost = so lost; none_made = none }, unread)))
-  where
-    so : IsFleetFault files (beside_faults faults) (beside_input before.streams) (beside_input after.streams) fleet
-        terminal r.fault → IsFleetFault files faults before.streams after.streams fleet terminal r.fault
-    so (inl none) = inl (record { why = none.why; silent = none.silent; untold = none.untold })
-    so (inr broken) = inr (session_so files faults before.streams after.streams fleet terminal r.fault broken)
 
 pub no_memory : (files : FilesKnown) (faults : StreamFaults) (before after : World) (terminal : Bool)
     (words : List (List ℕ))

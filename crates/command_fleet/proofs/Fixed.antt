@@ -116,7 +116,7 @@ none_at s account k n r below count is fails none =
 
 -- ---- words
 
--- the words behind references
+-- the texts of words
 abbrev pub words_in : List (Bor (List ℕ)) → List (List ℕ)
 words_in words = map (λ w. w.now) words
 

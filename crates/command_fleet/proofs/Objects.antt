@@ -6,7 +6,7 @@ use Rattle.serde_json.specs.Data.{depth}
 use Rattle.serde_json.specs.Read.{max_depth}
 use Rattle.fleet_link.specs.declared.udp.Counts.{Counts}
 use Rattle.fleet_wire.specs.declared.happened.Happened.{Happened}
-use Rattle.command_fleet.specs.declared.counted.Account.{Account}
+use Rattle.fleet_lines.specs.declared.counted.Account.{Account}
 use Rattle.trace_json.specs.Writing.{Has64Bits, IsReadAgain, fields_tokens}
 use Rattle.trace_json.proofs.ReadAgain.{read_again}
 use Rattle.command_fleet.specs.InJson.{done_json, happened_fields, port_json, ready_json, second_json}

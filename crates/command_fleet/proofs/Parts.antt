@@ -1,15 +1,12 @@
 -- The devices of `A-B`, the rows of a part of a scenario, and the end of a session.
-use Rattle.std.proofs.Common.{ℕ, ◌≡◌, ◌≤◌, ◌<◌, ◌==◌, ◌⊎◌, ◌+◌, ◌-◌, ◌%◌, zero, suc, Bool, List, [], ◌∷◌, ◌++◌, length}
+use Rattle.std.proofs.Common.{ℕ, ◌≡◌, ◌<◌, ◌==◌, ◌⊎◌, ◌+◌, ◌%◌, zero, suc, Bool, List, [], ◌∷◌, ◌++◌, length}
 use Rattle.std.proofs.Common.{filter, take, get_or, slice_get, Option, IfNone, None, Some, option_map, arith, ap, subst}
 use Rattle.std.proofs.Common.{sym, ◌∙◌, refl, inl, inr}
 use Rattle.std.proofs.lemmas.Grind.{take_at_read}
 use Rattle.std.proofs.lemmas.List.Elements.{filter-append}
 use Rattle.std.specs.List.{after_first, before_first}
 use Rattle.command_line.specs.Words.{SpellsNumber}
-use Rattle.live_link.specs.Wire.{AreRead}
 use Rattle.fleet_link.specs.Playing.{is_own}
-use Rattle.fleet_link.specs.Timing.{AreAsked}
-use Rattle.fleet_link.proofs.Seconds.{asked_on}
 use Rattle.lemmas.proofs.Lists.{item_pushed, length_pushed}
 use Rattle.scenario_image.specs.declared.step.Step.{Step}
 use Rattle.scenario_image.specs.Scenario.{Row}

@@ -1,12 +1,18 @@
 -- Devices on UDP: what their session came to, put together from its parts.
-use Rattle.std.proofs.Common.{ℕ, Bool, Bor, ◌==◌, ◌&&◌, ◌≡◌, ◌⊎◌, ◌≤◌, arith, List, [], ◌∷◌, length, map, Option, None, Some, inl}
+use Rattle.std.proofs.Common.{ℕ, Bool, Bor, ◌==◌, ◌&&◌, ◌≡◌, ◌⊎◌, arith, List, [], ◌∷◌, length, map, Option, None, Some, inl}
 use Rattle.std.proofs.Common.{inr, IfErr, IfOk, Result, Ok, Err, option_map, false, true, refl, sym, subst, ap, ◌∙◌}
 use Rattle.std.specs.Io.KnownBytes.{Appends}
 use Rattle.std.specs.declared.net.socket_addr.SocketAddr.{SocketAddr}
 use Rattle.command_line.specs.declared.fleet_words.AskedFleet.{AskedFleet}
 use Rattle.command_line.specs.declared.wire_words.AskedWire.{AskedWire}
+use Rattle.fleet_wire.specs.declared.note.Note.{Note}
 use Rattle.fleet_wire.specs.declared.plan.Plan.{Plan}
 use Rattle.fleet_wire.specs.Over.{Fixed}
+use Rattle.fleet_lines.specs.declared.shown.Shown.{Shown}
+use Rattle.fleet_lines.specs.Counting.{AreAllShown, IsAccount, Wired}
+use Rattle.fleet_lines.specs.Shown.{AreShownOf}
+use Rattle.live_link.specs.Wire.{WhereTold}
+use Rattle.std.proofs.Math.Logic.{∥∥₁_map}
 use Rattle.scenario_image.specs.declared.fault.ScenarioFault.{ScenarioFault}
 use Rattle.scenario_image.specs.declared.fault.ScenarioFault.TheVariants as session
 use Rattle.scenario_image.specs.Image.{IsImageIn}
@@ -34,10 +40,10 @@ use Rattle.command_fleet.specs.Servers.{AreServers, IsServersFault}
 use Rattle.command_fleet.specs.Fleet.{AreMissing, AreReady, IsConcluded, IsEndless, IsFleetDone, IsFleetFault, IsPlace}
 use Rattle.command_fleet.specs.Fleet.{IsReadyTold, IsSaveFault, IsSavedAt, IsSavedIf, IsServed, IsSessionCut}
 use Rattle.command_fleet.specs.Fleet.{IsSessionDone, IsSessionFault, IsUnconcluded, IsUnfit, IsUnsaved, IsUnstarted}
-use Rattle.command_fleet.specs.Fleet.{AreFree, IsHeldDone, IsHeldFault, IsUntold, Session, cut_of, has_passed}
-use Rattle.command_fleet.specs.Fleet.{line_of, opening_text, ready_line, status_of, telling_for}
+use Rattle.command_fleet.specs.Fleet.{IsHeldDone, IsHeldFault, IsShownFrom, IsShownIf, IsUntold, Session, cut_of}
+use Rattle.command_fleet.specs.Fleet.{free_ports, has_passed, line_of, opening_text, ready_line, status_of, telling_for}
 use Rattle.command_fleet.specs.Telling.{AreTold, IsCut, telling_of}
-use Rattle.command_fleet.specs.Wires.{IsAccount, IsNoPlan, IsPlanBy, IsPlanned, IsWireBy, Wired}
+use Rattle.command_fleet.specs.Wires.{IsNoPlan, IsPlanBy, IsPlanned, IsWireBy}
 
 -- ---- the scenario of a session
 
@@ -250,24 +256,36 @@ ended_so seconds quit second now rb ra ab aa first same (inr (inl h)) = inr (inl
 ended_so seconds quit second now rb ra ab aa first same (inr (inr h)) =
     inr (inr (subst IsEndless (sym same) (endless rb ra ab aa first second h)))
 
-pub served : (s : Scenario) (played repeat : Bool) (seconds : Option ℕ) (quit : Bool) (wire : Option Wired)
-    (session : Session) (before after : ℕ → Option Traffic)
+-- ports that are shown from the beginning, when nothing had gone through them
+pub shown_if : (show : Bool) (began : Option (ℕ → Option Traffic)) (told : ℕ → Option Traffic) (shown : List Shown)
+    → IsShownFrom show began → ∥ AreAllShown began told shown ∥₁ → ∥ IsShownIf show told shown ∥₁
+shown_if false began told shown none all = subst (λ b. ∥ AreAllShown b told shown ∥₁) none all
+shown_if true None told shown none all = absurd none
+shown_if true (Some began) told shown from all =
+    ∥∥₁_map all (λ h e. subst (λ t. WhereTold (AreShownOf e shown) t (told e)) (from e) (h e))
+
+pub served : (s : Scenario) (played repeat show : Bool) (seconds : Option ℕ) (quit : Bool) (wire : Option Wired)
+    (began : Option (ℕ → Option Traffic)) (notes : List Note) (shown : List Shown) (session : Session)
+    (before after : ℕ → Option Traffic)
     → IsFleet s played before session.slots session.second false after
     → AreAt session.slots (length session.slots) session.second
     → (has_passed seconds session.second ≡ true) ⊎ ((quit ≡ true) ⊎ IsEndless session.second)
-    → ((e : ℕ) → before e ≡ Some no_traffic) → IsAccount wire after session.account
-    → AreRepeated session.slots (played && repeat)
-    → IsServed s played repeat seconds quit wire session
-served s played repeat seconds quit wire session before after fleet finished ended new counted repeated = record {
-  before = before;
-  new = new;
-  after = after;
-  counted = counted;
-  fleet = fleet;
-  repeated = repeated;
-  finished = finished;
-  ended = ended;
-}
+    → ((e : ℕ) → before e ≡ Some no_traffic) → IsAccount wire after notes session.account
+    → AreRepeated session.slots (played && repeat) → IsShownFrom show began
+    → ∥ AreAllShown began after shown ∥₁ → IsServed s played repeat show seconds quit wire notes shown session
+served s played repeat show seconds quit wire began notes shown session before after fleet finished ended new counted
+    repeated from all =
+    record {
+      before = before;
+      new = new;
+      after = after;
+      counted = counted;
+      shown_are = shown_if show began after shown from all;
+      fleet = fleet;
+      repeated = repeated;
+      finished = finished;
+      ended = ended;
+    }
 
 -- that the devices are there, told of as many as there are rows
 pub ready_told : (json : Bool) (rows devices : ℕ) (place : SocketAddr) (ports : List ℕ) (before after : Streams)
@@ -306,28 +324,31 @@ abbrev pub without_errors : Streams → Streams
 without_errors streams = record { input = None; output = streams.output; errors = None }
 
 pub done_if : (before after : World) (asked : AskedFleet) (terminal : Bool) (part : Scenario) (place : SocketAddr)
-    (ports : List ℕ) (quit : Bool) (wire : Option Wired) (session : Session) (telling : Telling) (first last : Streams)
-    (r : Result Status Refusal)
+    (ports : List ℕ) (quit : Bool) (wire : Option Wired) (notes : List Note) (shown : List Shown) (session : Session)
+    (telling : Telling) (first last : Streams) (r : Result Status Refusal)
     → IsReadyTold asked.json (length part.rows) place ports before.streams first
     → IsWireBy asked.wire (length part.rows) wire
-    → IsServed part asked.play asked.repeat asked.seconds quit wire session → telling ≡ telling_for asked terminal part
-    → AreTold telling session.second first last → after.streams.errors ≡ last.errors
+    → IsServed part asked.play asked.repeat asked.show asked.seconds quit wire notes shown session
+    → telling ≡ telling_for asked terminal part → AreTold telling notes shown session.second first last
+    → after.streams.errors ≡ last.errors
     → IfOk r (IsConcluded (record { made = before.made; streams = without_errors last })
     (record { made = after.made; streams = without_errors after.streams }) asked part session)
     → IfOk r (IsSessionDone before after asked terminal part place ports quit)
-done_if before after asked terminal part place ports quit wire session telling first last (Err e) opened wired were is
-    told quiet done = tt
-done_if before after asked terminal part place ports quit wire session telling first last (Ok status) opened wired were
-    is told quiet done =
+done_if before after asked terminal part place ports quit wire notes shown session telling first last (Err e) opened
+    wired were is told quiet done = tt
+done_if before after asked terminal part place ports quit wire notes shown session telling first last (Ok status) opened
+    wired were is told quiet done =
     record {
       first = first;
       ready_told = opened;
       wire = wire;
       wire_is = wired;
       session = session;
+      notes = notes;
+      shown = shown;
       served = were;
       last = last;
-      told = subst (λ t. AreTold t session.second first last) is told;
+      told = subst (λ t. AreTold t notes shown session.second first last) is told;
       concluded = record { printed = done.printed; saved = done.saved; ended = done.ended };
       quiet = quiet;
     }
@@ -345,25 +366,29 @@ cut_if streams before after asked terminal part place ports telling first fault 
 
 pub lost_if : (files : FilesKnown) (streams : StreamFaults) (before after : Streams) (asked : AskedFleet)
     (terminal : Bool) (part : Scenario) (place : SocketAddr) (ports : List ℕ) (quit : Bool) (wire : Option Wired)
-    (session : Session) (telling : Telling) (first last : Streams) (r : Result Status Refusal)
+    (notes : List Note) (shown : List Shown) (session : Session) (telling : Telling) (first last : Streams)
+    (r : Result Status Refusal)
     → IsReadyTold asked.json (length part.rows) place ports before first → IsWireBy asked.wire (length part.rows) wire
-    → IsServed part asked.play asked.repeat asked.seconds quit wire session → telling ≡ telling_for asked terminal part
-    → AreTold telling session.second first last → after.errors ≡ last.errors
+    → IsServed part asked.play asked.repeat asked.show asked.seconds quit wire notes shown session
+    → telling ≡ telling_for asked terminal part → AreTold telling notes shown session.second first last
+    → after.errors ≡ last.errors
     → IfErr r (λ e. IsUnconcluded files streams (without_errors last) (without_errors after) asked session e.fault)
     → IfErr r (λ e. IsSessionFault files streams before after asked terminal part place ports quit e.fault)
-lost_if files streams before after asked terminal part place ports quit wire session telling first last (Ok status)
-    opened wired were is told quiet why = tt
-lost_if files streams before after asked terminal part place ports quit wire session telling first last (Err e) opened
-    wired were is told quiet why =
+lost_if files streams before after asked terminal part place ports quit wire notes shown session telling first last
+    (Ok status) opened wired were is told quiet why = tt
+lost_if files streams before after asked terminal part place ports quit wire notes shown session telling first last
+    (Err e) opened wired were is told quiet why =
     inr (inr (record {
       first = first;
       ready_told = opened;
       wire = wire;
       wire_is = wired;
       session = session;
+      notes = notes;
+      shown = shown;
       served = were;
       last = last;
-      told = subst (λ t. AreTold t session.second first last) is told;
+      told = subst (λ t. AreTold t notes shown session.second first last) is told;
       why = why;
       quiet = quiet;
     }))
@@ -379,49 +404,46 @@ wire_on wire rows devices plan fixed made is as_planned as_many same planned =
     let count : fixed.devices ≡ rows = ap (λ (f : Fixed). f.devices) is ∙ as_many ∙ same in
     (planned.0, subst (IsPlanBy wire) (sym plan_is) planned.1, count)
 
--- the ports that the system chose, of as many devices as there are rows
-pub free_of : (zero : Bool) (count rows : ℕ) (given ports : List ℕ) → count ≡ rows → given ≡ ports
-    → AreFree zero count ports → AreFree zero rows given
-free_of zero count rows given ports same is free =
-    subst (AreFree zero rows) (sym is) (subst (λ n. AreFree zero n ports) same free)
+-- the ports that the system chose, of these
+pub same_free : (zero : Bool) (bound copied given ports : List ℕ) → given ≡ ports → copied ≡ bound
+    → ports ≡ free_ports zero copied → given ≡ free_ports zero bound
+same_free zero bound copied given ports is same free = is ∙ free ∙ ap (free_ports zero) same
 
 pub held_done : (before after : World) (asked : AskedFleet) (terminal : Bool) (part : Scenario) (place : SocketAddr)
-    (ports : List ℕ) (quit : Bool) (r : Result Status Refusal) → AreFree (asked.port == 0) (length part.rows) ports
-    → IfOk r (IsSessionDone before after asked terminal part place ports quit)
-    → IfOk r (IsHeldDone before after asked terminal part place)
-held_done before after asked terminal part place ports quit (Err e) free done = tt
-held_done before after asked terminal part place ports quit (Ok status) free done = (ports, free, quit, done)
+    (ports free : List ℕ) (quit : Bool) (r : Result Status Refusal) → free ≡ free_ports (asked.port == 0) ports
+    → IfOk r (IsSessionDone before after asked terminal part place free quit)
+    → IfOk r (IsHeldDone before after asked terminal part place ports)
+held_done before after asked terminal part place ports free quit (Err e) are done = tt
+held_done before after asked terminal part place ports free quit (Ok status) are done =
+    (quit, subst (λ ps. IsSessionDone before after asked terminal part place ps quit status) are done)
 
 pub held_broken : (files : FilesKnown) (streams : StreamFaults) (before after : Streams) (asked : AskedFleet)
-    (terminal : Bool) (part : Scenario) (place : SocketAddr) (ports : List ℕ) (quit : Bool) (r : Result Status Refusal)
-    → AreFree (asked.port == 0) (length part.rows) ports
-    → IfErr r (λ e. IsSessionFault files streams before after asked terminal part place ports quit e.fault)
-    → IfErr r (λ e. IsHeldFault files streams before after asked terminal part place e.fault)
-held_broken files streams before after asked terminal part place ports quit (Ok status) free why = tt
-held_broken files streams before after asked terminal part place ports quit (Err e) free why =
-    inr (ports, free, quit, why)
-
-pub no_room : (files : FilesKnown) (streams : StreamFaults) (before after : Streams) (asked : AskedFleet)
-    (terminal : Bool) (part : Scenario) (place : SocketAddr) (fault : Fault) → fault ≡ faults.Memory
-    → after.output ≡ before.output → after.errors ≡ before.errors
-    → IsHeldFault files streams before after asked terminal part place fault
-no_room files streams before after asked terminal part place fault memory silent untold = inl (memory, (silent, untold))
+    (terminal : Bool) (part : Scenario) (place : SocketAddr) (ports free : List ℕ) (quit : Bool)
+    (r : Result Status Refusal) → free ≡ free_ports (asked.port == 0) ports
+    → IfErr r (λ e. IsSessionFault files streams before after asked terminal part place free quit e.fault)
+    → IfErr r (λ e. IsHeldFault files streams before after asked terminal part place ports e.fault)
+held_broken files streams before after asked terminal part place ports free quit (Ok status) are why = tt
+held_broken files streams before after asked terminal part place ports free quit (Err e) are why =
+    inr (
+      quit,
+      subst (λ ps. IsSessionFault files streams before after asked terminal part place ps quit e.fault) are why,
+    )
 
 -- ---- the command
 
 pub fleet_done : (files : FilesKnown) (before after : World) (asked : AskedFleet) (terminal : Bool) (part : Scenario)
-    (place : SocketAddr) (r : Result Status Refusal) → AreReady files asked part place
-    → IfOk r (IsHeldDone before after asked terminal part place)
+    (place : SocketAddr) (ports : List ℕ) (r : Result Status Refusal) → AreReady files asked part place
+    → length ports ≡ length part.rows → IfOk r (IsHeldDone before after asked terminal part place ports)
     → IfOk r (IsFleetDone files before after asked terminal)
-fleet_done files before after asked terminal part place (Err e) there done = tt
-fleet_done files before after asked terminal part place (Ok status) there done =
-    record { part = part; place = place; ready = there; done = done }
+fleet_done files before after asked terminal part place ports (Err e) there each done = tt
+fleet_done files before after asked terminal part place ports (Ok status) there each done =
+    record { part = part; place = place; ready = there; ports = ports; each = each; done = done }
 
 pub fleet_broken : (files : FilesKnown) (streams : StreamFaults) (before after : Streams) (asked : AskedFleet)
-    (terminal : Bool) (part : Scenario) (place : SocketAddr) (r : Result Status Refusal)
-    → AreReady files asked part place
-    → IfErr r (λ e. IsHeldFault files streams before after asked terminal part place e.fault)
+    (terminal : Bool) (part : Scenario) (place : SocketAddr) (ports : List ℕ) (r : Result Status Refusal)
+    → AreReady files asked part place → length ports ≡ length part.rows
+    → IfErr r (λ e. IsHeldFault files streams before after asked terminal part place ports e.fault)
     → IfErr r (λ e. IsFleetFault files streams before after asked terminal e.fault)
-fleet_broken files streams before after asked terminal part place (Ok status) there why = tt
-fleet_broken files streams before after asked terminal part place (Err e) there why =
-    inr (record { part = part; place = place; ready = there; why = why })
+fleet_broken files streams before after asked terminal part place ports (Ok status) there each why = tt
+fleet_broken files streams before after asked terminal part place ports (Err e) there each why =
+    inr (record { part = part; place = place; ready = there; ports = ports; each = each; why = why })

@@ -1,20 +1,14 @@
--- Ports that let go of what was kept to count datagrams tell what they told; rows are repeated that were to be.
-use Rattle.std.proofs.Common.{ℕ, ◌≡◌, ◌<◌, ◌++◌, ◌∙◌, Bool, List, [], Option, Some, ap, append-nil, get_or, length, refl, slice_get}
-use Rattle.std.proofs.Common.{subst, sym}
+-- Ports of which something was taken tell what they told; rows are repeated that were to be.
+use Rattle.std.proofs.Common.{ℕ, ◌≡◌, ◌<◌, ◌∙◌, Bool, List, Option, ap, get_or, length, slice_get, subst, sym}
 use Rattle.std.proofs.lemmas.Option.{slice_get-get_or, slice_get_within}
 use Rattle.scenario_image.specs.Scenario.{Scenario}
 use Rattle.fleet_link.specs.declared.slot.Slot.{Slot}
 use Rattle.fleet_link.specs.Serving.{repeats_in, AreRepeated, IsFleet, IsRowServed}
 use Rattle.fleet_link.specs.Timing.{AreAsked}
 use Rattle.fleet_link.specs.Traffic.{Traffic}
-use Rattle.fleet_link.specs.Counting.{AreCountsOf}
-use Rattle.fleet_link.specs.declared.udp.Counts.{Counts}
-use Rattle.fleet_wire.specs.declared.happened.Happened.{Happened}
 use Rattle.fleet_wire.specs.declared.note.Note.{Note}
-use Rattle.fleet_wire.specs.Happened.{happened_in}
-use Rattle.fleet_wire.specs.Over.{Fixed, IsOverWire}
-use Rattle.command_fleet.specs.declared.counted.Account.{Account}
-use Rattle.command_fleet.specs.Wires.{IsAccount, Wired}
+use Rattle.fleet_lines.specs.declared.counted.Account.{Account}
+use Rattle.fleet_lines.specs.Counting.{IsAccount, Wired}
 
 pub fleet_as : (s : Scenario) (played : Bool) (before : ℕ → Option Traffic) (slots : List Slot) (now : ℕ)
     (broken : Bool) (told same : ℕ → Option Traffic) → ((e : ℕ) → same e ≡ told e)
@@ -41,27 +35,6 @@ pub asked_as : (rb ra ab told same : Option (List ℕ)) (first : Option ℕ) (no
     → AreAsked rb ra ab told first now calls → AreAsked rb ra ab same first now calls
 asked_as rb ra ab told same first now calls is h = subst (λ a. AreAsked rb ra ab a first now calls) (sym is) h
 
-pub account_as : (was wire : Option Wired) (told : ℕ → Option Traffic) (account : Account) → wire ≡ was
-    → IsAccount wire told account → IsAccount was told account
-account_as was wire told account same h = subst (λ w. IsAccount w told account) same h
-
--- the wire is what is fixed of ports on it
-abbrev pub wire_in : Fixed → Option Wired
-wire_in fixed = Some (record { plan = fixed.plan; devices = fixed.devices })
-
-pub same_wire : (a b : Fixed) → a ≡ b → wire_in a ≡ wire_in b
-same_wire a b same = ap wire_in same
-
--- what is counted on a wire, all notes of which were taken
-pub wired_account : (wired : Wired) (taken items : List Note) (carried near : ℕ → Traffic) (told : ℕ → Option Traffic)
-    (counts : Counts) (happened : Happened) → items ≡ [] → AreCountsOf (λ e. Some (carried e)) counts
-    → ((e : ℕ) → told e ≡ Some (near e)) → ∥ IsOverWire wired.plan wired.devices (taken ++ items) carried near ∥₁
-    → happened ≡ happened_in taken
-    → IsAccount (Some wired) told (record { counts = counts; happened = Some happened })
-wired_account wired taken items carried near told counts happened none counted are over same = record {
-  carried = λ e. Some (carried e);
-  counted = counted;
-  notes = taken ++ items;
-  made = record { below = carried; below_is = λ e. refl; near = near; near_is = are; over = over };
-  happened = ap Some (same ∙ ap happened_in (sym (ap (λ ns. taken ++ ns) none ∙ append-nil taken)));
-}
+pub account_as : (was wire : Option Wired) (told : ℕ → Option Traffic) (notes : List Note) (account : Account)
+    → wire ≡ was → IsAccount wire told notes account → IsAccount was told notes account
+account_as was wire told notes account same h = subst (λ w. IsAccount w told notes account) same h

@@ -18,6 +18,12 @@ use Rattle.fleet_link.specs.Saved.{IsSaved}
 use Rattle.fleet_link.specs.Serving.{AreAt, AreRepeated, IsFleet}
 use Rattle.fleet_link.specs.Timing.{second_of}
 use Rattle.fleet_link.specs.Traffic.{Traffic, no_traffic}
+use Rattle.fleet_wire.specs.declared.note.Note.{Note}
+use Rattle.fleet_wire.specs.Over.{new_ports}
+use Rattle.fleet_lines.specs.declared.counted.Account.{Account}
+use Rattle.fleet_lines.specs.declared.shown.Shown.{Shown}
+use Rattle.fleet_lines.specs.Counting.{IsAccount, Wired}
+use Rattle.fleet_lines.specs.Shown.{AreShown}
 use Rattle.fleet_wire.specs.declared.happened.Happened.{Happened}
 use Rattle.scenario_words.specs.Words.{ended_line}
 use Rattle.command_files.specs.Fault.{IsReadingFault, IsWritingFault}
@@ -29,14 +35,13 @@ use Rattle.command_files.specs.declared.fault.Fault.TheVariants as faults
 use Rattle.command_files.specs.declared.status.Status.{Status}
 use Rattle.command_files.specs.declared.status.Status.TheVariants as ends
 use Rattle.command_sources.specs.Sources.{IsNoScenario, IsScenarioOf}
-use Rattle.command_fleet.specs.declared.counted.Account.{Account}
 use Rattle.command_fleet.specs.declared.devices.Devices.{Devices}
 use Rattle.command_fleet.specs.declared.telling.Telling.{Telling}
 use Rattle.command_fleet.specs.Devices.{AreChosen, IsPart}
 use Rattle.command_fleet.specs.InJson.{done_json, port_json, ready_json}
 use Rattle.command_fleet.specs.Servers.{AreServers}
 use Rattle.command_fleet.specs.Telling.{AreTold, IsCut, telling_of}
-use Rattle.command_fleet.specs.Wires.{IsAccount, IsNoPlan, IsWireBy, Wired}
+use Rattle.command_fleet.specs.Wires.{IsNoPlan, IsWireBy}
 use Rattle.trace_json.specs.Writing.{json_line}
 
 -- ---- devices that are served
@@ -58,15 +63,28 @@ pub record IsEndless (second : ℕ) : Type 0 where
   pub many : 18446744073709551615 ≤ length readings
   pub second_is : second ≡ second_of readings
 
+-- where datagrams are shown, these are all that devices received and sent; where they are not, there are none
+abbrev pub IsShownIf : Bool → (ℕ → Option Traffic) → List Shown → Type 0
+IsShownIf false told shown = shown ≡ []
+IsShownIf true told shown = AreShown new_ports told shown
+
+-- ports begin to be shown when nothing has gone through them yet, or are not shown
+abbrev pub IsShownFrom : Bool → Option (ℕ → Option Traffic) → Type 0
+IsShownFrom false began = began ≡ None
+IsShownFrom true None = ⊥
+IsShownFrom true (Some began) = (e : ℕ) → began e ≡ Some no_traffic
+
 -- The devices of a scenario were served, each from the start of its class to the end of the session, at ports that were
--- new, with this wire on them or with none, and whose datagrams were counted; their rows were played, or were not. The
--- session has at least these seconds, unless it was asked to end.
-pub record IsServed (s : Scenario) (played repeat : Bool) (seconds : Option ℕ) (quit : Bool) (wire : Option Wired)
-    (session : Session) : Type 0 where
+-- new, with this wire on them or with none, and whose datagrams were counted; these are the notes of the wire, and the
+-- datagrams that are shown. The devices' rows were played, once or over and over, or were not. The session has at least
+-- these seconds, unless it was asked to end.
+pub record IsServed (s : Scenario) (played repeat show : Bool) (seconds : Option ℕ) (quit : Bool)
+    (wire : Option Wired) (notes : List Note) (shown : List Shown) (session : Session) : Type 0 where
   pub before : ℕ → Option Traffic
   pub new : (e : ℕ) → before e ≡ Some no_traffic
   pub after : ℕ → Option Traffic
-  pub counted : IsAccount wire after session.account
+  pub counted : IsAccount wire after notes session.account
+  pub shown_are : ∥ IsShownIf show after shown ∥₁
   pub fleet : IsFleet s played before session.slots session.second false after
   pub repeated : AreRepeated session.slots (played && repeat)
   pub finished : AreAt session.slots (length session.slots) session.second
@@ -118,10 +136,10 @@ ports_text json device (port ∷ ports) = port_text json device port ++ ports_te
 abbrev pub opening_text : Bool → ℕ → SocketAddr → List ℕ → List ℕ
 opening_text json devices place ports = ready_text json devices place ++ ports_text json 0 ports
 
--- the ports that the system chose: one of each device, if the port that is asked for is 0, and none otherwise
-abbrev pub AreFree : Bool → ℕ → List ℕ → Type 0
-AreFree true devices ports = length ports ≡ devices
-AreFree false devices ports = ports ≡ []
+-- of the ports of devices those that the system chose: all, if the port that is asked for is 0, and none otherwise
+abbrev pub free_ports : Bool → List ℕ → List ℕ
+free_ports true ports = ports
+free_ports false ports = []
 
 -- the devices that are asked for are there, with the steps that are to be played, the first of them at this place
 pub record AreReady (files : FilesKnown) (asked : AskedFleet) (part : Scenario) (place : SocketAddr) : Type 0 where
@@ -242,8 +260,8 @@ IsUnconcluded files faults before after asked session fault =
 abbrev pub telling_for : AskedFleet → Bool → Scenario → Telling
 telling_for asked terminal part = telling_of asked.json terminal (length part.rows)
 
--- it was told that the devices are there; then they were served, and each second was told; and then the session was
--- concluded, of which standard error heard nothing
+-- it was told that the devices are there; then they were served, and each second was told, with what the wire did and
+-- the datagrams that are shown; and then the session was concluded, of which standard error heard nothing
 pub record IsSessionDone (before after : World) (asked : AskedFleet) (terminal : Bool) (part : Scenario)
     (place : SocketAddr) (ports : List ℕ) (quit : Bool) (status : Status) : Type 0 where
   pub first : Streams
@@ -251,9 +269,11 @@ pub record IsSessionDone (before after : World) (asked : AskedFleet) (terminal :
   pub wire : Option Wired
   pub wire_is : IsWireBy asked.wire (length part.rows) wire
   pub session : Session
-  pub served : IsServed part asked.play asked.repeat asked.seconds quit wire session
+  pub notes : List Note
+  pub shown : List Shown
+  pub served : IsServed part asked.play asked.repeat asked.show asked.seconds quit wire notes shown session
   pub last : Streams
-  pub told : AreTold (telling_for asked terminal part) session.second first last
+  pub told : AreTold (telling_for asked terminal part) notes shown session.second first last
   pub concluded : IsConcluded (record { made = before.made; streams = last }) after asked part session status
   pub quiet : after.streams.errors ≡ last.errors
 
@@ -282,9 +302,11 @@ pub record IsSessionLost (files : FilesKnown) (streams : StreamFaults) (before a
     pub wire : Option Wired
     pub wire_is : IsWireBy asked.wire (length part.rows) wire
     pub session : Session
-    pub served : IsServed part asked.play asked.repeat asked.seconds quit wire session
+    pub notes : List Note
+    pub shown : List Shown
+    pub served : IsServed part asked.play asked.repeat asked.show asked.seconds quit wire notes shown session
     pub last : Streams
-    pub told : AreTold (telling_for asked terminal part) session.second first last
+    pub told : AreTold (telling_for asked terminal part) notes shown session.second first last
     pub why : IsUnconcluded files streams last after asked session fault
     pub quiet : after.errors ≡ last.errors
 
@@ -295,29 +317,32 @@ IsSessionFault files streams before after asked terminal part place ports quit f
     ⊎ (IsSessionCut streams before after asked terminal part place ports fault
     ⊎ IsSessionLost files streams before after asked terminal part place ports quit fault)
 
--- the same, of devices at ports of which the system chose some, or none; the session was asked to end, or was not
-abbrev pub IsHeldDone : World → World → AskedFleet → Bool → Scenario → SocketAddr → Status → Type 0
-IsHeldDone before after asked terminal part place status =
-    (ports : List ℕ) × AreFree (asked.port == 0) (length part.rows) ports × (quit : Bool)
-    × IsSessionDone before after asked terminal part place ports quit status
+-- the same, of devices at these ports, which the system chose or not; the session was asked to end, or was not
+abbrev pub IsHeldDone : World → World → AskedFleet → Bool → Scenario → SocketAddr → List ℕ → Status → Type 0
+IsHeldDone before after asked terminal part place ports status =
+    (quit : Bool)
+    × IsSessionDone before after asked terminal part place (free_ports (asked.port == 0) ports) quit status
 
 -- there was no memory for a session, or it has a fault
 abbrev pub IsHeldFault : FilesKnown → StreamFaults → Streams → Streams → AskedFleet → Bool → Scenario → SocketAddr
-    → Fault → Type 0
-IsHeldFault files streams before after asked terminal part place fault =
+    → List ℕ → Fault → Type 0
+IsHeldFault files streams before after asked terminal part place ports fault =
     ((fault ≡ faults.Memory) × IsSilent before after)
-    ⊎ ((ports : List ℕ) × AreFree (asked.port == 0) (length part.rows) ports × (quit : Bool)
-    × IsSessionFault files streams before after asked terminal part place ports quit fault)
+    ⊎ ((quit : Bool)
+    × IsSessionFault files streams before after asked terminal part place (free_ports (asked.port == 0) ports) quit
+    fault)
 
 -- ---- the command
 
--- the devices are there, and have a session, which standard input asked to end, or did not
+-- the devices are there, each at a port of its own, and have a session, which standard input asked to end, or did not
 pub record IsFleetDone (files : FilesKnown) (before after : World) (asked : AskedFleet) (terminal : Bool)
     (status : Status) : Type 0 where
   pub part : Scenario
   pub place : SocketAddr
   pub ready : AreReady files asked part place
-  pub done : IsHeldDone before after asked terminal part place status
+  pub ports : List ℕ
+  pub each : length ports ≡ length part.rows
+  pub done : IsHeldDone before after asked terminal part place ports status
 
 -- the scenario has no such devices; or it has, and the address is none, a server is wrong, their ports could not be had
 -- or a word for datagrams says no choice; or no memory was left
@@ -345,13 +370,15 @@ pub record IsNoSession (files : FilesKnown) (before after : Streams) (asked : As
   pub silent : after.output ≡ before.output
   pub untold : after.errors ≡ before.errors
 
--- the devices are there, and their session has a fault
+-- the devices are there, each at a port of its own, and their session has a fault
 pub record IsSessionBroken (files : FilesKnown) (streams : StreamFaults) (before after : Streams) (asked : AskedFleet)
     (terminal : Bool) (fault : Fault) : Type 0 where
   pub part : Scenario
   pub place : SocketAddr
   pub ready : AreReady files asked part place
-  pub why : IsHeldFault files streams before after asked terminal part place fault
+  pub ports : List ℕ
+  pub each : length ports ≡ length part.rows
+  pub why : IsHeldFault files streams before after asked terminal part place ports fault
 
 abbrev pub IsFleetFault : FilesKnown → StreamFaults → Streams → Streams → AskedFleet → Bool → Fault → Type 0
 IsFleetFault files streams before after asked terminal fault =

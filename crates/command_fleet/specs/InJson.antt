@@ -7,7 +7,7 @@ use Rattle.serde_json.specs.Data.{Data, string}
 use Rattle.trace_json.specs.Json.{Field, number_json, object_json}
 use Rattle.fleet_link.specs.declared.udp.Counts.{Counts}
 use Rattle.fleet_wire.specs.declared.happened.Happened.{Happened}
-use Rattle.command_fleet.specs.declared.counted.Account.{Account}
+use Rattle.fleet_lines.specs.declared.counted.Account.{Account}
 
 -- the ports of n devices are there, the first of them at this place
 unfoldable pub ready_json : ℕ → SocketAddr → Data

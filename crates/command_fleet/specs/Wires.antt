@@ -1,18 +1,12 @@
--- A wire between devices and their ports, as words ask for it; and what is counted of a session on it.
+-- A wire between devices and their ports, as words ask for it.
 use Rattle.std.specs.Prelude.{◌≡◌, ◌⊎◌, ◌||◌, ℕ, Bool, false, true, is_some, List, Option, None, Some, option_map}
 use Rattle.command_line.specs.declared.wire_words.AskedWire.{AskedWire}
-use Rattle.fleet_link.specs.Counting.{AreCountsOf}
-use Rattle.fleet_link.specs.Traffic.{Traffic}
 use Rattle.fleet_wire.specs.declared.choice.Choice.{Choice}
 use Rattle.fleet_wire.specs.declared.choice.Choice.TheVariants.{Never}
-use Rattle.fleet_wire.specs.declared.happened.Happened.{Happened}
-use Rattle.fleet_wire.specs.declared.note.Note.{Note}
 use Rattle.fleet_wire.specs.declared.plan.Plan.{Plan}
 use Rattle.fleet_wire.specs.declared.reading.ChoiceFault.{ChoiceFault}
-use Rattle.fleet_wire.specs.Happened.{happened_in}
-use Rattle.fleet_wire.specs.Over.{IsOverWire}
 use Rattle.fleet_wire.specs.Reading.{IsRefused, IsSaid}
-use Rattle.command_fleet.specs.declared.counted.Account.{Account}
+use Rattle.fleet_lines.specs.Counting.{Wired}
 
 -- ---- what words ask for
 
@@ -56,41 +50,8 @@ IsNoPlan wire =
 
 -- ---- the wire of a session
 
--- a wire with this plan, for n devices
-pub record Wired : Type 0 where
-  pub plan : Plan
-  pub devices : ℕ
-
 -- the words ask for this wire between n devices and their ports, or for none
 abbrev pub IsWireBy : AskedWire → ℕ → Option Wired → Type 0
 IsWireBy wire devices None = is_wired wire ≡ false
 IsWireBy wire devices (Some wired) =
     (is_wired wire ≡ true) × IsPlanBy wire wired.plan × (wired.devices ≡ devices)
-
--- The ports carried this, and the devices received and sent that: it is what the wire made of the one by its plan; and
--- these are its notes.
-pub record IsMadeBy (wired : Wired) (notes : List Note) (carried told : ℕ → Option Traffic) : Type 0 where
-  pub below : ℕ → Traffic
-  pub below_is : (e : ℕ) → carried e ≡ Some (below e)
-  pub near : ℕ → Traffic
-  pub near_is : (e : ℕ) → told e ≡ Some (near e)
-  pub over : ∥ IsOverWire wired.plan wired.devices notes below near ∥₁
-
--- without a wire the devices received and sent what the ports carried
-abbrev pub IsMadeOf : Option Wired → List Note → (ℕ → Option Traffic) → (ℕ → Option Traffic) → Type 0
-IsMadeOf None notes carried told = (e : ℕ) → told e ≡ carried e
-IsMadeOf (Some wired) notes carried told = IsMadeBy wired notes carried told
-
--- how often a wire did what, by its notes
-abbrev pub happened_on : Option Wired → List Note → Option Happened
-happened_on None notes = None
-happened_on (Some wired) notes = Some (happened_in notes)
-
--- what is counted of devices that received and sent this: the datagrams that the ports carried, and what happened to
--- them on the wire
-pub record IsAccount (wire : Option Wired) (told : ℕ → Option Traffic) (account : Account) : Type 0 where
-  pub carried : ℕ → Option Traffic
-  pub counted : AreCountsOf carried account.counts
-  pub notes : List Note
-  pub made : IsMadeOf wire notes carried told
-  pub happened : account.happened ≡ happened_on wire notes

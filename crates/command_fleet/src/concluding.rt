@@ -10,12 +10,12 @@ ghost use Rattle.command_fleet.specs.Fleet.{IsConcluded, IsSaveFault, IsSavedAt,
 ghost use Rattle.command_fleet.specs.Fleet.{IsUnsaved, counted_line, counts_words, cut_of, cut_words, done_line};
 ghost use Rattle.command_fleet.specs.Fleet.{happened_words, line_of, status_of, wire_words};
 
-use crate::counted::Account;
 use crate::in_json::done_object;
 use crate::telling::put;
 use command_files::files::Files;
 use command_files::{Fault, NewFile, Output, Refusal, Status, image_file, make};
 use command_line::AskedFleet;
+use fleet_lines::Account;
 use fleet_link::{Counts, Fleet};
 use fleet_wire::Happened;
 use scenario_image::Scenario;

@@ -8,7 +8,7 @@ ghost use Rattle.trace_json.specs.Writing.{Has64Bits, IsReadAgain, fields_tokens
 ghost use Rattle.command_fleet.specs.InJson.{counts_fields, done_json, happened_fields, port_json, ready_json};
 ghost use Rattle.command_fleet.specs.InJson.{second_json, wire_fields};
 
-use crate::counted::Account;
+use fleet_lines::Account;
 use fleet_link::Counts;
 use fleet_wire::Happened;
 use json::Writer;

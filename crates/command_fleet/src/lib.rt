@@ -3,7 +3,6 @@
 
 mod asking;
 mod concluding;
-mod counted;
 mod devices;
 mod in_json;
 mod places;
@@ -17,7 +16,6 @@ mod wires;
 
 pub use asking::Quit;
 pub use concluding::{conclude_session, done_line};
-pub use counted::{Account, Counted};
 pub use devices::{Devices, chosen_devices, part_of};
 pub use in_json::{done_object, port_object, ready_object, second_line};
 pub use places::ready_line;

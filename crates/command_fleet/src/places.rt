@@ -71,18 +71,23 @@ fn words_of(alloc: Global, devices: usize, fault: BindFault) -> Result<Option<St
             "{devices} devices need ports past 65535"
         )?)),
         BindFault::Taken(port) => Ok(Some(format!(in alloc; "port {port} is taken")?)),
-        BindFault::TooManyFiles(port) => {
-            let files = devices.saturating_add(OTHER_FILES);
-            Ok(Some(format!(in alloc;
-                "too many files at port {port}: `ulimit -n {files}` is needed"
-            )?))
-        }
+        BindFault::TooManyFiles(port) => Ok(Some(too_many_files(alloc, devices, port)?)),
+        BindFault::Refused(0) => Ok(Some(String::from_str(alloc, "cannot bind a free port")?)),
         BindFault::Refused(port) => Ok(Some(format!(in alloc; "cannot bind port {port}")?)),
         BindFault::Failed => Ok(Some(String::from_str(
             alloc,
             "the system cannot wait for datagrams",
         )?)),
     }
+}
+
+/// That there are too many files for this port, or, at 0, for one that the system chooses.
+fn too_many_files(alloc: Global, devices: usize, port: u16) -> Result<String, AllocError> {
+    let files = devices.saturating_add(OTHER_FILES);
+    if port == 0 {
+        return format!(in alloc; "too many files: `ulimit -n {files}` is needed");
+    }
+    format!(in alloc; "too many files at port {port}: `ulimit -n {files}` is needed")
 }
 
 /// How many files the program may have open beside the ports.

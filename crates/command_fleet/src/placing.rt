@@ -1,7 +1,7 @@
 //! What is printed of the ports of devices.
-ghost use Rattle.std.specs.Prelude.{◌≡◌, ◌==◌, ◌++◌, IfOk, OnOk, length};
+ghost use Rattle.std.specs.Prelude.{◌≡◌, ◌==◌, ◌++◌, IfOk, OnOk};
 ghost use Rattle.std.specs.String.{string_bytes};
-ghost use Rattle.command_fleet.specs.Fleet.{AreFree, opening_text, port_line, port_text, ports_text, ready_text};
+ghost use Rattle.command_fleet.specs.Fleet.{free_ports, opening_text, port_line, port_text, ports_text, ready_text};
 
 use crate::in_json::{port_object, ready_object};
 use std::alloc::{AllocError, Global};
@@ -9,7 +9,7 @@ use std::net::SocketAddr;
 
 /// The ports that the system chose: a copy of these, if the port that is asked for is 0, and none otherwise.
 pub(crate) fn free_ports(alloc: Global, port: u16, ports: &[u16]) -> Result<Vec<u16>, AllocError>
-    ensures { IfOk result (λ free. AreFree (port == 0) (length ports.now) free.items) }
+    ensures { IfOk result (λ free. free.items ≡ free_ports (port == 0) ports.now) }
 {
     let mut free = Vec::new(alloc);
     if port == 0 {

@@ -1,20 +1,22 @@
 //! Devices of a scenario on ports, for a session.
-ghost use Rattle.std.specs.Prelude.{ℕ, ◌≡◌, ◌+◌, ◌≤◌, ◌⊎◌, ◌&&◌, Bool, Option, None, List, IfErr, IfOk, OnOk, false, length};
+ghost use Rattle.std.specs.Prelude.{ℕ, ◌≡◌, ◌+◌, ◌≤◌, ◌⊎◌, ◌&&◌, [], Bool, Option, None, List, IfErr, IfOk, OnOk, false, length};
 ghost use Rattle.std.specs.Prelude.{slice_get, true};
 ghost use Rattle.scenario_image.specs.Scenario.{Scenario as ScenarioData};
 ghost use Rattle.fleet_link.specs.Serving.{repeats_in, AreAt, AreRepeated, IsFleet};
 ghost use Rattle.fleet_link.specs.Timing.{AreAsked};
 ghost use Rattle.fleet_link.specs.Traffic.{Traffic};
+ghost use Rattle.fleet_wire.specs.declared.note.Note.{Note as NoteData};
+ghost use Rattle.fleet_lines.specs.declared.shown.Shown.{Shown as ShownData};
+ghost use Rattle.fleet_lines.specs.Counting.{AreAllShown, IsAccount};
 ghost use Rattle.command_files.specs.World.{Streams};
 ghost use Rattle.command_fleet.specs.Fleet.{has_passed, IsEndless};
 ghost use Rattle.command_fleet.specs.Telling.{AreTold, IsCut};
-ghost use Rattle.command_fleet.specs.Wires.{IsAccount};
 
 use crate::asking::Quit;
-use crate::counted::{Account, Counted};
-use crate::telling::{Telling, tell_second};
+use crate::telling::{Telling, tell_second, tell_traffic};
 use command_files::{Fault, Output, Refusal};
 use command_line::AskedFleet;
+use fleet_lines::{Account, Counted};
 use fleet_link::{Fleet, FleetFault};
 use live_link::Seconds;
 use scenario_image::Scenario;
@@ -63,7 +65,7 @@ pub struct Served {
     pub account: Account,
 }
 
-/// Whether so many seconds have passed, if a session has a last one.
+/// Whether these seconds have passed, if they are given.
 fn has_passed(seconds: Option<u32>, second: u64) -> bool
     ensures { result ≡ has_passed seconds second }
 {
@@ -73,7 +75,7 @@ fn has_passed(seconds: Option<u32>, second: u64) -> bool
     }
 }
 
-/// Makes a turn of all devices, and tells the second that it comes to, if it is a later one.
+/// Makes a turn of all devices, and tells what went through the ports, and the second that it comes to, if it is later.
 fn turn<'a, P: Counted, C: Seconds, O: Output, E: Output>(
     alloc: Global,
     telling: Telling,
@@ -91,26 +93,27 @@ fn turn<'a, P: Counted, C: Seconds, O: Output, E: Output>(
         (P.asked ports.old) fleet.old.began fleet.old.second calls
         → OnOk result (AreAsked read_before (C.read clock.new) asked_before (P.asked ports.new) fleet.new.began
         fleet.new.second (calls + 1)) }
-    ensures wire { OnOk result (P.wire ports.new ≡ P.wire ports.old) }
+    ensures wire { OnOk result ((P.watched ports.new).wire ≡ (P.watched ports.old).wire) }
+    ensures began { OnOk result ((P.watched ports.new).began ≡ (P.watched ports.old).began) }
     ensures repeats { OnOk result ((e : ℕ) → repeats_in (slice_get fleet.new.slots.items e)
         ≡ repeats_in (slice_get fleet.old.slots.items e)) }
     ensures told { (start : Streams)
-        → AreTold telling fleet.old.second start
+        → AreTold telling (P.watched ports.old).notes (P.watched ports.old).shown fleet.old.second start
         (record { input = None; output = O.taken output.old; errors = E.taken errors.old })
-        → OnOk result (AreTold telling fleet.new.second start
+        → OnOk result (AreTold telling (P.watched ports.new).notes (P.watched ports.new).shown fleet.new.second start
         (record { input = None; output = O.taken output.new; errors = E.taken errors.new })) }
     ensures cut { (start : Streams)
-        → AreTold telling fleet.old.second start
+        → AreTold telling (P.watched ports.old).notes (P.watched ports.old).shown fleet.old.second start
         (record { input = None; output = O.taken output.old; errors = E.taken errors.old })
         → IfErr result (λ r. IsCut telling
         (record { input_fails = ⊥; output_refuses = O.refuses; errors_refuse = E.refuses }) start
         (record { input = None; output = O.taken output.new; errors = E.taken errors.new }) r.fault) }
 {
-    P::wire_is_fixed();
+    P::watched_is_fixed();
     let last = fleet.second();
     match fleet.turn(ports, clock) {
         Ok(()) => {
-            ports.settle();
+            tell_traffic(alloc, telling, ports, output)?;
             tell_if_later(alloc, telling, last, fleet.second(), ports, output, errors)
         }
         Err(fault) => Err(Refusal::from(fault_of(fault))),
@@ -128,13 +131,13 @@ fn tell_if_later<'a, P: Counted, O: Output, E: Output>(
     errors: &mut E,
 ) -> Result<(), Refusal<'a>>
     requires { last ≤ second }
-    ensures told { (start : Streams)
-        → AreTold telling last start
+    ensures told { (start : Streams) (notes : List NoteData) (shown : List ShownData)
+        → AreTold telling notes shown last start
         (record { input = None; output = O.taken output.old; errors = E.taken errors.old })
-        → OnOk result (AreTold telling second start
+        → OnOk result (AreTold telling notes shown second start
         (record { input = None; output = O.taken output.new; errors = E.taken errors.new })) }
-    ensures cut { (start : Streams)
-        → AreTold telling last start
+    ensures cut { (start : Streams) (notes : List NoteData) (shown : List ShownData)
+        → AreTold telling notes shown last start
         (record { input = None; output = O.taken output.old; errors = E.taken errors.old })
         → IfErr result (λ r. IsCut telling
         (record { input_fails = ⊥; output_refuses = O.refuses; errors_refuse = E.refuses }) start
@@ -146,8 +149,8 @@ fn tell_if_later<'a, P: Counted, O: Output, E: Output>(
     tell_second(alloc, telling, second, ports, output, errors)
 }
 
-/// Makes turns until so many seconds of the session have passed, if it has a last one, or until it is asked to end,
-/// `turns` at most, and tells each second that one comes to.
+/// Makes turns until these seconds of the session have passed, if they are given, or until it is asked to end, `turns`
+/// at most, and tells what goes through the ports and each second that a turn comes to.
 fn go_on<'a, P: Counted, C: Seconds, Q: Quit, O: Output, E: Output>(
     alloc: Global,
     telling: Telling,
@@ -169,16 +172,17 @@ fn go_on<'a, P: Counted, C: Seconds, Q: Quit, O: Output, E: Output>(
         → OnOk result ((has_passed seconds fleet.new.second ≡ true) ⊎ ((Q.asked quit.new ≡ true)
         ⊎ AreAsked read_before (C.read clock.new) asked_before (P.asked ports.new) fleet.new.began fleet.new.second
         (calls + turns))) }
-    ensures wire { OnOk result (P.wire ports.new ≡ P.wire ports.old) }
+    ensures wire { OnOk result ((P.watched ports.new).wire ≡ (P.watched ports.old).wire) }
+    ensures began { OnOk result ((P.watched ports.new).began ≡ (P.watched ports.old).began) }
     ensures repeats { OnOk result ((e : ℕ) → repeats_in (slice_get fleet.new.slots.items e)
         ≡ repeats_in (slice_get fleet.old.slots.items e)) }
     ensures told { (start : Streams)
-        → AreTold telling fleet.old.second start
+        → AreTold telling (P.watched ports.old).notes (P.watched ports.old).shown fleet.old.second start
         (record { input = None; output = O.taken output.old; errors = E.taken errors.old })
-        → OnOk result (AreTold telling fleet.new.second start
+        → OnOk result (AreTold telling (P.watched ports.new).notes (P.watched ports.new).shown fleet.new.second start
         (record { input = None; output = O.taken output.new; errors = E.taken errors.new })) }
     ensures cut { (start : Streams)
-        → AreTold telling fleet.old.second start
+        → AreTold telling (P.watched ports.old).notes (P.watched ports.old).shown fleet.old.second start
         (record { input = None; output = O.taken output.old; errors = E.taken errors.old })
         → IfErr result (λ r. IsCut telling
         (record { input_fails = ⊥; output_refuses = O.refuses; errors_refuse = E.refuses }) start
@@ -196,9 +200,10 @@ fn go_on<'a, P: Counted, C: Seconds, Q: Quit, O: Output, E: Output>(
     Ok(())
 }
 
-/// All devices of a scenario are served on these ports, for the seconds that are asked for by this clock or until the
-/// session is asked to end, and each second that a turn comes to is told. Their rows are played, once or over and over,
-/// and their steps recorded, if that is asked for. What went through the ports is counted.
+/// All devices of a scenario are served on these ports, of which nothing was taken yet, for the seconds that are asked
+/// for by this clock or until the session is asked to end. Each second that a turn comes to is told, and what the wire
+/// did and what devices received and sent, as far as the ports show it. The devices' rows are played, once or over and
+/// over, and their steps recorded, if that is asked for. What went through the ports is counted.
 #[tactic(auto, using(crate::proofs::Told::cut_at_start))]
 pub fn serve_part<'a, P: Counted, C: Seconds, Q: Quit, O: Output, E: Output>(
     alloc: Global,
@@ -211,14 +216,20 @@ pub fn serve_part<'a, P: Counted, C: Seconds, Q: Quit, O: Output, E: Output>(
     output: &mut O,
     errors: &mut E,
 ) -> Result<Served, Refusal<'a>>
+    requires no_notes { (P.watched ports.old).notes ≡ [] }
+    requires none_shown { (P.watched ports.old).shown ≡ [] }
     ensures fleet { IfOk result (λ r. IsFleet part.now asked.now.play (P.told ports.old) r.fleet.slots.items
         r.fleet.second false (P.told ports.new)) }
     ensures finished { IfOk result (λ r. AreAt r.fleet.slots.items (length r.fleet.slots.items) r.fleet.second) }
     ensures ended { IfOk result (λ r. (has_passed asked.now.seconds r.fleet.second ≡ true)
         ⊎ ((Q.asked quit.new ≡ true) ⊎ IsEndless r.fleet.second)) }
-    ensures account { IfOk result (λ r. IsAccount (P.wire ports.old) (P.told ports.new) r.account) }
+    ensures account { IfOk result (λ r. IsAccount (P.watched ports.old).wire (P.told ports.new)
+        (P.watched ports.new).notes r.account) }
+    ensures shown { OnOk result (∥ AreAllShown (P.watched ports.old).began (P.told ports.new)
+        (P.watched ports.new).shown ∥₁) }
     ensures repeated { IfOk result (λ r. AreRepeated r.fleet.slots.items (asked.now.play && asked.now.repeat)) }
-    ensures told { IfOk result (λ r. AreTold telling r.fleet.second
+    ensures told { IfOk result (λ r. AreTold telling (P.watched ports.new).notes (P.watched ports.new).shown
+        r.fleet.second
         (record { input = None; output = O.taken output.old; errors = E.taken errors.old })
         (record { input = None; output = O.taken output.new; errors = E.taken errors.new })) }
     ensures cut { IfErr result (λ r. IsCut telling
@@ -239,11 +250,12 @@ pub fn serve_part<'a, P: Counted, C: Seconds, Q: Quit, O: Output, E: Output>(
         output,
         errors,
     )?;
-    P::wire_is_fixed();
+    P::watched_is_fixed();
     match fleet.finish(ports) {
         Ok(()) => {}
         Err(fault) => return Err(Refusal::from(fault_of(fault))),
     }
+    tell_traffic(alloc, telling, ports, output)?;
     match ports.account() {
         Some(account) => Ok(Served { fleet, account }),
         None => Err(Refusal::from(Fault::Memory)),

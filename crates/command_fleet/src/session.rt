@@ -1,14 +1,13 @@
 //! `fleet FILE PORT ..`: devices on UDP.
-ghost use Rattle.std.specs.Prelude.{ℕ, ◌≡◌, None, Some, IfErr, OnErr, IfOk, length};
+ghost use Rattle.std.specs.Prelude.{ℕ, ◌≡◌, ◌==◌, [], None, Some, IfErr, OnErr, IfOk, length};
 ghost use Rattle.fleet_link.specs.Traffic.{no_traffic};
 ghost use Rattle.fleet_link.specs.Udp.{ports_over_udp, told_over_udp};
 ghost use Rattle.command_fleet.specs.Fleet.{IsFleetDone, IsFleetFault, IsHeldDone, IsHeldFault, IsSessionDone};
-ghost use Rattle.command_fleet.specs.Fleet.{IsSessionFault};
+ghost use Rattle.command_fleet.specs.Fleet.{IsSessionFault, IsShownFrom};
 ghost use Rattle.command_fleet.specs.Wires.{IsPlanned, IsWireBy};
 
 use crate::asking::{Quit, StandardInput};
 use crate::concluding::conclude_session;
-use crate::counted::Counted;
 use crate::devices::{chosen_devices, part_of};
 use crate::places::{place_of, ports_at, tell_ready};
 use crate::placing::free_ports;
@@ -20,6 +19,7 @@ use command_files::files::Files;
 use command_files::{Fault, Output, Refusal, Status, Why};
 use command_line::AskedFleet;
 use command_sources::load_source;
+use fleet_lines::{Counted, ShownPorts};
 use fleet_link::UdpPorts;
 use fleet_wire::{Plan, WiredPorts};
 use live_link::{MachineClock, Seconds};
@@ -30,13 +30,16 @@ use std::net::{Net, SocketAddr};
 use std::rt::Clock;
 
 /// The devices of a scenario that are asked for are served, each from the start of its class, at UDP ports, with a wire
-/// on them if words ask for one, and by the machine's clock; their rows are played, if that is asked for. Once their
-/// ports are there, exactly the line that says so goes to standard error. Each second that comes is told as a line
-/// there, if that is a terminal. The session ends after the seconds that are asked for, if they are, or when standard
-/// input asks for it. Then exactly the line of the session is printed. If JSON is asked for, exactly an object that
-/// says that the ports are there is printed in their place, one of each second, and one of the end. Then, if there is a
-/// path, the image, in version 2, of the scenario whose rows have the devices' steps is made there. The status tells of
-/// datagrams that were dropped or lost, if that is asked for. Of what standard input has nothing is said.
+/// on them if words ask for one, and by the machine's clock; their rows are played, once or over and over, if that is
+/// asked for. Once their ports are there, exactly the line that says so goes to standard error, and where the system
+/// chose them a line for each is printed. Each second that comes is told as a line on standard error, if that is a
+/// terminal. What the wire does with a datagram is printed as a line, and, if that is asked for, so is each datagram
+/// that a device receives or sends. The session ends after the seconds that are asked for, if they are, or when
+/// standard input asks for it. Then exactly the line of the session is printed. If JSON is asked for, exactly objects
+/// are printed in the place of these lines: that the ports are there, each of them that the system chose, each second,
+/// what goes through the ports, and the end. Then, if there is a path, the image, in version 2, of the scenario whose
+/// rows have the devices' steps is made there. The status tells of datagrams that were dropped or lost, if that is
+/// asked for. Of what standard input has nothing is said.
 #[tactic(auto, using(crate::proofs::Sessions::source_refused, crate::proofs::Sessions::devices_missing, crate::proofs::Sessions::part_refused, crate::proofs::Sessions::place_refused, crate::proofs::Sessions::plan_refused, crate::proofs::Sessions::servers_refused, crate::proofs::Sessions::ports_refused))]
 pub fn fleet<'a, R: Net + Clock + Input, F: Files, O: Output, E: Output>(
     rt: &R,
@@ -99,7 +102,6 @@ fn hold_on<'a, R: Net + Clock + Input, F: Files, O: Output, E: Output>(
     errors: &mut E,
 ) -> Result<Status, Refusal<'a>>
     requires new { (e : ℕ) → told_over_udp ports e ≡ Some no_traffic }
-    requires count { length (ports_over_udp ports) ≡ length part.now.rows }
     requires planned { IsPlanned asked.now.wire plan }
     ensures done { IfOk result (IsHeldDone
         (record {
@@ -110,28 +112,27 @@ fn hold_on<'a, R: Net + Clock + Input, F: Files, O: Output, E: Output>(
           made = F.made files.new;
           streams = record { input = None; output = O.taken output.new; errors = E.taken errors.new };
         })
-        asked.now terminal part.now place) }
+        asked.now terminal part.now place (ports_over_udp ports)) }
     ensures kept { OnErr result (F.made files.new ≡ F.made files.old) }
     ensures refused { IfErr result (λ r. IsHeldFault
         (record { holds = F.holds files.old; fails = F.fails files.old; refuses = F.refuses })
         (record { input_fails = ⊥; output_refuses = O.refuses; errors_refuse = E.refuses })
         (record { input = None; output = O.taken output.old; errors = E.taken errors.old })
         (record { input = None; output = O.taken output.new; errors = E.taken errors.new })
-        asked.now terminal part.now place r.fault) }
+        asked.now terminal part.now place (ports_over_udp ports) r.fault) }
 {
     let free = free_ports(alloc, asked.port, ports.ports())?;
     let mut clock = MachineClock::new(rt);
     let mut quit = StandardInput::new(rt, alloc, asked.seconds.is_none())?;
     match plan {
         None => {
-            let mut ports = ports;
-            hold_session(
+            hold_ports(
                 alloc,
                 asked,
                 terminal,
                 part,
                 place,
-                &mut ports,
+                ports,
                 &mut clock,
                 &mut quit,
                 free.as_slice(),
@@ -141,14 +142,14 @@ fn hold_on<'a, R: Net + Clock + Input, F: Files, O: Output, E: Output>(
             )
         }
         Some(plan) => {
-            let mut wired = WiredPorts::new(alloc, ports, plan, part.rows())?;
-            hold_session(
+            let wired = WiredPorts::new(alloc, ports, plan, part.rows())?;
+            hold_ports(
                 alloc,
                 asked,
                 terminal,
                 part,
                 place,
-                &mut wired,
+                wired,
                 &mut clock,
                 &mut quit,
                 free.as_slice(),
@@ -157,6 +158,59 @@ fn hold_on<'a, R: Net + Clock + Input, F: Files, O: Output, E: Output>(
                 errors,
             )
         }
+    }
+}
+
+/// The session of devices on these ports, which are new, and are shown if that is asked for.
+fn hold_ports<'a, P: Counted + Drop, C: Seconds, Q: Quit, F: Files, O: Output, E: Output>(
+    alloc: Global,
+    asked: &AskedFleet<'a>,
+    terminal: bool,
+    part: &Scenario,
+    place: SocketAddr,
+    ports: P,
+    clock: &mut C,
+    quit: &mut Q,
+    free: &[u16],
+    files: &mut F,
+    output: &mut O,
+    errors: &mut E,
+) -> Result<Status, Refusal<'a>>
+    requires new { (e : ℕ) → P.told ports e ≡ Some no_traffic }
+    requires wire { IsWireBy asked.now.wire (length part.now.rows) (P.watched ports).wire }
+    requires no_notes { (P.watched ports).notes ≡ [] }
+    requires none_shown { (P.watched ports).shown ≡ [] }
+    requires hidden { (P.watched ports).began ≡ None }
+    ensures done { IfOk result (IsSessionDone
+        (record {
+          made = F.made files.old;
+          streams = record { input = None; output = O.taken output.old; errors = E.taken errors.old };
+        })
+        (record {
+          made = F.made files.new;
+          streams = record { input = None; output = O.taken output.new; errors = E.taken errors.new };
+        })
+        asked.now terminal part.now place free.now (Q.asked quit.new)) }
+    ensures kept { OnErr result (F.made files.new ≡ F.made files.old) }
+    ensures refused { IfErr result (λ r. IsSessionFault
+        (record { holds = F.holds files.old; fails = F.fails files.old; refuses = F.refuses })
+        (record { input_fails = ⊥; output_refuses = O.refuses; errors_refuse = E.refuses })
+        (record { input = None; output = O.taken output.old; errors = E.taken errors.old })
+        (record { input = None; output = O.taken output.new; errors = E.taken errors.new })
+        asked.now terminal part.now place free.now (Q.asked quit.new) r.fault) }
+{
+    if asked.show {
+        let mut ports = ShownPorts::new(alloc, ports);
+        hold_session(
+            alloc, asked, terminal, part, place, &mut ports, clock, quit, free, files, output,
+            errors,
+        )
+    } else {
+        let mut ports = ports;
+        hold_session(
+            alloc, asked, terminal, part, place, &mut ports, clock, quit, free, files, output,
+            errors,
+        )
     }
 }
 
@@ -177,7 +231,10 @@ fn hold_session<'a, P: Counted, C: Seconds, Q: Quit, F: Files, O: Output, E: Out
     errors: &mut E,
 ) -> Result<Status, Refusal<'a>>
     requires new { (e : ℕ) → P.told ports.old e ≡ Some no_traffic }
-    requires wire { IsWireBy asked.now.wire (length part.now.rows) (P.wire ports.old) }
+    requires wire { IsWireBy asked.now.wire (length part.now.rows) (P.watched ports.old).wire }
+    requires no_notes { (P.watched ports.old).notes ≡ [] }
+    requires none_shown { (P.watched ports.old).shown ≡ [] }
+    requires began { IsShownFrom asked.now.show (P.watched ports.old).began }
     ensures done { IfOk result (IsSessionDone
         (record {
           made = F.made files.old;

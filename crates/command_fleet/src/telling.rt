@@ -1,19 +1,24 @@
 //! What is told of a session while it goes on.
-ghost use Rattle.std.specs.Prelude.{◌≡◌, None, IfErr, IfOk, OnOk};
+ghost use Rattle.std.specs.Prelude.{◌≡◌, [], ℕ, List, None, Option, IfErr, IfOk, OnOk};
 ghost use Rattle.std.specs.Io.KnownBytes.{Appends};
 ghost use Rattle.std.specs.String.{string_bytes};
 ghost use Rattle.command_files.specs.Fault.{IsWritingFault};
 ghost use Rattle.command_fleet.specs.Fleet.{opening_text};
 ghost use Rattle.command_fleet.specs.InJson.{second_json};
 ghost use Rattle.trace_json.specs.Writing.{json_line};
-ghost use Rattle.command_fleet.specs.Telling.{IsRefused, counts_shown, printed_of, progress_line, shown_line, shown_of};
-ghost use Rattle.command_fleet.specs.Telling.{telling_of};
+ghost use Rattle.command_fleet.specs.Telling.{AreTold, IsSecondRefused, counts_shown, is_json, progress_line};
+ghost use Rattle.command_fleet.specs.Telling.{second_errors, second_output, shown_line, telling_of};
+ghost use Rattle.command_files.specs.World.{Streams};
+ghost use Rattle.fleet_wire.specs.declared.note.Note.{Note as NoteData};
+ghost use Rattle.fleet_lines.specs.declared.shown.Shown.{Shown as ShownData};
+ghost use Rattle.fleet_lines.specs.Traffic.{traffic_text};
 
-use crate::counted::Counted;
 use crate::in_json::second_line;
 use crate::placing::opening;
 use command_files::{Output, Refusal, unwritten};
+use fleet_lines::{Counted, Shown, traffic_text};
 use fleet_link::Counts;
+use fleet_wire::Note;
 use std::alloc::{AllocError, Global};
 use std::net::SocketAddr;
 
@@ -137,10 +142,10 @@ pub(crate) fn tell_second<'a, P: Counted, O: Output, E: Output>(
     errors: &mut E,
 ) -> Result<(), Refusal<'a>>
     ensures printed { OnOk result (Appends (O.taken output.old) (O.taken output.new)
-        (printed_of telling (record { second = second; counts = P.counted ports.now }))) }
+        (second_output telling (record { second = second; counts = P.counted ports.now }))) }
     ensures shown { OnOk result (Appends (E.taken errors.old) (E.taken errors.new)
-        (shown_of telling (record { second = second; counts = P.counted ports.now }))) }
-    ensures refused { IfErr result (λ r. IsRefused telling
+        (second_errors telling (record { second = second; counts = P.counted ports.now }))) }
+    ensures refused { IfErr result (λ r. IsSecondRefused telling
         (record { input_fails = ⊥; output_refuses = O.refuses; errors_refuse = E.refuses })
         (record { second = second; counts = P.counted ports.now })
         (record { input = None; output = O.taken output.old; errors = E.taken errors.old })
@@ -151,6 +156,67 @@ pub(crate) fn tell_second<'a, P: Counted, O: Output, E: Output>(
         Telling::Progress(devices) => show_second(alloc, devices, second, ports.counted(), errors),
         Telling::Objects => print_second(alloc, second, ports.counted(), output),
     }
+}
+
+/// Whether what is told is objects in JSON.
+fn is_json(telling: Telling) -> bool
+    ensures { result ≡ is_json telling }
+{
+    match telling {
+        Telling::Nothing | Telling::Progress(_) => false,
+        Telling::Objects => true,
+    }
+}
+
+/// Prints what a wire did, and what devices received and sent.
+#[tactic(auto, using(crate::proofs::Told::nothing_went))]
+fn print_traffic<'a, O: Output>(
+    alloc: Global,
+    json: bool,
+    notes: &[Note],
+    shown: &[Shown],
+    output: &mut O,
+) -> Result<(), Refusal<'a>>
+    ensures told { OnOk result (Appends (O.taken output.old) (O.taken output.new)
+        (traffic_text json notes.now shown.now)) }
+    ensures refused { IfErr result (λ r. IsWritingFault (O.refuses (traffic_text json notes.now shown.now)) r.fault) }
+{
+    if notes.is_empty() && shown.is_empty() {
+        return Ok(());
+    }
+    let text = traffic_text(alloc, json, notes, shown)?;
+    put(text.as_str(), "standard output", output)
+}
+
+/// Tells what the wire did and what devices received and sent since this was asked last, as far as that is shown.
+pub(crate) fn tell_traffic<'a, P: Counted, O: Output>(
+    alloc: Global,
+    telling: Telling,
+    ports: &mut P,
+    output: &mut O,
+) -> Result<(), Refusal<'a>>
+    ensures same { (e : ℕ) → P.told ports.new e ≡ P.told ports.old e }
+    ensures asked { P.asked ports.new ≡ P.asked ports.old }
+    ensures wire { (P.watched ports.new).wire ≡ (P.watched ports.old).wire }
+    ensures began { (P.watched ports.new).began ≡ (P.watched ports.old).began }
+    ensures none_left { (P.notes_left ports.new ≡ []) × (P.shown_left ports.new ≡ []) }
+    ensures told { (start : Streams) (second : ℕ) (errors : Option (List ℕ))
+        → AreTold telling (P.watched ports.old).notes (P.watched ports.old).shown second start
+        (record { input = None; output = O.taken output.old; errors = errors })
+        → OnOk result (AreTold telling (P.watched ports.new).notes (P.watched ports.new).shown second start
+        (record { input = None; output = O.taken output.new; errors = errors })) }
+    ensures refused { IfErr result (λ r. (notes : List NoteData) × (shown : List ShownData)
+        × IsWritingFault (O.refuses (traffic_text (is_json telling) notes shown)) r.fault) }
+{
+    let notes = ports.new_notes(alloc);
+    let shown = ports.new_shown(alloc);
+    print_traffic(
+        alloc,
+        is_json(telling),
+        notes.as_slice(),
+        shown.as_slice(),
+        output,
+    )
 }
 
 /// Prints which ports the system chose; and first the object that says that the ports are there, if JSON is asked for.

@@ -1,7 +1,7 @@
 use Rattle.std.proofs.Common.{refl, subst}
 use Rattle.command_line.specs.Words.{IsReadAs}
-use Rattle.bench_commands.proofs.Ended.{fleet_lost_if, live_lost_if, lived_if, log_done_if, log_lost_if, served_if}
-use Rattle.bench_commands.proofs.Ended.{text_done_if, text_unprinted_if}
+use Rattle.bench_commands.proofs.Ended.{live_lost_if, lived_if, log_done_if, log_lost_if, text_done_if, text_unprinted_if}
+use Rattle.bench_commands.proofs.Fleets.{fleet_lost_if, served_if}
 use Rattle.bench_commands.proofs.asked.answer_words.Goals as goal
 
 pub returns-in-Live-clause-done : goal.returns-in-Live-clause-done

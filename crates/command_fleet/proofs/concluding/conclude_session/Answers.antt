@@ -1,4 +1,4 @@
-use Rattle.std.proofs.Common.{None, refl, rules}
+use Rattle.std.proofs.Common.{None, rules}
 use Rattle.command_files.specs.World.{FilesKnown, StreamFaults, Streams, World}
 use Rattle.command_fleet.specs.Fleet.{Session}
 use Rattle.command_fleet.proofs.Sessions.{concluded, line_unprinted, steps_unsaved}

@@ -1,4 +1,4 @@
-use Rattle.std.proofs.Common.{◌+◌, ◌≤◌, ◌∙◌, refl, inl, inr, arith}
+use Rattle.std.proofs.Common.{◌+◌, ◌∙◌, refl, arith}
 use Rattle.fleet_link.proofs.Seconds.{asked_less}
 use Rattle.command_fleet.proofs.serving.go_on.Goals as goal
 
@@ -7,6 +7,7 @@ loop-turn-init g c = record {
   fleet = λ s played before h. h;
   asked = λ read_before asked_before calls h. asked_less read_before _ asked_before _ _ _ _ (calls + 0) h (omega arith);
   wire = refl;
+  began = refl;
   repeats = λ e. refl;
   told = λ start h. h;
 }
@@ -20,6 +21,7 @@ loop-turn-preserved g c = record {
       (c.in_ok-turn.ensures.asked read_before asked_before (calls + c.loop-turn._turn)
       (c.loop-turn.invariant.asked read_before asked_before calls h)) (omega arith);
   wire = c.in_ok-turn.ensures.wire ∙ c.loop-turn.invariant.wire;
+  began = c.in_ok-turn.ensures.began ∙ c.loop-turn.invariant.began;
   repeats = λ e. c.in_ok-turn.ensures.repeats e ∙ c.loop-turn.invariant.repeats e;
   told = λ start h. c.in_ok-turn.ensures.told start (c.loop-turn.invariant.told start h);
 }

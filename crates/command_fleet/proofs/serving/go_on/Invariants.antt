@@ -1,4 +1,4 @@
--- All devices are served so far, and each second was told.
+-- All devices are served so far, and what went through and each second were told.
 use Rattle.std.proofs.Common.{ℕ, ◌≡◌, ◌+◌, Bool, List, false, Option, None, slice_get}
 use Rattle.scenario_image.specs.Scenario.{Scenario}
 use Rattle.fleet_link.specs.Serving.{repeats_in, IsFleet}
@@ -17,12 +17,14 @@ invariant-loop-turn g l = record {
       (g.C.Seconds.read l.fn.clock) asked_before (g.P.Ports.asked l.fn.ports) l.fn.fleet.began l.fn.fleet.second calls
       → AreAsked read_before (g.C.Seconds.read l.clock) asked_before (g.P.Ports.asked l.ports) l.fleet.began
       l.fleet.second (calls + l._turn);
-  wire : g.P.Counted.wire l.ports ≡ g.P.Counted.wire l.fn.ports;
+  wire : (g.P.Counted.watched l.ports).wire ≡ (g.P.Counted.watched l.fn.ports).wire;
+  began : (g.P.Counted.watched l.ports).began ≡ (g.P.Counted.watched l.fn.ports).began;
   repeats : (e : ℕ) → repeats_in (slice_get l.fleet.slots.items e)
       ≡ repeats_in (slice_get l.fn.fleet.slots.items e);
   told : (start : Streams)
-      → AreTold l.telling l.fn.fleet.second start
+      → AreTold l.telling (g.P.Counted.watched l.fn.ports).notes (g.P.Counted.watched l.fn.ports).shown
+      l.fn.fleet.second start
       (record { input = None; output = g.O.Output.taken l.fn.output; errors = g.E.Output.taken l.fn.errors })
-      → AreTold l.telling l.fleet.second start
+      → AreTold l.telling (g.P.Counted.watched l.ports).notes (g.P.Counted.watched l.ports).shown l.fleet.second start
       (record { input = None; output = g.O.Output.taken l.output; errors = g.E.Output.taken l.errors });
 }

@@ -1,9 +1,12 @@
-use Rattle.std.proofs.Common.{◌≡◌, ◌⊎◌, ◌∙◌, None, inl, subst, sym, true}
+use Rattle.std.proofs.Common.{◌≡◌, ◌⊎◌, ◌∙◌, ap, None, inl, refl, subst, sym, true}
+use Rattle.std.proofs.lemmas.Result.{err_from_is_err_and}
+use Rattle.fleet_lines.specs.Counting.{AreAllShown, Watched}
 use Rattle.command_files.specs.World.{StreamFaults, Streams}
 use Rattle.command_files.specs.declared.fault.Fault.TheVariants as faults
 use Rattle.command_fleet.proofs.Sessions.{ended_so, none_asked}
 use Rattle.command_fleet.proofs.Settled.{account_as, fleet_as, repeated_as}
-use Rattle.command_fleet.proofs.Told.{cut_off, none_told, same_told}
+use Rattle.command_fleet.specs.Telling.{IsCut}
+use Rattle.command_fleet.proofs.Told.{cut_off, cut_traffic, none_told, told_as}
 use Rattle.command_fleet.proofs.serving.serve_part.Goals as goal
 
 pub returns-in-Some-clause-fleet : goal.returns-in-Some-clause-fleet
@@ -11,7 +14,7 @@ returns-in-Some-clause-fleet g c =
     let told = g.P.Ports.told c.args.ports.now in
     let part = c.args.part.now in
     let played = c.args.asked.now.play in
-    fleet_as part played told _ _ _ _ _ c.account.ensures.told
+    fleet_as part played told _ _ _ _ _ c.tell_traffic.ensures.same
     (c.in-Ok.ensures.fleet part played told
     (c.in_ok-go_on.ensures.fleet part played told (c.in_ok-fleet.ensures.fleet told)))
 
@@ -45,9 +48,18 @@ returns-in-Some-clause-ended g c =
 
 pub returns-in-Some-clause-account : goal.returns-in-Some-clause-account
 returns-in-Some-clause-account g c =
-    account_as _ _ _ _
-    (c.account.ensures.wire ∙ c.wire_is_fixed.ensures _ _ c.finish.ensures.fixed ∙ c.in_ok-go_on.ensures.wire)
-    c.in-Some.ensures.account
+    let fixed = c.watched_is_fixed.ensures _ _ c.finish.ensures.fixed in
+    account_as _ _ _ _ _
+    (c.tell_traffic.ensures.wire ∙ ap (λ (w : Watched). w.wire) fixed ∙ c.in_ok-go_on.ensures.wire)
+    (c.in-Some.ensures.account c.tell_traffic.ensures.none_left.0)
+
+pub returns-in-Some-clause-shown : goal.returns-in-Some-clause-shown
+returns-in-Some-clause-shown g c =
+    let fixed = c.watched_is_fixed.ensures _ _ c.finish.ensures.fixed in
+    let began = c.tell_traffic.ensures.began ∙ ap (λ (w : Watched). w.began) fixed ∙ c.in_ok-go_on.ensures.began in
+    subst (λ b. ∥ AreAllShown b (g.P.Ports.told c.tell_traffic.new.ports)
+    (g.P.Counted.watched c.tell_traffic.new.ports).shown ∥₁) began
+    (c.in-Some.ensures.shown c.tell_traffic.ensures.none_left.1)
 
 pub returns-in-Some-clause-told : goal.returns-in-Some-clause-told
 returns-in-Some-clause-told g c =
@@ -56,14 +68,13 @@ returns-in-Some-clause-told g c =
       output = g.O.Output.taken c.args.output.now;
       errors = g.E.Output.taken c.args.errors.now;
     } in
-    let last : Streams = record {
-      input = None;
-      output = g.O.Output.taken c.go_on.new.output;
-      errors = g.E.Output.taken c.go_on.new.errors;
-    } in
-    let none = none_told c.args.telling c.in_ok-fleet.fleet.second first c.in_ok-fleet.ensures.second in
-    same_told c.args.telling c.go_on.new.fleet.second c.finish.new.self.second first last
-    (c.in_ok-go_on.ensures.told first none) c.finish.ensures.second
+    let none = none_told c.args.telling _ _ c.in_ok-fleet.fleet.second first c.requires.no_notes c.requires.none_shown
+    c.in_ok-fleet.ensures.second in
+    let fixed = c.watched_is_fixed.ensures _ _ c.finish.ensures.fixed in
+    c.in_ok-tell_traffic.ensures.told first c.finish.new.self.second (g.E.Output.taken c.go_on.new.errors)
+    (told_as c.args.telling _ _ _ _ c.go_on.new.fleet.second c.finish.new.self.second first _
+    (c.in_ok-go_on.ensures.told first none) (ap (λ (w : Watched). w.notes) fixed) (ap (λ (w : Watched). w.shown) fixed)
+    c.finish.ensures.second)
 
 pub returns-in-Err-clause-cut : goal.returns-in-Err-clause-cut
 returns-in-Err-clause-cut g c =
@@ -82,10 +93,43 @@ returns-in-Err-clause-cut g c =
       output = g.O.Output.taken c.go_on.new.output;
       errors = g.E.Output.taken c.go_on.new.errors;
     } in
-    let none = none_told c.args.telling c.in_ok-fleet.fleet.second first c.in_ok-fleet.ensures.second in
-    cut_off c.args.telling streams c.go_on.new.fleet.second first last c.from.result.fault
+    let none = none_told c.args.telling _ _ c.in_ok-fleet.fleet.second first c.requires.no_notes c.requires.none_shown
+    c.in_ok-fleet.ensures.second in
+    cut_off c.args.telling streams _ _ c.go_on.new.fleet.second first last c.from.result.fault
     (c.in_ok-go_on.ensures.told first none)
     (subst (λ f. (f ≡ faults.Memory) ⊎ (f ≡ faults.Bind)) (sym c.from.ensures) c.fault_of.ensures)
+
+pub returns-in_err-tell_traffic-clause-cut : goal.returns-in_err-tell_traffic-clause-cut
+returns-in_err-tell_traffic-clause-cut g c =
+    let streams : StreamFaults = record {
+      input_fails = ⊥;
+      output_refuses = g.O.Output.refuses;
+      errors_refuse = g.E.Output.refuses;
+    } in
+    let first : Streams = record {
+      input = None;
+      output = g.O.Output.taken c.args.output.now;
+      errors = g.E.Output.taken c.args.errors.now;
+    } in
+    let between : Streams = record {
+      input = None;
+      output = g.O.Output.taken c.go_on.new.output;
+      errors = g.E.Output.taken c.go_on.new.errors;
+    } in
+    let last : Streams = record {
+      input = None;
+      output = g.O.Output.taken c.tell_traffic.new.output;
+      errors = g.E.Output.taken c.go_on.new.errors;
+    } in
+    let none = none_told c.args.telling _ _ c.in_ok-fleet.fleet.second first c.requires.no_notes c.requires.none_shown
+    c.in_ok-fleet.ensures.second in
+    let why = c.in_err-tell_traffic.ensures.refused in
+    let h : IsCut c.args.telling streams first last c.in_err-tell_traffic.field-0.0.fault =
+    cut_traffic c.args.telling streams _ why.0 _ why.1 c.go_on.new.fleet.second first between last
+    c.in_err-tell_traffic.field-0.0.fault (c.in_ok-go_on.ensures.told first none) (why.2, refl) in
+    let r = c.from_residual-in_err-tell_traffic in
+    let p = err_from_is_err_and r.result r.ensures.1 in
+    rw (p.1, p.2) h
 
 pub returns-clause-cut : goal.returns-clause-cut
 returns-clause-cut g c =
@@ -101,9 +145,15 @@ returns-clause-cut g c =
     } in
     let last : Streams = record {
       input = None;
-      output = g.O.Output.taken c.go_on.new.output;
+      output = g.O.Output.taken c.tell_traffic.new.output;
       errors = g.E.Output.taken c.go_on.new.errors;
     } in
-    let none = none_told c.args.telling c.in_ok-fleet.fleet.second first c.in_ok-fleet.ensures.second in
-    cut_off c.args.telling streams c.go_on.new.fleet.second first last c.from-in-None.result.fault
-    (c.in_ok-go_on.ensures.told first none) (inl c.from-in-None.ensures)
+    let none = none_told c.args.telling _ _ c.in_ok-fleet.fleet.second first c.requires.no_notes c.requires.none_shown
+    c.in_ok-fleet.ensures.second in
+    let fixed = c.watched_is_fixed.ensures _ _ c.finish.ensures.fixed in
+    let told = c.in_ok-tell_traffic.ensures.told first c.finish.new.self.second (g.E.Output.taken c.go_on.new.errors)
+    (told_as c.args.telling _ _ _ _ c.go_on.new.fleet.second c.finish.new.self.second first _
+    (c.in_ok-go_on.ensures.told first none) (ap (λ (w : Watched). w.notes) fixed) (ap (λ (w : Watched). w.shown) fixed)
+    c.finish.ensures.second) in
+    cut_off c.args.telling streams _ _ c.finish.new.self.second first last c.from-in-None.result.fault told
+    (inl c.from-in-None.ensures)

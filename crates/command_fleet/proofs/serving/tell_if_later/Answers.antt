@@ -1,7 +1,7 @@
 use Rattle.std.proofs.Common.{None, refl, ◌≡◌}
-use Rattle.command_files.specs.World.{Streams}
+use Rattle.command_files.specs.World.{StreamFaults, Streams}
 use Rattle.command_fleet.specs.Telling.{Passed}
-use Rattle.command_fleet.proofs.Told.{if_both, told_more}
+use Rattle.command_fleet.proofs.Told.{if_both, told_more, untold_if}
 use Rattle.command_fleet.proofs.serving.tell_if_later.Goals as goal
 
 pub returns-clause-told : goal.returns-clause-told
@@ -18,6 +18,28 @@ returns-clause-told g c =
       errors = g.E.Output.taken c.tell_second.new.errors;
     } in
     let other : (c.args.second ≡ c.args.last) → ⊥ = c.if-second-last.false in
-    λ start h. if_both c.tell_second.result _ _ _ c.tell_second.ensures.printed c.tell_second.ensures.shown
-    (λ printed shown. told_more c.args.telling c.args.last c.args.second passed start before after h c.requires other
-    refl printed shown)
+    λ start notes shown h. if_both c.tell_second.result _ _ _ c.tell_second.ensures.printed c.tell_second.ensures.shown
+    (λ printed said. told_more c.args.telling notes shown c.args.last c.args.second passed start before after h
+    c.requires other refl printed said)
+
+pub returns-clause-cut : goal.returns-clause-cut
+returns-clause-cut g c =
+    let passed : Passed = record { second = c.args.second; counts = g.P.Counted.counted c.args.ports.now } in
+    let streams : StreamFaults = record {
+      input_fails = ⊥;
+      output_refuses = g.O.Output.refuses;
+      errors_refuse = g.E.Output.refuses;
+    } in
+    let before : Streams = record {
+      input = None;
+      output = g.O.Output.taken c.args.output.now;
+      errors = g.E.Output.taken c.args.errors.now;
+    } in
+    let after : Streams = record {
+      input = None;
+      output = g.O.Output.taken c.tell_second.new.output;
+      errors = g.E.Output.taken c.tell_second.new.errors;
+    } in
+    let other : (c.args.second ≡ c.args.last) → ⊥ = c.if-second-last.false in
+    λ start notes shown h. untold_if c.tell_second.result c.args.telling streams notes shown c.args.last c.args.second
+    passed start before after h c.requires other refl c.tell_second.ensures.refused

@@ -26,7 +26,7 @@ returns-clause-done g c =
     c.in_ok-place.ensures.place in
     fleet_done files (record { made = g.F.Files.made c.args.files.now; streams = before })
     (record { made = g.F.Files.made c.hold_on.new.files; streams = after }) c.args.asked c.args.terminal
-    c.in_ok-part.part c.in_ok-place.place c.hold_on.result there c.hold_on.ensures.done
+    c.in_ok-part.part c.in_ok-place.place _ c.hold_on.result there c.in_ok-ports.ensures.count c.hold_on.ensures.done
 
 pub returns-clause-refused : goal.returns-clause-refused
 returns-clause-refused g c =
@@ -54,5 +54,5 @@ returns-clause-refused g c =
     c.in_ok-servers.servers.items c.in_ok-place.place c.in_ok-scenario.ensures.found c.in-Some.ensures.chosen
     (fixed_as _ _ _ _ c.as_slice.ensures.value c.in_ok-servers.ensures.servers) c.in_ok-part.ensures.part
     c.in_ok-place.ensures.place in
-    fleet_broken files faults before after c.args.asked c.args.terminal c.in_ok-part.part c.in_ok-place.place
-    c.hold_on.result there c.hold_on.ensures.refused
+    fleet_broken files faults before after c.args.asked c.args.terminal c.in_ok-part.part c.in_ok-place.place _
+    c.hold_on.result there c.in_ok-ports.ensures.count c.hold_on.ensures.refused

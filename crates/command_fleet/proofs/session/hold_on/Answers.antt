@@ -1,6 +1,6 @@
-use Rattle.std.proofs.Common.{◌≡◌, ◌==◌, ◌∙◌, ap, length, None}
+use Rattle.std.proofs.Common.{◌==◌, None}
 use Rattle.command_files.specs.World.{FilesKnown, StreamFaults, Streams, World}
-use Rattle.command_fleet.proofs.Sessions.{free_of, held_broken, held_done}
+use Rattle.command_fleet.proofs.Sessions.{held_broken, held_done, same_free}
 use Rattle.command_fleet.proofs.session.hold_on.Goals as goal
 
 pub returns-clause-done : goal.returns-clause-done
@@ -14,19 +14,19 @@ returns-clause-done g c =
       };
     } in
     let after : World = record {
-      made = g.F.Files.made c.hold_session-in-Some.new.files;
+      made = g.F.Files.made c.hold_ports-in-Some.new.files;
       streams = record {
         input = None;
-        output = g.O.Output.taken c.hold_session-in-Some.new.output;
-        errors = g.E.Output.taken c.hold_session-in-Some.new.errors;
+        output = g.O.Output.taken c.hold_ports-in-Some.new.output;
+        errors = g.E.Output.taken c.hold_ports-in-Some.new.errors;
       };
     } in
     let asked = c.args.asked.now in
     let part = c.args.part.now in
-    let free = free_of (asked.port == 0) _ (length part.rows) c.as_slice-in-Some.result.now _
-    (ap length c.ports.ensures ∙ c.requires.count) c.as_slice-in-Some.ensures.value c.in_ok-free.ensures in
-    held_done before after asked c.args.terminal part c.args.place c.as_slice-in-Some.result.now _
-    c.hold_session-in-Some.result free c.hold_session-in-Some.ensures.done
+    let free = same_free (asked.port == 0) _ _ c.as_slice-in-Some.result.now _ c.as_slice-in-Some.ensures.value
+    c.ports.ensures c.in_ok-free.ensures in
+    held_done before after asked c.args.terminal part c.args.place _ c.as_slice-in-Some.result.now _
+    c.hold_ports-in-Some.result free c.hold_ports-in-Some.ensures.done
 
 pub returns-clause-refused : goal.returns-clause-refused
 returns-clause-refused g c =
@@ -47,12 +47,41 @@ returns-clause-refused g c =
     } in
     let after : Streams = record {
       input = None;
-      output = g.O.Output.taken c.hold_session-in-Some.new.output;
-      errors = g.E.Output.taken c.hold_session-in-Some.new.errors;
+      output = g.O.Output.taken c.hold_ports-in-Some.new.output;
+      errors = g.E.Output.taken c.hold_ports-in-Some.new.errors;
     } in
     let asked = c.args.asked.now in
     let part = c.args.part.now in
-    let free = free_of (asked.port == 0) _ (length part.rows) c.as_slice-in-Some.result.now _
-    (ap length c.ports.ensures ∙ c.requires.count) c.as_slice-in-Some.ensures.value c.in_ok-free.ensures in
-    held_broken files faults before after asked c.args.terminal part c.args.place c.as_slice-in-Some.result.now _
-    c.hold_session-in-Some.result free c.hold_session-in-Some.ensures.refused
+    let free = same_free (asked.port == 0) _ _ c.as_slice-in-Some.result.now _ c.as_slice-in-Some.ensures.value
+    c.ports.ensures c.in_ok-free.ensures in
+    held_broken files faults before after asked c.args.terminal part c.args.place _ c.as_slice-in-Some.result.now _
+    c.hold_ports-in-Some.result free c.hold_ports-in-Some.ensures.refused
+
+pub returns-in-None-clause-refused : goal.returns-in-None-clause-refused
+returns-in-None-clause-refused g c =
+    let files : FilesKnown = record {
+      holds = g.F.Files.holds c.args.files.now;
+      fails = g.F.Files.fails c.args.files.now;
+      refuses = g.F.Files.refuses;
+    } in
+    let faults : StreamFaults = record {
+      input_fails = ⊥;
+      output_refuses = g.O.Output.refuses;
+      errors_refuse = g.E.Output.refuses;
+    } in
+    let before : Streams = record {
+      input = None;
+      output = g.O.Output.taken c.args.output.now;
+      errors = g.E.Output.taken c.args.errors.now;
+    } in
+    let after : Streams = record {
+      input = None;
+      output = g.O.Output.taken c.hold_ports.new.output;
+      errors = g.E.Output.taken c.hold_ports.new.errors;
+    } in
+    let asked = c.args.asked.now in
+    let part = c.args.part.now in
+    let free = same_free (asked.port == 0) _ _ c.as_slice.result.now _ c.as_slice.ensures.value
+    c.ports.ensures c.in_ok-free.ensures in
+    held_broken files faults before after asked c.args.terminal part c.args.place _ c.as_slice.result.now _
+    c.hold_ports.result free c.hold_ports.ensures.refused

@@ -1,4 +1,4 @@
-use Rattle.std.proofs.Common.{◌≡◌, length, None, inl, inr, refl}
+use Rattle.std.proofs.Common.{length, None, inl, inr, refl}
 use Rattle.std.proofs.lemmas.Result.{err_from_is_err_and}
 use Rattle.command_files.specs.World.{FilesKnown, StreamFaults, Streams}
 use Rattle.command_fleet.specs.Fleet.{IsSessionFault, Session}
@@ -35,19 +35,22 @@ returns-clause-done g c =
     let is = telling_is asked c.args.terminal part c.rows-devices.result c.telling_of-telling.result
     c.rows-devices.ensures.count c.telling_of-telling.ensures in
     let quit = g.Q.Quit.asked c.serve_part.new.quit in
-    let wire = g.P.Counted.wire c.args.ports.now in
+    let wire = (g.P.Counted.watched c.args.ports.now).wire in
+    let notes = (g.P.Counted.watched c.serve_part.new.ports).notes in
+    let shown = (g.P.Counted.watched c.serve_part.new.ports).shown in
     let session : Session = record {
       slots = c.in_ok-served.served.fleet.slots.items;
       second = c.in_ok-served.served.fleet.second;
       account = c.in_ok-served.served.account;
     } in
-    let were = served part asked.play asked.repeat asked.seconds quit wire session _ _
+    let were = served part asked.play asked.repeat asked.show asked.seconds quit wire _ notes shown session _ _
     c.in_ok-served.ensures.fleet c.in_ok-served.ensures.finished c.in_ok-served.ensures.ended c.requires.new
-    c.in_ok-served.ensures.account c.in_ok-served.ensures.repeated in
+    c.in_ok-served.ensures.account c.in_ok-served.ensures.repeated c.requires.began c.in_ok-served.ensures.shown in
     done_if (record { made = g.F.Files.made c.args.files.now; streams = before })
     (record { made = g.F.Files.made c.conclude_session.new.files; streams = after }) asked c.args.terminal part
-    c.args.place c.args.free.now quit wire session c.telling_of-telling.result first last c.conclude_session.result
-    opened c.requires.wire were is c.in_ok-served.ensures.told refl c.conclude_session.ensures.concluded
+    c.args.place c.args.free.now quit wire notes shown session c.telling_of-telling.result first last
+    c.conclude_session.result opened c.requires.wire were is c.in_ok-served.ensures.told refl
+    c.conclude_session.ensures.concluded
 
 pub returns-clause-refused : goal.returns-clause-refused
 returns-clause-refused g c =
@@ -88,17 +91,19 @@ returns-clause-refused g c =
     let is = telling_is asked c.args.terminal part c.rows-devices.result c.telling_of-telling.result
     c.rows-devices.ensures.count c.telling_of-telling.ensures in
     let quit = g.Q.Quit.asked c.serve_part.new.quit in
-    let wire = g.P.Counted.wire c.args.ports.now in
+    let wire = (g.P.Counted.watched c.args.ports.now).wire in
+    let notes = (g.P.Counted.watched c.serve_part.new.ports).notes in
+    let shown = (g.P.Counted.watched c.serve_part.new.ports).shown in
     let session : Session = record {
       slots = c.in_ok-served.served.fleet.slots.items;
       second = c.in_ok-served.served.fleet.second;
       account = c.in_ok-served.served.account;
     } in
-    let were = served part asked.play asked.repeat asked.seconds quit wire session _ _
+    let were = served part asked.play asked.repeat asked.show asked.seconds quit wire _ notes shown session _ _
     c.in_ok-served.ensures.fleet c.in_ok-served.ensures.finished c.in_ok-served.ensures.ended c.requires.new
-    c.in_ok-served.ensures.account c.in_ok-served.ensures.repeated in
-    lost_if files faults before after asked c.args.terminal part c.args.place c.args.free.now quit wire session
-    c.telling_of-telling.result first last c.conclude_session.result opened c.requires.wire were is
+    c.in_ok-served.ensures.account c.in_ok-served.ensures.repeated c.requires.began c.in_ok-served.ensures.shown in
+    lost_if files faults before after asked c.args.terminal part c.args.place c.args.free.now quit wire notes shown
+    session c.telling_of-telling.result first last c.conclude_session.result opened c.requires.wire were is
     c.in_ok-served.ensures.told refl c.conclude_session.ensures.refused
 
 pub returns-in_err-served-clause-refused : goal.returns-in_err-served-clause-refused

@@ -1,0 +1,172 @@
+-- What a session of several devices came to.
+use Rattle.std.proofs.Common.{ℕ, ◌≡◌, ◌⊎◌, Bool, List}
+use Rattle.std.proofs.Common.{Result, Ok, Err, IfErr, IfOk}
+use Rattle.std.proofs.Common.{OnErr, inl, inr}
+use Rattle.command_line.specs.Words.{IsReadAs}
+use Rattle.command_line.specs.declared.fleet_words.AskedFleet.{AskedFleet}
+use Rattle.command_line.specs.declared.words.Asked.TheVariants as asked
+use Rattle.bench_commands.specs.Command.{IsFinished}
+use Rattle.bench_commands.specs.Command.{IsUnfinished}
+use Rattle.command_fleet.specs.Fleet.{IsFleetDone, IsFleetFault, IsHeldFault, IsSessionBroken, telling_for}
+use Rattle.command_fleet.specs.Telling.{Event, IsCut, IsRefused as IsEventRefused, IsSecondRefused, MayCome, Passed}
+use Rattle.command_fleet.specs.Telling.{came, went}
+use Rattle.command_fleet.specs.declared.telling.Telling.{Telling}
+use Rattle.command_fleet.specs.declared.telling.Telling.TheVariants.{Nothing, Objects, Progress}
+use Rattle.command_files.specs.World.{FilesKnown, IsSilent, StreamFaults, Streams, World}
+use Rattle.command_files.specs.declared.fault.Fault.{Fault}
+use Rattle.command_files.specs.declared.fault.Fault.TheVariants.{Bind, Memory}
+use Rattle.command_files.specs.declared.refusal.Refusal.{Refusal}
+use Rattle.command_files.specs.declared.status.Status.{Status}
+use Rattle.bench_commands.proofs.Seen.{beside_faults, beside_input}
+
+-- ---- done
+
+-- a session of several devices that may have been lost
+pub served_if : {E : Type 0}
+    → (files : FilesKnown) (faults : StreamFaults) (before after : World) (terminal : Bool) (words : List (List ℕ))
+    (fleet : AskedFleet) (result : Result Status E) → IsReadAs words (asked.Fleet fleet)
+    → IfOk result (IsFleetDone files (record { made = before.made; streams = beside_input before.streams })
+    (record { made = after.made; streams = beside_input after.streams }) fleet terminal)
+    → after.streams.input ≡ before.streams.input → IfOk result (IsFinished files faults before after terminal words)
+served_if files faults before after terminal words fleet (Ok status) read served unread =
+    let done = served.done.1 in
+    inr (inr (inr (
+      record {
+        fleet = fleet;
+        read = read;
+        done = record {
+          part = served.part;
+          place = served.place;
+          ready = served.ready;
+          ports = served.ports;
+          each = served.each;
+          done = (
+            served.done.0,
+            record {
+              first = done.first;
+              ready_told = record { shown = done.ready_told.shown; printed = done.ready_told.printed };
+              wire = done.wire;
+              wire_is = done.wire_is;
+              session = done.session;
+              notes = done.notes;
+              shown = done.shown;
+              served = done.served;
+              last = done.last;
+              told = done.told;
+              concluded = record {
+                printed = done.concluded.printed;
+                saved = done.concluded.saved;
+                ended = done.concluded.ended;
+              };
+              quiet = done.quiet;
+            },
+          );
+        };
+      },
+      unread,
+    )))
+served_if files faults before after terminal words fleet (Err e) read served unread = tt
+
+-- ---- not done
+
+-- a second that was not told is the same beside an input
+refused_so : (telling : Telling) (faults : StreamFaults) (passed : Passed) (between after : Streams) (fault : Fault)
+    → IsSecondRefused telling (beside_faults faults) passed between (beside_input after) fault
+    → IsSecondRefused telling faults passed between after fault
+refused_so Nothing faults passed between after fault refused = absurd refused
+refused_so (Progress devices) faults passed between after fault refused = refused
+refused_so Objects faults passed between after fault refused = refused
+
+-- and so is any event
+event_so : (telling : Telling) (faults : StreamFaults) (event : Event) (between after : Streams) (fault : Fault)
+    → IsEventRefused telling (beside_faults faults) event between (beside_input after) fault
+    → IsEventRefused telling faults event between after fault
+event_so telling faults (came passed) between after fault refused =
+    refused_so telling faults passed between after fault refused
+event_so telling faults (went notes shown) between after fault refused = refused
+
+-- and so is a session that was broken off
+cut_so : (telling : Telling) (faults : StreamFaults) (first after : Streams) (fault : Fault)
+    → IsCut telling (beside_faults faults) first (beside_input after) fault → IsCut telling faults first after fault
+cut_so telling faults first after fault cut =
+    record {
+      notes = cut.notes;
+      shown = cut.shown;
+      second = cut.second;
+      between = cut.between;
+      told = cut.told;
+      why = so cut.second cut.between cut.why;
+    }
+  where
+    so : (second : ℕ) (between : Streams)
+        → (IsSilent between (beside_input after) × ((fault ≡ Memory) ⊎ (fault ≡ Bind)))
+        ⊎ ((event : Event) × MayCome second event
+        × IsEventRefused telling (beside_faults faults) event between (beside_input after) fault)
+        → (IsSilent between after × ((fault ≡ Memory) ⊎ (fault ≡ Bind)))
+        ⊎ ((event : Event) × MayCome second event × IsEventRefused telling faults event between after fault)
+    so second between (inl silent) = inl silent
+    so second between (inr (event, may, refused)) =
+        inr (event, may, event_so telling faults event between after fault refused)
+
+session_so : (files : FilesKnown) (faults : StreamFaults) (before after : Streams) (fleet : AskedFleet)
+    (terminal : Bool) (fault : Fault)
+    → IsSessionBroken files (beside_faults faults) (beside_input before) (beside_input after) fleet terminal fault
+    → IsSessionBroken files faults before after fleet terminal fault
+session_so files faults before after fleet terminal fault broken =
+    record {
+      part = broken.part;
+      place = broken.place;
+      ready = broken.ready;
+      ports = broken.ports;
+      each = broken.each;
+      why = so broken.why;
+    }
+  where
+    so : IsHeldFault files (beside_faults faults) (beside_input before) (beside_input after) fleet terminal
+        broken.part broken.place broken.ports fault
+        → IsHeldFault files faults before after fleet terminal broken.part broken.place broken.ports fault
+    so (inl none) = inl none
+    so (inr (quit, inl untold)) = inr (quit, inl untold)
+    so (inr (quit, inr (inl lost))) =
+        inr (
+          quit,
+          inr (inl (record {
+            first = lost.first;
+            ready_told = record { shown = lost.ready_told.shown; printed = lost.ready_told.printed };
+            cut = cut_so (telling_for fleet terminal broken.part) faults lost.first after fault lost.cut;
+          })),
+        )
+    so (inr (quit, inr (inr lost))) =
+        inr (
+          quit,
+          inr (inr (record {
+            first = lost.first;
+            ready_told = record { shown = lost.ready_told.shown; printed = lost.ready_told.printed };
+            wire = lost.wire;
+            wire_is = lost.wire_is;
+            session = lost.session;
+            notes = lost.notes;
+            shown = lost.shown;
+            served = lost.served;
+            last = lost.last;
+            told = lost.told;
+            why = lost.why;
+            quiet = lost.quiet;
+          })),
+        )
+
+-- a session of several devices that may have been concluded
+pub fleet_lost_if : (files : FilesKnown) (faults : StreamFaults) (before after : World) (terminal : Bool)
+    (words : List (List ℕ)) (fleet : AskedFleet) (result : Result Status Refusal) → IsReadAs words (asked.Fleet fleet)
+    → IfErr result (λ r. IsFleetFault files (beside_faults faults) (beside_input before.streams)
+    (beside_input after.streams) fleet terminal r.fault)
+    → after.streams.input ≡ before.streams.input → OnErr result (after.made ≡ before.made)
+    → IfErr result (λ r. IsUnfinished files faults before after terminal words r.fault)
+fleet_lost_if files faults before after terminal words fleet (Ok status) read lost unread none = tt
+fleet_lost_if files faults before after terminal words fleet (Err r) read lost unread none =
+    inr (inr (inr (record { fleet = fleet; read = read; lost = so lost; none_made = none }, unread)))
+  where
+    so : IsFleetFault files (beside_faults faults) (beside_input before.streams) (beside_input after.streams) fleet
+        terminal r.fault → IsFleetFault files faults before.streams after.streams fleet terminal r.fault
+    so (inl none) = inl (record { why = none.why; silent = none.silent; untold = none.untold })
+    so (inr broken) = inr (session_so files faults before.streams after.streams fleet terminal r.fault broken)
