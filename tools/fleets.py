@@ -24,7 +24,8 @@ class Fleet:
             self.ready = self.line()
             if self.ready.startswith("lwbench: ready "):
                 return
-            print(self.ready, end="")
+            if not self.ready.endswith(" is taken\n"):
+                print(self.ready, end="")
             self.end()
         sys.exit("no thousand ports are free")
 

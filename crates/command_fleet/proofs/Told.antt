@@ -21,7 +21,7 @@ use Rattle.command_fleet.specs.Telling.{second_output, shown_in, went}
 pub nothing_told : (t : Option (List ℕ)) → Appends t t []
 nothing_told t = Appends-nil t
 
--- where nothing went through, there is no text
+-- the text of no notes and no datagrams is empty
 pub nothing_went : (json : Bool) (notes : List Note) (shown : List Shown) (t : Option (List ℕ)) → notes ≡ []
     → shown ≡ [] → Appends t t (traffic_text json notes shown)
 nothing_went json notes shown t no_notes none_shown =

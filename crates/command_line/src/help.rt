@@ -202,7 +202,7 @@ A wire between the devices and their ports loses, doubles, exchanges and delays 
 as 10%, or a list of numbers, as 2,5-6: the datagrams of each device that go one way count from 1. One that
 is swapped goes right after the next one, one that is late after `--late-by` seconds. Each of them has a line,
 which says which it is, and the line at the end goes on:
-  S s  device D  in    datagram N lost
+  S s  device D  in      datagram N lost
   wire lost N twice N swapped N late N
 
 Example:

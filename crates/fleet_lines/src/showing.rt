@@ -28,13 +28,6 @@ impl<P: Ports> ShownPorts<P> {
         }
     }
 
-    /// The other ports.
-    pub fn ports(&self) -> &P
-        ensures { result.now ≡ self.now.ports }
-    {
-        &self.ports
-    }
-
     /// Whether there was memory for each datagram. Then what was taken and what is kept are all that the other ports
     /// handed out and sent since they are shown.
     pub fn is_whole(&self) -> bool
