@@ -302,7 +302,7 @@ lacks_fleet : (rows : List Row) (fleet : AskedFleet) → LacksFleet rows → Ask
 lacks_fleet rows fleet (inl none) asks = search rules
 lacks_fleet rows fleet (inr (inl none)) asks = none fleet.port asks.2
 lacks_fleet rows fleet (inr (inr (inl none))) asks = search rules
-lacks_fleet rows fleet (inr (inr (inr lacks))) asks = lacks_wire rows fleet.wire lacks asks.10
+lacks_fleet rows fleet (inr (inr (inr lacks))) asks = lacks_wire rows fleet.wire lacks asks.11
 
 -- they ask for no job
 fleet_alone : (rows : List Row) (job : Job) → AsksFor (codes "fleet", rows) job → ⊥

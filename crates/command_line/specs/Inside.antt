@@ -124,9 +124,9 @@ with_rows a = with_rule (with_rule a (text_option (codes "devices"))) copies
 abbrev pub with_play : App → App
 with_play a = with_rule (with_rule a (flag (codes "play"))) (flag (codes "loop"))
 
--- `[--bind ADDRESS] [--server S=ADDRESS[:PORT]] ..`
+-- `[--bind ADDRESS] [--server S=ADDRESS[:PORT]] .. [--ports FILE]`
 abbrev pub with_places : App → App
-with_places a = with_rule (with_rule a bind) (text_options (codes "server"))
+with_places a = with_rule (with_rule (with_rule a bind) (text_options (codes "server"))) (text_option (codes "ports"))
 
 -- `[--lose-in WHICH] [--lose-out WHICH]`
 abbrev pub with_losses : App → App

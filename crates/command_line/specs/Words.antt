@@ -111,16 +111,17 @@ commands =
     ∷ needed_number (codes "PORT") 0 65535 ∷ needed_number (codes "TURNS") 1 100000 ∷ text_option (codes "save")
     ∷ flag (codes "show") ∷ [])
     -- `fleet FILE PORT [--seconds N] [--devices A-B] [--copies N] [--play] [--loop] [--bind ADDRESS]
-    -- [--server S=ADDRESS[:PORT]] .. [--lose-in WHICH] [--lose-out WHICH] [--twice WHICH] [--swap WHICH]
-    -- [--late WHICH] [--late-by N] [--seed N] [--save FILE] [--strict] [--show] [--json]`
+    -- [--server S=ADDRESS[:PORT]] .. [--ports FILE] [--lose-in WHICH] [--lose-out WHICH] [--twice WHICH]
+    -- [--swap WHICH] [--late WHICH] [--late-by N] [--seed N] [--save FILE] [--strict] [--show] [--json]`
     ∷ command (codes "fleet") (needed (codes "FILE") ∷ needed_number (codes "PORT") 0 65535
     ∷ optional_from (codes "seconds") 1 4294967295 ∷ text_option (codes "devices")
     ∷ optional_from (codes "copies") 1 16384 ∷ flag (codes "play") ∷ flag (codes "loop")
     ∷ text_or (codes "bind") (codes "127.0.0.1")
-    ∷ text_options (codes "server") ∷ text_option (codes "lose-in") ∷ text_option (codes "lose-out")
-    ∷ text_option (codes "twice") ∷ text_option (codes "swap") ∷ text_option (codes "late")
-    ∷ number_from (codes "late-by") 1 4294967295 (codes "1") ∷ number (codes "seed") 4294967295 (codes "0")
-    ∷ text_option (codes "save") ∷ flag (codes "strict") ∷ flag (codes "show") ∷ flag (codes "json") ∷ [])
+    ∷ text_options (codes "server") ∷ text_option (codes "ports") ∷ text_option (codes "lose-in")
+    ∷ text_option (codes "lose-out") ∷ text_option (codes "twice") ∷ text_option (codes "swap")
+    ∷ text_option (codes "late") ∷ number_from (codes "late-by") 1 4294967295 (codes "1")
+    ∷ number (codes "seed") 4294967295 (codes "0") ∷ text_option (codes "save") ∷ flag (codes "strict")
+    ∷ flag (codes "show") ∷ flag (codes "json") ∷ [])
     -- `join OUT IMAGE ..`
     ∷ command (codes "join") (needed (codes "OUT") ∷ several (codes "IMAGE") ∷ [])
     -- `test FILE .. [--only WORDS] [--list] [--tap] [--json] [--junit FILE]`
@@ -263,6 +264,7 @@ AsksForFleet found fleet =
     × (is_set (codes "loop") found.1 ≡ fleet.repeat)
     × IsText found (codes "bind") fleet.bind.now
     × (unwrap_or (all_of (codes "server") found.1) [] ≡ map (λ w. w.now) fleet.servers.items)
+    × (first_of (codes "ports") found.1 ≡ option_map (λ p. p.now) fleet.ports)
     × AsksForWire found.1 fleet.wire × (first_of (codes "save") found.1 ≡ option_map (λ p. p.now) fleet.save)
     × (is_set (codes "strict") found.1 ≡ fleet.strict) × (is_set (codes "show") found.1 ≡ fleet.show)
     × (is_set (codes "json") found.1 ≡ fleet.json)

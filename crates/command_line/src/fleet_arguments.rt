@@ -1,7 +1,7 @@
 //! The arguments of `fleet`, as `clap` takes them.
 ghost use Rattle.std.specs.Prelude.{◌≡◌, codes, false, IfOk};
 ghost use Rattle.clap.specs.Words.{app_of, rule_of};
-ghost use Rattle.command_line.specs.Words.{needed_number, text_options};
+ghost use Rattle.command_line.specs.Words.{needed_number, text_option, text_options};
 ghost use Rattle.command_line.specs.Inside.{bind, copies, fleet_app, late_by, seconds, seed, with_ends, with_losses};
 ghost use Rattle.command_line.specs.Inside.{with_moves, with_places, with_play, with_rows, with_service, with_telling};
 ghost use Rattle.command_line.specs.Inside.{with_wire};
@@ -127,11 +127,14 @@ fn with_play<'a>(alloc: Global, command: Command<'a>) -> Result<Command<'a>, All
     command.arg(play)?.arg(repeat)
 }
 
-/// Adds the words for where the ports of the devices and their servers are.
+/// Adds the words for where the ports of the devices and their servers are, and where the list of those ports goes.
 fn with_places<'a>(alloc: Global, command: Command<'a>) -> Result<Command<'a>, AllocError>
     ensures { IfOk result (λ c. app_of c ≡ with_places (app_of command.entry)) }
 {
-    command.arg(bind(alloc))?.arg(servers(alloc))
+    command
+        .arg(bind(alloc))?
+        .arg(servers(alloc))?
+        .arg(ports(alloc))
 }
 
 fn port<'a>(alloc: Global) -> Arg<'a>
@@ -184,4 +187,11 @@ fn servers<'a>(alloc: Global) -> Arg<'a>
     text_option(alloc, "server", "S=ADDRESS[:PORT]")
         .action(ArgAction::Append)
         .help("The address of server S for all devices; may be given more than once")
+}
+
+fn ports<'a>(alloc: Global) -> Arg<'a>
+    ensures rule { rule_of result ≡ text_option (codes "ports") }
+    ensures local { result.global ≡ false }
+{
+    text_option(alloc, "ports", "FILE").help("Where the list of the devices' ports goes")
 }

@@ -30,6 +30,8 @@ pub struct AskedFleet<'a> {
     pub bind: &'a str,
     /// Where servers are, each as `S=ADDRESS` or `S=ADDRESS:PORT`.
     pub servers: Vec<&'a str>,
+    /// Where the list of the devices' ports goes, if anywhere.
+    pub ports: Option<&'a str>,
     /// What happens to datagrams between the devices and their ports.
     pub wire: AskedWire<'a>,
     /// Where the image of what happened goes, if anywhere.
@@ -73,6 +75,7 @@ fn fleet_with<'a>(found: &ArgMatches<'a>, servers: Vec<&'a str>) -> Option<Asked
         repeat: flag(found, "loop"),
         bind: value_of(found, "bind")?,
         servers,
+        ports: value_of(found, "ports"),
         wire: wire_of(found)?,
         save: value_of(found, "save"),
         strict: flag(found, "strict"),

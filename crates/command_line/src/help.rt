@@ -184,11 +184,13 @@ PORT. Where PORT is 0, each is at a port that the system chooses, and a line for
 With `--copies` there are N devices, 1 to 16384: the rows over and over. With `--play` the steps of the rows
 happen as seconds pass; with `--loop` they do, and a row begins anew when all of it has happened. With
 `--server` the server S of all devices is at that address, at any port of it or at this one; an IPv6 address
-with a port is in brackets. Once all ports are there, prints on standard error
+with a port is in brackets. Once all ports are there, writes a line D P for the port P of each device D to the
+FILE of `--ports`, and no file without it, and prints on standard error
   lwbench: ready N at ADDRESS:PORT
 It ends after the seconds of `--seconds`, or, if it is not given, when standard input ends; and when a line
 of standard input is q. Writes the image of what happened to the FILE of `--save`, which is replaced
-where it exists, and no file without it: the steps of each device, at most 4096. At the end prints
+where it exists, and no file without it: the steps of each device, at most 4096. Each minute of a session
+writes what has happened so far to FILE.snapshot, which is not removed. At the end prints
   done seconds S devices N received N sent N dropped N lost N
 A datagram is dropped that comes from no account of its device, or is longer than 1500 bytes; one is lost
 that the system did not take. With `--strict` the status is 3 where one was dropped or lost. With `--show`
