@@ -1,12 +1,12 @@
 -- The commands one by one, and what they lack, as clauses of private functions name them. No promise rests on it.
-use Rattle.std.specs.Prelude.{◌≡◌, ◌≢◌, ◌⊎◌, true, List, Option, None, Some, codes}
+use Rattle.std.specs.Prelude.{◌≡◌, ◌≢◌, ◌⊎◌, true, List, Option, None, Some, codes, is_some}
 use Rattle.clap.specs.Words.{App, Row, Rule, Text as Word, all_of, first_of, new_app, one_of, with_rule}
 use Rattle.clap.specs.Words.{with_subcommand}
 use Rattle.command_line.specs.declared.words.Asked.{Asked}
 use Rattle.command_line.specs.declared.words.Asked.TheVariants as asked
 use Rattle.command_line.specs.Words.{AsksFor, AsksForFleet, AsksForLog, AsksToLive, IsNoNumber, MayAskFor, flag, is_set}
-use Rattle.command_line.specs.Words.{needed, needed_number, number, number_from, optional_from, optional_number, several}
-use Rattle.command_line.specs.Words.{text_option, text_options, text_or, with_settings}
+use Rattle.command_line.specs.Words.{may_stand, needed, needed_number, number, number_from, optional_from}
+use Rattle.command_line.specs.Words.{optional_number, several, text_option, text_options, text_or, with_settings}
 
 -- `[--json] [--why]`
 abbrev pub with_trace_forms : App → App
@@ -168,6 +168,14 @@ fleet_app =
 abbrev pub join_app : App
 join_app = with_rule (with_rule (new_app (codes "join")) (needed (codes "OUT"))) (several (codes "IMAGE"))
 
+-- `[--only RULE] .. [--not RULE] ..`
+abbrev pub with_rules : App → App
+with_rules a = with_rule (with_rule a (text_options (codes "only"))) (text_options (codes "not"))
+
+-- `lint [IMAGE] [--only RULE] .. [--not RULE] .. [--rules]`
+abbrev pub lint_app : App
+lint_app = with_rule (with_rules (with_rule (new_app (codes "lint")) (may_stand (codes "IMAGE")))) (flag (codes "rules"))
+
 -- `FILE .. [--only WORDS]`
 abbrev pub with_cases : App → App
 with_cases a = with_rule (with_rule a (several (codes "FILE"))) (text_option (codes "only"))
@@ -185,9 +193,9 @@ abbrev pub whole_app : App
 whole_app =
     with_subcommand (with_subcommand (with_subcommand (with_subcommand (with_subcommand (with_subcommand
     (with_subcommand (with_subcommand (with_subcommand (with_subcommand (with_subcommand (with_subcommand
-    (with_subcommand (with_subcommand (with_subcommand (with_settings (new_app (codes "lwbench"))) one_app.top)
-    say_app.top) spell_app.top) play_app.top) asm_app.top) dis_app.top) run_app.top) check_app.top) show_app.top)
-    pcap_app.top) debug_app.top) live_app.top) fleet_app.top) join_app.top) test_app.top
+    (with_subcommand (with_subcommand (with_subcommand (with_subcommand (with_settings (new_app (codes "lwbench")))
+    one_app.top) say_app.top) spell_app.top) play_app.top) asm_app.top) dis_app.top) run_app.top) check_app.top)
+    show_app.top) pcap_app.top) debug_app.top) live_app.top) fleet_app.top) join_app.top) lint_app.top) test_app.top
 
 -- a value that a run needs is not there
 abbrev pub LacksRun : List Row → Type 0
@@ -219,6 +227,10 @@ LacksFleet rows =
 -- `join` has no place for its image, or no image to join
 abbrev pub LacksJoin : List Row → Type 0
 LacksJoin rows = (first_of (codes "OUT") rows ≡ None) ⊎ (all_of (codes "IMAGE") rows ≡ None)
+
+-- `lint` has neither an image nor `--rules`, or both
+abbrev pub LacksLint : List Row → Type 0
+LacksLint rows = is_set (codes "rules") rows ≡ is_some (first_of (codes "IMAGE") rows)
 
 -- `--list` stands beside `--tap`, `--json` or `--junit`, of which each wants cases that are played
 abbrev pub ListsAndPlays : List Row → Type 0

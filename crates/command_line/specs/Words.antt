@@ -1,6 +1,6 @@
 -- The words of the command line: which `clap` takes, and what they then ask for.
 use Rattle.std.specs.Prelude.{◌≡◌, ◌≢◌, ◌↔◌, ◌⊎◌, ◌<◌, ◌^◌, ◌||◌, ℕ, pos, Bool, true, false, IsTrue, List, [], ◌∷◌}
-use Rattle.std.specs.Prelude.{Option, None, Some, fold, map, option_map, unwrap_or, codes}
+use Rattle.std.specs.Prelude.{Option, None, Some, fold, is_some, map, not, option_map, unwrap_or, codes}
 use Rattle.std.specs.Str.{bytes_eq}
 use Rattle.std.specs.Str.Parse.{IsNumeral, digits_value, without_leading_plus}
 use Rattle.clap.specs.Words.{App, IsAmong, Row, Rule, Text as Word, all_of, fault_of, first_of, new_app, new_rule}
@@ -30,6 +30,10 @@ needed name = record (new_rule name) { required = true }
 -- a word that has to be there, and may be there several times
 abbrev pub several : Word → Rule
 several name = record (needed name) { action = Some Append }
+
+-- a word that may be there
+abbrev pub may_stand : Word → Rule
+may_stand name = new_rule name
 
 -- `--NAME TEXT`
 abbrev pub text_option : Word → Rule
@@ -124,6 +128,9 @@ commands =
     ∷ flag (codes "show") ∷ flag (codes "json") ∷ [])
     -- `join OUT IMAGE ..`
     ∷ command (codes "join") (needed (codes "OUT") ∷ several (codes "IMAGE") ∷ [])
+    -- `lint IMAGE [--only RULE] .. [--not RULE] ..`, `lint --rules [--only RULE] .. [--not RULE] ..`
+    ∷ command (codes "lint") (may_stand (codes "IMAGE") ∷ text_options (codes "only") ∷ text_options (codes "not")
+    ∷ flag (codes "rules") ∷ [])
     -- `test FILE .. [--only WORDS] [--list] [--tap] [--json] [--junit FILE]`
     ∷ command (codes "test") (several (codes "FILE") ∷ text_option (codes "only") ∷ flag (codes "list")
     ∷ flag (codes "tap") ∷ flag (codes "json") ∷ text_option (codes "junit") ∷ []) ∷ []
@@ -232,6 +239,12 @@ AsksFor found (jobs.Test files only form junit) =
 AsksFor found (jobs.Join output images) =
     (found.0 ≡ codes "join") × IsText found (codes "OUT") output.now
     × AreTexts found (codes "IMAGE") (map (λ p. p.now) images.items)
+-- `--rules` stands in the place of an image
+AsksFor found (jobs.Lint image only except) =
+    (found.0 ≡ codes "lint") × (first_of (codes "IMAGE") found.1 ≡ option_map (λ p. p.now) image)
+    × (is_set (codes "rules") found.1 ≡ not (is_some image))
+    × (unwrap_or (all_of (codes "only") found.1) [] ≡ map (λ w. w.now) only.items)
+    × (unwrap_or (all_of (codes "not") found.1) [] ≡ map (λ w. w.now) except.items)
 
 -- a subcommand with its values asks for this device on the network
 abbrev pub AsksToLive : Word × List Row → Live → Type 0

@@ -4,7 +4,7 @@ ghost use Rattle.clap.specs.Words.{all_of, found_of, rows_of};
 ghost use Rattle.command_line.specs.Words.{AsksForFleet};
 ghost use Rattle.command_line.specs.Inside.{LacksFleet};
 
-use crate::values::{flag, number, small_number, value_of, values_of};
+use crate::values::{flag, number, small_number, value_of, values_if};
 use crate::wire_words::{AskedWire, wire_of};
 use clap::ArgMatches;
 use std::alloc::{AllocError, Global};
@@ -42,21 +42,6 @@ pub struct AskedFleet<'a> {
     pub show: bool,
     /// Whether what happened is told as JSON Lines.
     pub json: bool,
-}
-
-/// The values of an argument that may stand several times, and need not stand at all.
-fn values_if<'a>(
-    alloc: Global,
-    found: &ArgMatches<'a>,
-    id: &str,
-) -> Result<Vec<&'a str>, AllocError>
-    ensures { IfOk result (λ v. unwrap_or (all_of id.now (rows_of (found_of found.now))) []
-        ≡ map (λ w. w.now) v.items) }
-{
-    match values_of(alloc, found, id)? {
-        Some(values) => Ok(values),
-        None => Ok(Vec::new(alloc)),
-    }
 }
 
 /// The devices that the words of `fleet` ask for, where their servers are these.

@@ -13,7 +13,8 @@ Status:
   0  it was done
   1  a fault
   2  the words are not a command
-  3  the run stalled, the trace is not a run, a case differs, or `--strict` and a datagram was lost";
+  3  the run stalled, the trace is not a run, a case differs, a server broke a rule, or `--strict` and a
+     datagram was lost";
 
 pub const ONE: &str =
     "Reads no file. Prints a line for each output of the device, a datagram or another act, or `nothing`. With
@@ -220,6 +221,16 @@ may be missing, or be there twice. Prints
 
 Example:
   lwbench join night.image 0-999=first.image 1000-1999=second.image";
+
+pub const LINT: &str =
+    "Reads IMAGE, as `fleet` and `live` save it. Goes through the datagrams of each device, those that servers sent and
+those that the device sends, and prints a line for each rule that a server breaks, and at the end
+  N findings
+The status is 3 if there is one. With `--only` these rules alone are looked at, with `--not` all but these.
+With `--rules` reads no file, and prints them. Writes no file.
+
+Example:
+  lwbench lint night.image --not repeated-too-soon";
 
 pub const TEST: &str =
     "Reads each FILE, which is UTF-8, and then plays the cases, file by file; with `--only` those whose titles

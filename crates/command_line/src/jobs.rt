@@ -1,18 +1,18 @@
 //! The jobs that the words ask for, one by one.
-ghost use Rattle.std.specs.Prelude.{◌≡◌, ◌≢◌, ◌⊎◌, None, Some, codes, map, IfNone, IfOk, IfSome};
+ghost use Rattle.std.specs.Prelude.{◌≡◌, ◌≢◌, ◌⊎◌, [], None, Some, codes, map, unwrap_or, IfNone, IfOk, IfSome};
 ghost use Rattle.clap.specs.Words.{all_of, first_of, found_of, rows_of};
 ghost use Rattle.command_line.specs.declared.words.Job.{Job as JobData};
 ghost use Rattle.command_line.specs.Words.{AsksFor, AsksForCaseForm, AsksForForm};
-ghost use Rattle.command_line.specs.Inside.{ExcludesInTest, LacksJoin, LacksOne, LacksPlay, LacksRun, LacksShow};
-ghost use Rattle.command_line.specs.Inside.{LacksTest};
+ghost use Rattle.command_line.specs.Inside.{ExcludesInTest, LacksJoin, LacksLint, LacksOne, LacksPlay, LacksRun};
+ghost use Rattle.command_line.specs.Inside.{LacksShow, LacksTest};
 ghost use Rattle.command_line.specs.Inside.{WantsTwoCaseForms, WantsTwoForms};
 
-use crate::values::{flag, number, small_number, value_of, values_of};
+use crate::values::{flag, number, small_number, value_of, values_if, values_of};
 use crate::words::{CaseForm, Job, TraceForm};
 use clap::ArgMatches;
 use std::alloc::{AllocError, Global};
 
-#[tactic(auto, using(crate::proofs::Asking::no_one, crate::proofs::Asking::no_spell, crate::proofs::Asking::no_play, crate::proofs::Asking::no_asm, crate::proofs::Asking::no_dis, crate::proofs::Asking::no_run, crate::proofs::Asking::no_check, crate::proofs::Asking::no_show, crate::proofs::Asking::no_pcap, crate::proofs::Asking::no_debug, crate::proofs::Asking::no_test, crate::proofs::Asking::no_join))]
+#[tactic(auto, using(crate::proofs::Asking::no_one, crate::proofs::Asking::no_spell, crate::proofs::Asking::no_play, crate::proofs::Asking::no_asm, crate::proofs::Asking::no_dis, crate::proofs::Asking::no_run, crate::proofs::Asking::no_check, crate::proofs::Asking::no_show, crate::proofs::Asking::no_pcap, crate::proofs::Asking::no_debug, crate::proofs::Asking::no_test, crate::proofs::Asking::no_join, crate::proofs::Asking::no_lint))]
 pub(crate) fn job_in<'a>(
     alloc: Global,
     name: &str,
@@ -36,6 +36,7 @@ pub(crate) fn job_in<'a>(
         "debug" => Ok(debug_job(found)),
         "test" => test_job(alloc, found),
         "join" => join_job(alloc, found),
+        "lint" => lint_job(alloc, found),
         _ => Ok(None),
     }
 }
@@ -187,6 +188,39 @@ fn join_job<'a>(alloc: Global, found: &ArgMatches<'a>) -> Result<Option<Job<'a>>
     match values_of(alloc, found, "IMAGE")? {
         Some(images) => Ok(Some(Job::Join { output, images })),
         None => Ok(None),
+    }
+}
+
+fn lint_job<'a>(alloc: Global, found: &ArgMatches<'a>) -> Result<Option<Job<'a>>, AllocError>
+    ensures some { IfOk result (λ o. IfSome o (AsksFor (codes "lint", rows_of (found_of found.now)))) }
+    ensures none { IfOk result (λ o. IfNone o (LacksLint (rows_of (found_of found.now)))) }
+{
+    let only = values_if(alloc, found, "only")?;
+    let except = values_if(alloc, found, "not")?;
+    Ok(rules_job(found, only, except))
+}
+
+/// What is asked of the rules with these names, without those with the others: whether they are broken, or what they
+/// are.
+fn rules_job<'a>(
+    found: &ArgMatches<'a>,
+    only: Vec<&'a str>,
+    except: Vec<&'a str>,
+) -> Option<Job<'a>>
+    requires only { unwrap_or (all_of (codes "only") (rows_of (found_of found.now))) [] ≡ map (λ w. w.now) only.items }
+    requires except { unwrap_or (all_of (codes "not") (rows_of (found_of found.now))) []
+        ≡ map (λ w. w.now) except.items }
+    ensures some { IfSome result (AsksFor (codes "lint", rows_of (found_of found.now))) }
+    ensures none { IfNone result (LacksLint (rows_of (found_of found.now))) }
+{
+    let image = value_of(found, "IMAGE");
+    match (image, flag(found, "rules")) {
+        (Some(_), false) | (None, true) => Some(Job::Lint {
+            image,
+            only,
+            except,
+        }),
+        _ => None,
     }
 }
 

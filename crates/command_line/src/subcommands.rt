@@ -1,13 +1,13 @@
 //! The subcommands of the program and their arguments, as `clap` takes them.
 ghost use Rattle.std.specs.Prelude.{◌≡◌, codes, false, true, IfOk};
 ghost use Rattle.clap.specs.Words.{App, app_of, new_app, rule_of, with_rule, with_subcommand};
-ghost use Rattle.command_line.specs.Words.{flag, needed, needed_number, optional_number, several, text_option};
-ghost use Rattle.command_line.specs.Words.{with_settings};
-ghost use Rattle.command_line.specs.Inside.{asm_app, batch, check_app, debug_app, dis_app, fleet_app, join_app, live_app};
-ghost use Rattle.command_line.specs.Inside.{one_app, pcap_app, play_app, run_app, say_app, server, show_app};
+ghost use Rattle.command_line.specs.Words.{flag, may_stand, needed, needed_number, optional_number, several};
+ghost use Rattle.command_line.specs.Words.{text_option, text_options, with_settings};
+ghost use Rattle.command_line.specs.Inside.{asm_app, batch, check_app, debug_app, dis_app, fleet_app, join_app, lint_app};
+ghost use Rattle.command_line.specs.Inside.{live_app, one_app, pcap_app, play_app, run_app, say_app, server, show_app};
 ghost use Rattle.command_line.specs.Inside.{spell_app, test_app, whole_app, with_cases, with_forms, with_port};
-ghost use Rattle.command_line.specs.Inside.{with_range, with_selection, with_trace, with_trace_forms, with_turns};
-ghost use Rattle.command_line.specs.Inside.{workers};
+ghost use Rattle.command_line.specs.Inside.{with_range, with_rules, with_selection, with_trace, with_trace_forms};
+ghost use Rattle.command_line.specs.Inside.{with_turns, workers};
 
 use crate::fleet_arguments::fleet_command;
 use crate::help;
@@ -71,9 +71,11 @@ fn with_fleet<'a>(alloc: Global, command: Command<'a>) -> Result<Command<'a>, Al
 }
 
 fn with_test<'a>(alloc: Global, command: Command<'a>) -> Result<Command<'a>, AllocError>
-    ensures { IfOk result (λ c. app_of c ≡ with_subcommand (app_of command.entry) test_app.top) }
+    ensures { IfOk result (λ c. app_of c ≡ with_subcommand (with_subcommand (app_of command.entry) lint_app.top)
+        test_app.top) }
 {
-    with_subcommand(Ok(command), test_command(alloc))
+    let lint = with_subcommand(Ok(command), lint_command(alloc));
+    with_subcommand(lint, test_command(alloc))
 }
 
 /// Adds a subcommand that has no global argument. Either may have failed, so a chain of these needs no `?`, each of
@@ -336,6 +338,28 @@ fn join_command<'a>(alloc: Global) -> Result<Command<'a>, AllocError>
         .arg(several(alloc, "IMAGE").help("An image whose rows it has, as IMAGE or A-B=IMAGE"))
 }
 
+fn lint_command<'a>(alloc: Global) -> Result<Command<'a>, AllocError>
+    ensures { IfOk result (λ c. app_of c ≡ lint_app) }
+{
+    let about = "Says what servers did wrong in the steps of a scenario";
+    let image = may_stand(alloc, "IMAGE").help("The scenario, as an image");
+    let rules = flag(alloc, "rules").help("Prints the rules, and reads no image");
+    with_rules(
+        alloc,
+        described(alloc, "lint", about, help::LINT).arg(image)?,
+    )?
+    .arg(rules)
+}
+
+/// Adds the words for the rules that are looked at.
+fn with_rules<'a>(alloc: Global, command: Command<'a>) -> Result<Command<'a>, AllocError>
+    ensures { IfOk result (λ c. app_of c ≡ with_rules (app_of command.entry)) }
+{
+    let only = text_options(alloc, "only", "RULE").help("Only this rule, or these");
+    let not = text_options(alloc, "not", "RULE").help("Not this rule, or these");
+    command.arg(only)?.arg(not)
+}
+
 fn test_command<'a>(alloc: Global) -> Result<Command<'a>, AllocError>
     ensures { IfOk result (λ c. app_of c ≡ test_app) }
 {
@@ -415,6 +439,21 @@ pub(crate) fn text_option<'a>(alloc: Global, name: &'a str, value: &'a str) -> A
     ensures local { result.global ≡ false }
 {
     Arg::new(alloc, name).long(name).value_name(value)
+}
+
+/// The same, as often as one likes.
+fn text_options<'a>(alloc: Global, name: &'a str, value: &'a str) -> Arg<'a>
+    ensures rule { rule_of result ≡ text_options name.entry.now }
+    ensures local { result.global ≡ false }
+{
+    text_option(alloc, name, value).action(ArgAction::Append)
+}
+
+fn may_stand<'a>(alloc: Global, name: &'a str) -> Arg<'a>
+    ensures rule { rule_of result ≡ may_stand name.entry.now }
+    ensures local { result.global ≡ false }
+{
+    Arg::new(alloc, name)
 }
 
 pub(crate) fn needed<'a>(alloc: Global, name: &'a str) -> Arg<'a>

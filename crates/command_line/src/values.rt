@@ -1,5 +1,5 @@
 //! The values of arguments that `clap` found.
-ghost use Rattle.std.specs.Prelude.{◌≡◌, map, option_map, IfOk};
+ghost use Rattle.std.specs.Prelude.{◌≡◌, [], map, option_map, unwrap_or, IfOk};
 ghost use Rattle.clap.specs.Words.{all_of, first_of, found_of, one_of, rows_of};
 ghost use Rattle.command_line.specs.Words.{IsOptionalNumber, is_set};
 
@@ -36,6 +36,21 @@ pub(crate) fn values_of<'a>(
             Ok(Some(all))
         }
         None => Ok(None),
+    }
+}
+
+/// The values of an argument that may stand several times, and need not stand at all.
+pub(crate) fn values_if<'a>(
+    alloc: Global,
+    found: &ArgMatches<'a>,
+    id: &str,
+) -> Result<Vec<&'a str>, AllocError>
+    ensures { IfOk result (λ v. unwrap_or (all_of id.now (rows_of (found_of found.now))) []
+        ≡ map (λ w. w.now) v.items) }
+{
+    match values_of(alloc, found, id)? {
+        Some(values) => Ok(values),
+        None => Ok(Vec::new(alloc)),
     }
 }
 

@@ -186,6 +186,15 @@ pub enum Job<'a> {
         /// The paths of the scenarios' images, each alone or as `A-B=IMAGE`.
         images: Vec<&'a str>,
     },
+    /// What servers did wrong in the steps of a scenario.
+    Lint {
+        /// The path of the scenario's image; where it is not given, the rules are printed.
+        image: Option<&'a str>,
+        /// The names of the rules that are looked at; none: all.
+        only: Vec<&'a str>,
+        /// The names of the rules that are not.
+        except: Vec<&'a str>,
+    },
 }
 
 /// A device that receives the datagrams of the network, and answers them.
