@@ -174,7 +174,8 @@ with_rules a = with_rule (with_rule a (text_options (codes "only"))) (text_optio
 
 -- `lint [IMAGE] [--only RULE] .. [--not RULE] .. [--rules]`
 abbrev pub lint_app : App
-lint_app = with_rule (with_rules (with_rule (new_app (codes "lint")) (may_stand (codes "IMAGE")))) (flag (codes "rules"))
+lint_app =
+    with_rule (with_rules (with_rule (new_app (codes "lint")) (may_stand (codes "IMAGE")))) (flag (codes "rules"))
 
 -- `FILE .. [--only WORDS]`
 abbrev pub with_cases : App → App
