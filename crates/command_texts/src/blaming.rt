@@ -1,12 +1,12 @@
 //! Which word of a refused line is to blame.
-ghost use Rattle.std.specs.Prelude.{◌≡◌, ◌↔◌, ℕ, List, Option, IfOk, IsTrue, MatchOption};
+ghost use Rattle.std.specs.Prelude.{◌≡◌, ◌↔◌, ℕ, List, Option, Some, IfOk, IsTrue, MatchOption, option_map};
 ghost use Rattle.std.specs.String.{string_bytes};
 ghost use Rattle.scenario_words.specs.Words.{words};
 ghost use Rattle.scenario_words.specs.declared.cause.Cause.{Cause};
-ghost use Rattle.command_texts.specs.Blamed.{AreRefusedFor, HaveNoWrongWord, IsBlamed, IsSaidOfLine, IsSaidOfWord};
-ghost use Rattle.command_texts.specs.Blamed.{IsShown, IsWrongWord, line_at, statement_cause};
+ghost use Rattle.command_texts.specs.Blamed.{AreRefusedFor, HaveNoWrongWord, IsBlamed, IsRefusedText};
+ghost use Rattle.command_texts.specs.Blamed.{IsSaidOfLine, IsSaidOfWord, IsShown, IsWrongWord, line_at, statement_cause};
 
-use command_files::Why;
+use command_files::{Fault, Refusal, Why};
 use scenario_asm::AsmFault;
 use scenario_statements::read_statement;
 use scenario_words::{Cause, next_line, next_word};
@@ -33,24 +33,65 @@ impl LineReader for Statements {
     ghost causes = { statement_cause };
 
     fn cause_of(&self, alloc: Global, line: &[u8]) -> Result<Option<Cause>, AllocError> {
-        match read_statement(alloc, line) {
-            Ok(_) => Ok(None),
-            Err(Cause::Memory) => Err(AllocError),
-            Err(cause) => Ok(Some(cause)),
-        }
+        statement_cause(alloc, line)
     }
 }
 
-/// The word or the line of a text of a scenario that is to blame for this fault.
-pub fn blame(alloc: Global, text: &str, fault: AsmFault) -> Result<Why, AllocError>
-    ensures { IfOk result (IsBlamed statement_cause text.now fault) }
+/// Why the words of a line of scenario text are refused; none where they are not.
+pub fn statement_cause(alloc: Global, line: &[u8]) -> Result<Option<Cause>, AllocError>
+    ensures { IfOk result (λ cause. cause ≡ statement_cause (words line.now)) }
 {
-    blame_by(alloc, text, fault, &Statements)
+    match read_statement(alloc, line) {
+        Ok(_) => Ok(None),
+        Err(Cause::Memory) => Err(AllocError),
+        Err(cause) => Ok(Some(cause)),
+    }
 }
 
-#[tactic(auto, using(crate::proofs::Searching::word_blamed, crate::proofs::Searching::line_blamed))]
+/// The refusal for this fault of the text of a scenario in the file at this path, with what is to blame.
+pub(crate) fn refuse_text<'a>(
+    alloc: Global,
+    path: &'a str,
+    text: &str,
+    fault: AsmFault,
+) -> Refusal<'a>
+    ensures blamed { IsRefusedText statement_cause text.now fault result.fault result.why }
+    ensures names_path { option_map (λ p. p.now) result.about ≡ Some path.entry.now }
+{
+    refuse_by(alloc, Some(path), text, fault, &Statements)
+}
+
+/// The refusal for this fault of a text whose lines have this reader, with what is to blame.
+#[tactic(auto, using(crate::proofs::Denoted::refused_so, crate::proofs::Denoted::no_memory))]
+pub fn refuse_by<'a, L: LineReader>(
+    alloc: Global,
+    about: Option<&'a str>,
+    text: &str,
+    fault: AsmFault,
+    reader: &L,
+) -> Refusal<'a>
+    ensures blamed { IsRefusedText L.causes text.now fault result.fault result.why }
+    ensures about { option_map (λ p. p.now) result.about ≡ option_map (λ p. p.now) about.entry }
+{
+    if fault.cause != Cause::Memory {
+        if let Ok(why) = blame(alloc, text, fault, reader) {
+            return Refusal {
+                fault: Fault::Text(fault),
+                about,
+                why,
+            };
+        }
+    }
+    Refusal {
+        fault: Fault::Memory,
+        about,
+        why: Why::Named,
+    }
+}
+
 /// The word or the line of a text that is to blame for this fault, where its lines have this reader.
-pub fn blame_by<L: LineReader>(
+#[tactic(auto, using(crate::proofs::Searching::word_blamed, crate::proofs::Searching::line_blamed))]
+fn blame<L: LineReader>(
     alloc: Global,
     text: &str,
     fault: AsmFault,
