@@ -40,7 +40,8 @@ pub memory_printed : {T E : Type 0} → (about blamed : Option (List ℕ)) (faul
     (before after : Option (List ℕ))
     → OnOk result (Appends before after (ended_line (codes "{\"fault\":\"memory\"}")))
     → OnOk result ((text : List ℕ) × IsFaultObject about blamed fault text × Appends before after text)
-memory_printed about blamed fault (Ok x) before after h = (ended_line (codes "{\"fault\":\"memory\"}"), inr memory_is, h)
+memory_printed about blamed fault (Ok x) before after h =
+    (ended_line (codes "{\"fault\":\"memory\"}"), inr memory_is, h)
 memory_printed about blamed fault (Err e) before after h = tt
 
 pub unprinted_so : (about blamed : Option (List ℕ)) (fault : Fault) (text : List ℕ) (refuses : List ℕ → Type 0)

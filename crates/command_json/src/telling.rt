@@ -20,11 +20,11 @@ fn print_object<O: Output>(
 ) -> Result<(), FileFault>
     ensures printed { OnOk result ((text : List ℕ)
         × IsFaultObject (option_map (λ p. p.now) refusal.now.about) (blamed_word refusal.now.why)
-            refusal.now.fault text
+        refusal.now.fault text
         × Appends (O.taken output.old) (O.taken output.new) text) }
     ensures refused { OnErr result ((text : List ℕ)
         × IsFaultObject (option_map (λ p. p.now) refusal.now.about) (blamed_word refusal.now.why)
-            refusal.now.fault text × O.refuses text) }
+        refusal.now.fault text × O.refuses text) }
 {
     match object_line(alloc, refusal) {
         Ok(line) => output.print(line.as_str()),

@@ -4,7 +4,8 @@ use Rattle.std.proofs.Common.{arith, subst, unwrap_or}
 use Rattle.scenario_words.specs.Words.{lines}
 
 -- the list without its first, at the place before
-behind_first : {X : Type 0} → (x : X) (xs : List X) (n : ℕ) → 1 < n → slice_get (x ∷ xs) (n - 1) ≡ slice_get xs (n - 1 - 1)
+behind_first : {X : Type 0} → (x : X) (xs : List X) (n : ℕ) → 1 < n
+    → slice_get (x ∷ xs) (n - 1) ≡ slice_get xs (n - 1 - 1)
 behind_first x xs n more =
     let at : n - 1 ≡ suc (n - 1 - 1) = omega arith in ap (λ i. slice_get (x ∷ xs) i) at
 
