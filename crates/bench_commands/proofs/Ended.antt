@@ -481,26 +481,26 @@ finished files faults before after terminal words status done = record { ended =
     so (inr (inr (inr (served, same)))) = unread before.streams.input after.streams.input same
 
 -- what is told is the same beside an input
-told_in : (json : Bool) (faults : StreamFaults) (between after : World) (about : Option (List ℕ)) (fault : Fault)
+told_in : (json : Bool) (faults : StreamFaults) (between after : World) (about blamed : Option (List ℕ)) (fault : Fault)
     → IsToldIn json
     (record { input_fails = ⊥; output_refuses = faults.output_refuses; errors_refuse = faults.errors_refuse })
     (record { input = None; output = between.streams.output; errors = between.streams.errors })
-    (record { input = None; output = after.streams.output; errors = after.streams.errors }) about fault
-    → IsToldIn json faults between.streams after.streams about fault
-told_in false faults between after about fault told = told
-told_in true faults between after about fault told = told
+    (record { input = None; output = after.streams.output; errors = after.streams.errors }) about blamed fault
+    → IsToldIn json faults between.streams after.streams about blamed fault
+told_in false faults between after about blamed fault told = told
+told_in true faults between after about blamed fault told = told
 
 pub faulted : (files : FilesKnown) (faults : StreamFaults) (before between after : World) (terminal : Bool)
-    (about : Option (List ℕ)) (words : List (List ℕ)) (fault : Fault) (json : Bool) (status : Status)
+    (about blamed : Option (List ℕ)) (words : List (List ℕ)) (fault : Fault) (json : Bool) (status : Status)
     → status ≡ ends.Fault
     → IsUnfinished files faults before between terminal words fault → IsFormOf words fault json
     → IsToldIn json
     (record { input_fails = ⊥; output_refuses = faults.output_refuses; errors_refuse = faults.errors_refuse })
     (record { input = None; output = between.streams.output; errors = between.streams.errors })
-    (record { input = None; output = after.streams.output; errors = after.streams.errors }) about fault
+    (record { input = None; output = after.streams.output; errors = after.streams.errors }) about blamed fault
     → after.made ≡ between.made → after.streams.input ≡ between.streams.input
     → Ends files faults before after terminal words status
-faulted files faults before between after terminal about words fault json status ended undone form told none_made
+faulted files faults before between after terminal about blamed words fault json status ended undone form told none_made
     none_read =
     record {
       ended = inr (
@@ -510,9 +510,10 @@ faulted files faults before between after terminal about words fault json status
           between = between;
           undone = undone;
           about = about;
+          blamed = blamed;
           json = json;
           form = form;
-          told = told_in json faults between after about fault told;
+          told = told_in json faults between after about blamed fault told;
           none_made = none_made;
           none_read = none_read;
         },

@@ -352,9 +352,9 @@ pub record AskInForm (words : List (List ℕ)) (json : Bool) : Type 0 where
 abbrev pub IsFormOf : List (List ℕ) → Fault → Bool → Type 0
 IsFormOf words fault json = AskInForm words json ⊎ ((fault ≡ Memory) × (json ≡ false))
 
-abbrev pub IsToldIn : Bool → StreamFaults → Streams → Streams → Option (List ℕ) → Fault → Type 0
-IsToldIn false faults before after about fault = IsTold faults before after about fault
-IsToldIn true faults before after about fault = IsToldInJson faults before after about fault
+abbrev pub IsToldIn : Bool → StreamFaults → Streams → Streams → Option (List ℕ) → Option (List ℕ) → Fault → Type 0
+IsToldIn false faults before after about blamed fault = IsTold faults before after about fault
+IsToldIn true faults before after about blamed fault = IsToldInJson faults before after about blamed fault
 
 -- what the words ask for was not done, and that was told
 pub record IsFaulted (files : FilesKnown) (faults : StreamFaults) (before after : World) (terminal : Bool)
@@ -365,10 +365,12 @@ pub record IsFaulted (files : FilesKnown) (faults : StreamFaults) (before after 
   pub undone : IsUnfinished files faults before between terminal words fault
   -- the file or the word that standard error names
   pub about : Option (List ℕ)
+  -- the word of a refused line that is to blame
+  pub blamed : Option (List ℕ)
   -- whether it is told in JSON
   pub json : Bool
   pub form : IsFormOf words fault json
-  pub told : IsToldIn json faults between.streams after.streams about fault
+  pub told : IsToldIn json faults between.streams after.streams about blamed fault
   pub none_made : after.made ≡ between.made
   pub none_read : after.streams.input ≡ between.streams.input
 

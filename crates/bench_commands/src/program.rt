@@ -1,6 +1,7 @@
 //! One command: its words, its answer, and the status that the program ends with.
 ghost use Rattle.std.specs.Prelude.{◌≡◌, IfErr, IfOk, None, map, option_map};
 ghost use Rattle.std.specs.String.{string_bytes};
+ghost use Rattle.command_json.specs.Told.{blamed_word};
 ghost use Rattle.bench_commands.specs.Command.{Ends, IsFinished, IsFormOf, IsToldIn, IsUnfinished};
 
 use crate::asked::answer_words;
@@ -94,7 +95,7 @@ fn tell_in<O: Output, E: Output>(
         (record { input_fails = ⊥; output_refuses = O.refuses; errors_refuse = E.refuses })
         (record { input = None; output = O.taken output.old; errors = E.taken errors.old })
         (record { input = None; output = O.taken output.new; errors = E.taken errors.new })
-        (option_map (λ p. p.now) refusal.now.about) refusal.now.fault }
+        (option_map (λ p. p.now) refusal.now.about) (blamed_word refusal.now.why) refusal.now.fault }
 {
     if json {
         tell_in_json(alloc, refusal, output, errors)

@@ -2,7 +2,9 @@
 use Rattle.std.proofs.Common.{ℕ, ◌≡◌, List, Option, None, Some, IfSome}
 use Rattle.std.specs.Io.KnownBytes.{Appends, Keeps}
 use Rattle.std.proofs.KnownBytes.{Appends-kept}
-use Rattle.command_files.specs.Refusals.{IsAbout, about_line, plain_line}
+use Rattle.command_files.specs.Refusals.{IsAbout, IsComplaint, IsReason, about_line, plain_line}
+use Rattle.command_files.specs.declared.fault.Fault.{Fault}
+use Rattle.command_files.specs.declared.refusal.Why.{Why}
 
 -- what was printed and then passed on
 pub passed_on : (text before between after : Option (List ℕ)) → IfSome text (Appends before between)
@@ -21,3 +23,11 @@ is_about about why text same = (why, same)
 
 pub is_plain : (why text : List ℕ) → text ≡ plain_line why → IsAbout None text
 is_plain why text same = (why, same)
+
+pub complains_about : (about : List ℕ) (fault : Fault) (why : Why) (reason text : List ℕ)
+    → IsReason fault why reason → text ≡ about_line about reason → IsComplaint (Some about) fault why text
+complains_about about fault why reason text is same = (reason, is, same)
+
+pub complains_plainly : (fault : Fault) (why : Why) (reason text : List ℕ) → IsReason fault why reason
+    → text ≡ plain_line reason → IsComplaint None fault why text
+complains_plainly fault why reason text is same = (reason, is, same)

@@ -1,10 +1,13 @@
 -- What standard error says of a fault.
-use Rattle.std.specs.Prelude.{ℕ, ◌≡◌, ◌⊎◌, List, ◌++◌, Option, None, Some, codes}
+use Rattle.std.specs.Prelude.{⊤, ℕ, ◌≡◌, ◌⊎◌, List, ◌++◌, Option, None, Some, codes}
 use Rattle.std.specs.Io.KnownBytes.{Appends}
-use Rattle.command_files.specs.FaultLine.{fault_line}
+use Rattle.std.specs.String.{string_bytes}
+use Rattle.command_files.specs.FaultLine.{fault_line, fault_name}
 use Rattle.scenario_words.specs.Words.{ended_line}
 use Rattle.command_files.specs.World.{StreamFaults, Streams}
 use Rattle.command_files.specs.declared.fault.Fault.{Fault}
+use Rattle.command_files.specs.declared.refusal.Why.{Why}
+use Rattle.command_files.specs.declared.refusal.Why.TheVariants.{Known, Line, Made, Named, Word}
 
 -- `lwbench: ABOUT: WHY`
 abbrev pub about_line : List ℕ → List ℕ → List ℕ
@@ -18,6 +21,27 @@ plain_line why = ended_line (codes "lwbench: " ++ why)
 abbrev pub IsAbout : Option (List ℕ) → List ℕ → Type 0
 IsAbout None text = (why : List ℕ) × (text ≡ plain_line why)
 IsAbout (Some about) text = (why : List ℕ) × (text ≡ about_line about why)
+
+-- a fault, and in quotes the word of the refused line that is to blame, or the line
+abbrev pub with_word : Fault → List ℕ → List ℕ
+with_word fault word = fault_name fault ++ codes " \"" ++ word ++ codes "\""
+
+abbrev pub with_line : Fault → List ℕ → List ℕ
+with_line fault line = fault_name fault ++ codes " in \"" ++ line ++ codes "\""
+
+-- why something was refused for this fault, in words; those of its name are any
+abbrev pub IsReason : Fault → Why → List ℕ → Type 0
+IsReason fault Named reason = ⊤
+IsReason fault (Known words) reason = reason ≡ words.now
+IsReason fault (Made words) reason = reason ≡ string_bytes words
+IsReason fault (Word word) reason = reason ≡ with_word fault (string_bytes word)
+IsReason fault (Line line) reason = reason ≡ with_line fault (string_bytes line)
+
+-- a line about this file or word, if the fault is about one, with the reason
+abbrev pub IsComplaint : Option (List ℕ) → Fault → Why → List ℕ → Type 0
+IsComplaint None fault why text = (reason : List ℕ) × IsReason fault why reason × (text ≡ plain_line reason)
+IsComplaint (Some about) fault why text =
+    (reason : List ℕ) × IsReason fault why reason × (text ≡ about_line about reason)
 
 -- standard error got nothing, or a line about this, which it may not have taken
 abbrev pub IsReported : StreamFaults → Streams → Streams → Option (List ℕ) → Type 0

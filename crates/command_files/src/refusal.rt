@@ -1,7 +1,8 @@
 //! A fault, and what standard error says of it.
 ghost use Rattle.std.specs.Prelude.{◌≡◌, IfOk, option_map};
 ghost use Rattle.std.specs.String.{string_bytes};
-ghost use Rattle.command_files.specs.Refusals.{IsAbout, about_line, plain_line};
+ghost use Rattle.command_files.specs.Refusals.{IsAbout, IsComplaint, IsReason, about_line, plain_line, with_line};
+ghost use Rattle.command_files.specs.Refusals.{with_word};
 
 use crate::fault::Fault;
 use scenario_image::ScenarioFault;
@@ -27,6 +28,10 @@ pub enum Why {
     Known(&'static str),
     /// These words say it, which were put together for it.
     Made(String),
+    /// This word of a refused line is to blame.
+    Word(String),
+    /// This is the refused line, of which no word is to blame.
+    Line(String),
 }
 
 impl<'a> From<Fault> for Refusal<'a> {
@@ -57,9 +62,11 @@ impl<'a> From<AllocError> for Refusal<'a> {
 
 /// The line that standard error gets for a refusal. It begins with the path of the file that is refused, if there is
 /// one.
-#[tactic(auto, using(crate::proofs::Streams::is_about, crate::proofs::Streams::is_plain))]
+#[tactic(auto, using(crate::proofs::Streams::is_about, crate::proofs::Streams::is_plain, crate::proofs::Streams::complains_about, crate::proofs::Streams::complains_plainly))]
 pub fn complaint(alloc: Global, refusal: &Refusal) -> Result<String, AllocError>
-    ensures { IfOk result (λ text. IsAbout (option_map (λ p. p.now) refusal.now.about) (string_bytes text)) }
+    ensures about { IfOk result (λ text. IsAbout (option_map (λ p. p.now) refusal.now.about) (string_bytes text)) }
+    ensures reason { IfOk result (λ text. IsComplaint (option_map (λ p. p.now) refusal.now.about) refusal.now.fault
+        refusal.now.why (string_bytes text)) }
 {
     let why = words_of(alloc, refusal)?;
     match refusal.about {
@@ -68,12 +75,28 @@ pub fn complaint(alloc: Global, refusal: &Refusal) -> Result<String, AllocError>
     }
 }
 
-fn words_of(alloc: Global, refusal: &Refusal) -> Result<String, AllocError> {
+fn words_of(alloc: Global, refusal: &Refusal) -> Result<String, AllocError>
+    ensures { IfOk result (λ text. IsReason refusal.now.fault refusal.now.why (string_bytes text)) }
+{
     match &refusal.why {
         Why::Named => named(alloc, refusal.fault),
         Why::Known(words) => String::from_str(alloc, words),
         Why::Made(words) => String::from_str(alloc, words.as_str()),
+        Why::Word(word) => with_word(alloc, refusal.fault, word.as_str()),
+        Why::Line(line) => with_line(alloc, refusal.fault, line.as_str()),
     }
+}
+
+fn with_word(alloc: Global, fault: Fault, word: &str) -> Result<String, AllocError>
+    ensures { IfOk result (λ text. string_bytes text ≡ with_word fault word.now) }
+{
+    format!(in alloc; "{fault} \"{word}\"")
+}
+
+fn with_line(alloc: Global, fault: Fault, line: &str) -> Result<String, AllocError>
+    ensures { IfOk result (λ text. string_bytes text ≡ with_line fault line.now) }
+{
+    format!(in alloc; "{fault} in \"{line}\"")
 }
 
 fn named(alloc: Global, fault: Fault) -> Result<String, AllocError> {

@@ -1,6 +1,7 @@
 -- What is printed of a fault with `--json`: an object, in the place of the fault's line.
-use Rattle.std.specs.Prelude.{⊤, ℕ, ◌≡◌, ◌⊎◌, List, [], ◌∷◌, Option, None, Some, codes, option_map}
+use Rattle.std.specs.Prelude.{ℕ, ◌≡◌, ◌⊎◌, List, [], ◌∷◌, Option, None, Some, codes, option_map}
 use Rattle.std.specs.Io.KnownBytes.{Appends}
+use Rattle.std.specs.String.{string_bytes}
 use Rattle.scenario_words.specs.CauseWords.{cause_words}
 use Rattle.serde_json.specs.Data.{string}
 use Rattle.trace_json.specs.declared.notes.FaultParts.{FaultParts}
@@ -13,6 +14,8 @@ use Rattle.command_files.specs.World.{StreamFaults, Streams}
 use Rattle.command_files.specs.declared.fault.Fault.{Fault}
 use Rattle.command_files.specs.declared.fault.Fault.TheVariants.{Bind, Cases, Hex, NoDatagram, NoDevice, NoSuchCase, Slices}
 use Rattle.command_files.specs.declared.fault.Fault.TheVariants.{Text, Wire}
+use Rattle.command_files.specs.declared.refusal.Why.{Why}
+use Rattle.command_files.specs.declared.refusal.Why.TheVariants.{Word}
 
 -- ---- what the object has
 
@@ -45,40 +48,45 @@ refused_file NoDatagram about = None
 refused_file Slices about = None
 refused_file _ about = about
 
--- the word that a fault is about; of a line of a scenario's text any, as on standard error
-abbrev pub IsRefusedWord : Fault → Option (List ℕ) → Option (List ℕ) → Type 0
-IsRefusedWord Hex about word = word ≡ about
-IsRefusedWord NoDevice about word = word ≡ about
-IsRefusedWord Bind about word = word ≡ about
-IsRefusedWord Wire about word = word ≡ about
-IsRefusedWord NoSuchCase about word = word ≡ about
-IsRefusedWord NoDatagram about word = word ≡ about
-IsRefusedWord Slices about word = word ≡ about
-IsRefusedWord (Text fault) about word = ⊤
-IsRefusedWord _ about word = word ≡ None
+-- the word of a refused line that a refusal says is to blame
+abbrev pub blamed_word : Why → Option (List ℕ)
+blamed_word (Word word) = Some (string_bytes word)
+blamed_word _ = None
 
--- the members of the object of a fault that is about this file or word
-pub record ArePartsOf (about : Option (List ℕ)) (fault : Fault) (parts : FaultParts) : Type 0 where
+-- the word that a fault is about; of a line of a scenario's text the one that is to blame
+abbrev pub IsRefusedWord : Fault → Option (List ℕ) → Option (List ℕ) → Option (List ℕ) → Type 0
+IsRefusedWord Hex about blamed word = word ≡ about
+IsRefusedWord NoDevice about blamed word = word ≡ about
+IsRefusedWord Bind about blamed word = word ≡ about
+IsRefusedWord Wire about blamed word = word ≡ about
+IsRefusedWord NoSuchCase about blamed word = word ≡ about
+IsRefusedWord NoDatagram about blamed word = word ≡ about
+IsRefusedWord Slices about blamed word = word ≡ about
+IsRefusedWord (Text fault) about blamed word = word ≡ blamed
+IsRefusedWord _ about blamed word = word ≡ None
+
+-- the members of the object of a fault that is about this file or word; in a line this word is to blame, if one is
+pub record ArePartsOf (about blamed : Option (List ℕ)) (fault : Fault) (parts : FaultParts) : Type 0 where
   pub name : parts.name.now ≡ object_name fault
   pub line : parts.line ≡ refused_line fault
   pub place : parts.place ≡ place_of fault
   pub cause : option_map (λ x. x.now) parts.cause ≡ refusal_cause fault
-  pub word : IsRefusedWord fault about (option_map (λ x. x.now) parts.word)
+  pub word : IsRefusedWord fault about blamed (option_map (λ x. x.now) parts.word)
   pub file : option_map (λ x. x.now) parts.file ≡ refused_file fault about
 
 -- ---- its line
 
 -- the line of the fault's object
-abbrev pub IsObjectLine : Option (List ℕ) → Fault → List ℕ → Type 0
-IsObjectLine about fault text =
-    (parts : FaultParts) × ArePartsOf about fault parts × (text ≡ json_line (fault_json parts))
+abbrev pub IsObjectLine : Option (List ℕ) → Option (List ℕ) → Fault → List ℕ → Type 0
+IsObjectLine about blamed fault text =
+    (parts : FaultParts) × ArePartsOf about blamed fault parts × (text ≡ json_line (fault_json parts))
 
 -- where no memory is left for that: `{"fault":"memory"}`
 abbrev pub memory_line : List ℕ
 memory_line = json_line (object_json ((codes "fault", string (codes "memory")) ∷ []))
 
-abbrev pub IsFaultObject : Option (List ℕ) → Fault → List ℕ → Type 0
-IsFaultObject about fault text = IsObjectLine about fault text ⊎ (text ≡ memory_line)
+abbrev pub IsFaultObject : Option (List ℕ) → Option (List ℕ) → Fault → List ℕ → Type 0
+IsFaultObject about blamed fault text = IsObjectLine about blamed fault text ⊎ (text ≡ memory_line)
 
 -- standard output got this text, and standard error at most one line about the fault; or the first was not taken, and
 -- the second got nothing
@@ -88,6 +96,6 @@ IsToldWith faults before after about text =
     ⊎ (faults.output_refuses text × (after.errors ≡ before.errors))
 
 -- the fault was told as an object
-abbrev pub IsToldInJson : StreamFaults → Streams → Streams → Option (List ℕ) → Fault → Type 0
-IsToldInJson faults before after about fault =
-    (text : List ℕ) × IsFaultObject about fault text × IsToldWith faults before after about text
+abbrev pub IsToldInJson : StreamFaults → Streams → Streams → Option (List ℕ) → Option (List ℕ) → Fault → Type 0
+IsToldInJson faults before after about blamed fault =
+    (text : List ℕ) × IsFaultObject about blamed fault text × IsToldWith faults before after about text

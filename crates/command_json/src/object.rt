@@ -2,7 +2,7 @@
 ghost use Rattle.std.specs.Prelude.{◌≡◌, IfOk, option_map};
 ghost use Rattle.std.specs.String.{string_bytes};
 ghost use Rattle.command_files.specs.FaultLine.{place_of};
-ghost use Rattle.command_json.specs.Told.{IsObjectLine, refused_line};
+ghost use Rattle.command_json.specs.Told.{IsObjectLine, blamed_word, refused_line};
 
 use crate::parts::{
     blamed_word, object_name, refusal_cause, refused_file, refused_line, refused_place,
@@ -50,14 +50,13 @@ fn parts_of<'b>(
 /// The line of the object of a refusal's fault.
 #[tactic(auto, using(crate::proofs::Objects::object_line))]
 pub fn object_line(alloc: Global, refusal: &Refusal) -> Result<String, AllocError>
-    ensures { IfOk result (λ t. IsObjectLine (option_map (λ p. p.now) refusal.now.about) refusal.now.fault
-        (string_bytes t)) }
+    ensures { IfOk result (λ t. IsObjectLine (option_map (λ p. p.now) refusal.now.about) (blamed_word refusal.now.why)
+        refusal.now.fault (string_bytes t)) }
 {
     let fault = refusal.fault;
     let name = object_name(alloc, fault)?;
     let cause = refusal_cause(alloc, fault)?;
-    let blamed = blamed_word(alloc, refusal)?;
-    let word = refused_word(fault, refusal.about, blamed);
+    let word = refused_word(fault, refusal.about, blamed_word(&refusal.why));
     let file = refused_file(fault, refusal.about);
     let parts = parts_of(fault, name.as_str(), text_of(&cause), word, file);
     fault_line(alloc, &parts)

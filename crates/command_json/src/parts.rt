@@ -2,12 +2,13 @@
 ghost use Rattle.std.specs.Prelude.{◌≡◌, IfOk, option_map};
 ghost use Rattle.std.specs.String.{string_bytes};
 ghost use Rattle.command_files.specs.FaultLine.{place_of};
-ghost use Rattle.command_json.specs.Told.{IsRefusedWord, object_name, refusal_cause, refused_file, refused_line};
+ghost use Rattle.command_json.specs.Told.{IsRefusedWord, blamed_word, object_name, refusal_cause, refused_file};
+ghost use Rattle.command_json.specs.Told.{refused_line};
 
 use crate::cases::case_words;
 use byte_layout::LayoutFault;
 use case_text::CaseFault;
-use command_files::{Fault, Refusal, Why};
+use command_files::{Fault, Why};
 use scenario_asm::AsmFault;
 use scenario_words::cause_words;
 use std::alloc::{AllocError, Global};
@@ -75,13 +76,14 @@ pub(crate) fn refused_file<'a>(fault: Fault, about: Option<&'a str>) -> Option<&
     }
 }
 
-/// The word that a fault is about; `blamed` for a line of a scenario's text.
+/// The word that a fault is about; of a line of a scenario's text the one that is to blame.
 pub(crate) fn refused_word<'a>(
     fault: Fault,
     about: Option<&'a str>,
     blamed: Option<&'a str>,
 ) -> Option<&'a str>
-    ensures { IsRefusedWord fault (option_map (λ x. x.now) about.entry) (option_map (λ x. x.now) result) }
+    ensures { IsRefusedWord fault (option_map (λ x. x.now) about.entry) (option_map (λ x. x.now) blamed.entry)
+        (option_map (λ x. x.now) result) }
 {
     match fault {
         Fault::Hex
@@ -96,18 +98,12 @@ pub(crate) fn refused_word<'a>(
     }
 }
 
-/// The word that a refusal blames on standard error, where it stands in quotes after the fault's name.
-pub(crate) fn blamed_word<'b>(
-    alloc: Global,
-    refusal: &'b Refusal<'_>,
-) -> Result<Option<&'b str>, AllocError> {
-    let Why::Made(words) = &refusal.why else {
-        return Ok(None);
-    };
-    let fault = refusal.fault;
-    let name = format!(in alloc; "{fault} \"")?;
-    match words.as_str().strip_prefix(name.as_str()) {
-        Some(rest) => Ok(rest.strip_suffix('"')),
-        None => Ok(None),
+/// The word of a refused line that is to blame, as standard error has it.
+pub(crate) fn blamed_word(why: &Why) -> Option<&str>
+    ensures { option_map (λ x. x.now) result ≡ blamed_word why.now }
+{
+    match why {
+        Why::Word(word) => Some(word.as_str()),
+        _ => None,
     }
 }

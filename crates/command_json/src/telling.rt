@@ -1,7 +1,7 @@
 //! What is said in JSON where something was refused.
 ghost use Rattle.std.specs.Prelude.{◌≡◌, List, None, OnErr, OnOk, option_map, ℕ};
 ghost use Rattle.std.specs.Io.KnownBytes.{Appends};
-ghost use Rattle.command_json.specs.Told.{IsFaultObject, IsToldInJson};
+ghost use Rattle.command_json.specs.Told.{IsFaultObject, IsToldInJson, blamed_word};
 
 use crate::object::object_line;
 use command_files::files::FileFault;
@@ -19,10 +19,12 @@ fn print_object<O: Output>(
     output: &mut O,
 ) -> Result<(), FileFault>
     ensures printed { OnOk result ((text : List ℕ)
-        × IsFaultObject (option_map (λ p. p.now) refusal.now.about) refusal.now.fault text
+        × IsFaultObject (option_map (λ p. p.now) refusal.now.about) (blamed_word refusal.now.why)
+        refusal.now.fault text
         × Appends (O.taken output.old) (O.taken output.new) text) }
     ensures refused { OnErr result ((text : List ℕ)
-        × IsFaultObject (option_map (λ p. p.now) refusal.now.about) refusal.now.fault text × O.refuses text) }
+        × IsFaultObject (option_map (λ p. p.now) refusal.now.about) (blamed_word refusal.now.why)
+        refusal.now.fault text × O.refuses text) }
 {
     match object_line(alloc, refusal) {
         Ok(line) => output.print(line.as_str()),
@@ -44,7 +46,7 @@ pub fn tell_in_json<O: Output, E: Output>(
         (record { input_fails = ⊥; output_refuses = O.refuses; errors_refuse = E.refuses })
         (record { input = None; output = O.taken output.old; errors = E.taken errors.old })
         (record { input = None; output = O.taken output.new; errors = E.taken errors.new })
-        (option_map (λ p. p.now) refusal.now.about) refusal.now.fault }
+        (option_map (λ p. p.now) refusal.now.about) (blamed_word refusal.now.why) refusal.now.fault }
 {
     match print_object(alloc, refusal, output) {
         Ok(()) => complain(alloc, refusal, errors),

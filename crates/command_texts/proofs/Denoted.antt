@@ -1,5 +1,5 @@
 -- What is read of a text, put together from its parts.
-use Rattle.std.proofs.Common.{ℕ, ◌≡◌, ◌≢◌, List, Err, rules, inl, inr, subst, sym}
+use Rattle.std.proofs.Common.{ℕ, ◌≡◌, ◌≢◌, List, Option, Err, inl, inr, subst, sym}
 use Rattle.std.specs.Str.{IsUtf8}
 use Rattle.scenario_image.specs.Scenario.{Scenario}
 use Rattle.scenario_words.specs.declared.cause.Cause.{Cause}
@@ -7,10 +7,13 @@ use Rattle.scenario_words.specs.declared.cause.Cause.TheVariants as cause
 use Rattle.scenario_asm.specs.Denotes.{Denotes}
 use Rattle.scenario_asm.specs.Text.{assembled}
 use Rattle.scenario_asm.specs.declared.fault.AsmFault.{AsmFault}
-use Rattle.command_files.specs.Fault.{IsReadingFault, refused_text, text_fault}
+use Rattle.command_files.specs.Fault.{IsReadingFault}
 use Rattle.command_files.specs.declared.fault.Fault.{Fault}
 use Rattle.command_files.specs.declared.fault.Fault.TheVariants as faults
-use Rattle.command_texts.specs.Texts.{IsNoText, IsTextAt, IsTextFault}
+use Rattle.command_files.specs.declared.refusal.Why.{Why}
+use Rattle.command_files.specs.declared.refusal.Why.TheVariants as whys
+use Rattle.command_texts.specs.Blamed.{IsBlamed, IsRefusedText, statement_cause}
+use Rattle.command_texts.specs.Texts.{IsNoText, IsTextAt, IsTextFault, IsTextWhy, IsTextWhyAt}
 
 pub text_at : (holds : List ℕ → List ℕ → Type 0) (path bytes : List ℕ) (s : Scenario) → holds path bytes
     → Denotes bytes s → IsTextAt holds path s
@@ -27,20 +30,81 @@ no_text_at holds fails path bytes f held h = inr (record { bytes = bytes; held =
 pub no_utf8 : (bytes : List ℕ) → ¬ (IsUtf8 bytes) → IsNoText bytes faults.Read
 no_utf8 bytes broken = broken
 
-refused_as : (bytes : List ℕ) (c : Cause) (fault : AsmFault) → (c ≢ cause.Memory → assembled bytes ≡ Err fault)
-    → IsNoText bytes (refused_text c fault)
-refused_as bytes cause.Missing fault h = h (search rules)
-refused_as bytes cause.Token fault h = h (search rules)
-refused_as bytes cause.UnknownWord fault h = h (search rules)
-refused_as bytes cause.Range fault h = h (search rules)
-refused_as bytes cause.Duplicate fault h = h (search rules)
-refused_as bytes cause.Limit fault h = h (search rules)
-refused_as bytes cause.Memory fault h = tt
-
 -- a text that denotes no scenario
-pub wrong_text : (bytes : List ℕ) (fault : AsmFault)
-    → (fault.cause ≢ cause.Memory → assembled bytes ≡ Err fault) → IsNoText bytes (text_fault fault)
-wrong_text bytes fault h = refused_as bytes fault.cause fault h
+pub wrong_text : (bytes : List ℕ) (fault : AsmFault) (f : Fault) (why : Why)
+    → (fault.cause ≢ cause.Memory → assembled bytes ≡ Err fault)
+    → IsRefusedText statement_cause bytes fault f why → IsNoText bytes f
+wrong_text bytes fault f why h (inl told) = subst (λ g. IsNoText bytes g) (sym told.1) (h told.0)
+wrong_text bytes fault f why h (inr memory) = subst (λ g. IsNoText bytes g) (sym memory.0) tt
+
+pub text_why : (bytes : List ℕ) (fault : AsmFault) (f : Fault) (why : Why)
+    → IsRefusedText statement_cause bytes fault f why → IsTextWhy bytes f why
+text_why bytes fault f why (inl told) = subst (λ g. IsTextWhy bytes g why) (sym told.1) told.2
+text_why bytes fault f why (inr memory) = subst (λ g. IsTextWhy bytes g why) (sym memory.0) tt
+
+-- the same of the file that was read
+pub unread_why : (holds : List ℕ → List ℕ → Type 0) (fails : Type 0) (path : List ℕ) (f : Fault) (why : Why)
+    → IsReadingFault fails f → IsTextWhyAt holds path f why
+unread_why holds fails path faults.Memory why h = tt
+unread_why holds fails path faults.Read why h = tt
+unread_why holds fails path (faults.Text fault) why h = absurd h
+unread_why holds fails path faults.Hex why h = tt
+unread_why holds fails path faults.Write why h = tt
+unread_why holds fails path (faults.Layout fault) why h = tt
+unread_why holds fails path faults.TooLarge why h = tt
+unread_why holds fails path (faults.Template fault) why h = tt
+unread_why holds fails path faults.Workers why h = tt
+unread_why holds fails path faults.Batch why h = tt
+unread_why holds fails path faults.Spent why h = tt
+unread_why holds fails path faults.NoDevice why h = tt
+unread_why holds fails path faults.PastEnd why h = tt
+unread_why holds fails path faults.Range why h = tt
+unread_why holds fails path faults.TooLong why h = tt
+unread_why holds fails path faults.Bind why h = tt
+unread_why holds fails path faults.Wire why h = tt
+unread_why holds fails path (faults.Session fault) why h = tt
+unread_why holds fails path (faults.Cases fault) why h = tt
+unread_why holds fails path faults.NoSuchCase why h = tt
+unread_why holds fails path faults.NoDatagram why h = tt
+unread_why holds fails path faults.OtherClasses why h = tt
+unread_why holds fails path faults.Slices why h = tt
+
+pub why_at : (holds : List ℕ → List ℕ → Type 0) (path bytes : List ℕ) (f : Fault) (why : Why) → holds path bytes
+    → IsNoText bytes f → IsTextWhy bytes f why → IsTextWhyAt holds path f why
+why_at holds path bytes faults.Memory why held h said = tt
+why_at holds path bytes faults.Read why held h said = tt
+why_at holds path bytes (faults.Text fault) why held h said =
+    record { bytes = bytes; held = held; so = (h, said) }
+why_at holds path bytes faults.Hex why held h said = tt
+why_at holds path bytes faults.Write why held h said = tt
+why_at holds path bytes (faults.Layout fault) why held h said = tt
+why_at holds path bytes faults.TooLarge why held h said = tt
+why_at holds path bytes (faults.Template fault) why held h said = tt
+why_at holds path bytes faults.Workers why held h said = tt
+why_at holds path bytes faults.Batch why held h said = tt
+why_at holds path bytes faults.Spent why held h said = tt
+why_at holds path bytes faults.NoDevice why held h said = tt
+why_at holds path bytes faults.PastEnd why held h said = tt
+why_at holds path bytes faults.Range why held h said = tt
+why_at holds path bytes faults.TooLong why held h said = tt
+why_at holds path bytes faults.Bind why held h said = tt
+why_at holds path bytes faults.Wire why held h said = tt
+why_at holds path bytes (faults.Session fault) why held h said = tt
+why_at holds path bytes (faults.Cases fault) why held h said = tt
+why_at holds path bytes faults.NoSuchCase why held h said = tt
+why_at holds path bytes faults.NoDatagram why held h said = tt
+why_at holds path bytes faults.OtherClasses why held h said = tt
+why_at holds path bytes faults.Slices why held h said = tt
+
+-- what is said of a text
+pub refused_so : (causes : List (List ℕ) → Option Cause) (text : List ℕ) (fault : AsmFault) (f : Fault) (why : Why)
+    → fault.cause ≢ cause.Memory → f ≡ faults.Text fault → IsBlamed causes text fault why
+    → IsRefusedText causes text fault f why
+refused_so causes text fault f why some is blamed = inl (some, is, blamed)
+
+pub no_memory : (causes : List (List ℕ) → Option Cause) (text : List ℕ) (fault : AsmFault) (f : Fault) (why : Why)
+    → f ≡ faults.Memory → why ≡ whys.Named → IsRefusedText causes text fault f why
+no_memory causes text fault f why is named = inr (is, named)
 
 -- no memory is left
 pub text_memory : (holds : List ℕ → List ℕ → Type 0) (fails : List ℕ → Type 0) (path : List ℕ) (f : Fault)

@@ -1,1 +1,4 @@
+pub mod Cutting
 pub mod Denoted
+pub mod Numbered
+pub mod Searching

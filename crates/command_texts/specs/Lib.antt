@@ -1,3 +1,4 @@
+pub mod Blamed
 pub mod Endings
 pub mod Selections
 pub mod Texts

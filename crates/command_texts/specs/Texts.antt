@@ -8,6 +8,8 @@ use Rattle.command_files.specs.Fault.{IsReadingFault}
 use Rattle.command_files.specs.Loading.{IsHeld}
 use Rattle.command_files.specs.declared.fault.Fault.{Fault}
 use Rattle.command_files.specs.declared.fault.Fault.TheVariants.{Memory, Read, Text}
+use Rattle.command_files.specs.declared.refusal.Why.{Why}
+use Rattle.command_texts.specs.Blamed.{IsBlamed, statement_cause}
 
 -- why bytes are not the text of a scenario: they are no UTF-8, or a line is the first that is refused, for its cause
 abbrev pub IsNoText : List ℕ → Fault → Type 0
@@ -15,6 +17,11 @@ IsNoText bytes Memory = ⊤
 IsNoText bytes Read = IsUtf8 bytes → ⊥
 IsNoText bytes (Text fault) = assembled bytes ≡ Err fault
 IsNoText bytes _ = ⊥
+
+-- what is said of bytes that are no text of a scenario: of a line that is refused what is to blame
+abbrev pub IsTextWhy : List ℕ → Fault → Why → Type 0
+IsTextWhy bytes (Text fault) why = IsBlamed statement_cause bytes fault why
+IsTextWhy bytes _ why = ⊤
 
 -- the file at the path is a text that denotes this scenario
 abbrev pub IsTextAt : (List ℕ → List ℕ → Type 0) → List ℕ → Scenario → Type 0
@@ -24,3 +31,9 @@ IsTextAt holds path s = IsHeld holds path (λ bytes. Denotes bytes s)
 abbrev pub IsTextFault : (List ℕ → List ℕ → Type 0) → (List ℕ → Type 0) → List ℕ → Fault → Type 0
 IsTextFault holds fails path fault =
     IsReadingFault (fails path) fault ⊎ IsHeld holds path (λ bytes. IsNoText bytes fault)
+
+-- what is said of it: of a line that is refused what is to blame, in the text that the file was
+abbrev pub IsTextWhyAt : (List ℕ → List ℕ → Type 0) → List ℕ → Fault → Why → Type 0
+IsTextWhyAt holds path (Text fault) why =
+    IsHeld holds path (λ bytes. (assembled bytes ≡ Err fault) × IsBlamed statement_cause bytes fault why)
+IsTextWhyAt holds path _ why = ⊤

@@ -7,7 +7,7 @@ mod endings;
 mod selections;
 mod texts;
 
-pub use blaming::{LineReader, blame, blame_by};
+pub use blaming::{LineReader, refuse_by, statement_cause};
 pub use endings::end_line;
 pub use selections::selection_fault;
 pub use texts::{load_text, text_of};

@@ -20,7 +20,9 @@ use Rattle.command_files.specs.Answers.{files_of}
 use Rattle.command_files.specs.declared.answer.Answer.{Answer}
 use Rattle.command_files.specs.declared.fault.Fault.{Fault}
 use Rattle.command_files.specs.declared.fault.Fault.TheVariants.{Memory, NoDatagram, Text}
+use Rattle.command_files.specs.declared.refusal.Why.{Why}
 use Rattle.command_files.specs.declared.status.Status.TheVariants.{Done}
+use Rattle.command_texts.specs.Blamed.{IsBlamed, cause_in, statement_cause}
 use Rattle.scenario_statements.specs.Acks.{ack_datagram, ack_from}
 use Rattle.command_words.specs.declared.arrival.Arrival.{Arrival}
 
@@ -72,3 +74,15 @@ IsSpellFault given (Text fault) = (fault.line ≡ 1) × (arrival_of (said_words 
 IsSpellFault given NoDatagram = arrival_of (said_words given) ≡ Ok None
 IsSpellFault given Memory = ⊤
 IsSpellFault given _ = ⊥
+
+-- ---- what is to blame
+
+-- why words are refused, whatever they denote
+abbrev pub words_cause : List (List ℕ) → Option Cause
+words_cause [] = statement_cause []
+words_cause (w ∷ ws) = if bytes_eq w (codes "ack") then cause_in (ack ws) else statement_cause (w ∷ ws)
+
+-- what is said of words that are refused: which of them is to blame
+abbrev pub IsSpellWhy : List (List ℕ) → Fault → Why → Type 0
+IsSpellWhy given (Text fault) why = IsBlamed words_cause (join_with_byte 32 given) fault why
+IsSpellWhy given _ why = ⊤

@@ -1,14 +1,16 @@
 //! The datagram that the words of a line denote.
-ghost use Rattle.std.specs.Prelude.{◌≡◌};
+ghost use Rattle.std.specs.Prelude.{◌≡◌, IfOk};
 ghost use Rattle.scenario_words.specs.Reading.{Gives};
 ghost use Rattle.scenario_words.specs.Words.{words};
-ghost use Rattle.command_words.specs.Spelling.{ack, arrival_of, denoted, stated, within_limits};
+ghost use Rattle.command_texts.specs.Blamed.{cause_in};
+ghost use Rattle.command_words.specs.Spelling.{ack, arrival_of, denoted, stated, within_limits, words_cause};
 
+use command_texts::statement_cause;
 use octets::Bytes;
 use scenario_mnemonics::encode;
 use scenario_statements::{Ack, Statement, ack_bytes, read_ack, read_statement};
 use scenario_words::{Cause, is_name, next_word};
-use std::alloc::Global;
+use std::alloc::{AllocError, Global};
 
 /// The most bytes of a datagram that a step of a scenario may have.
 const MOST_BYTES: usize = 1_500;
@@ -80,10 +82,23 @@ pub(crate) fn arrival_of(alloc: Global, line: &[u8]) -> Result<Option<Arrival>, 
     }
 }
 
+/// Why the words after `ack` are refused; none where they are not.
+fn ack_cause(alloc: Global, line: &[u8]) -> Result<Option<Cause>, AllocError>
+    ensures { IfOk result (λ cause. cause ≡ cause_in (ack (words line.now))) }
+{
+    match ack(alloc, line) {
+        Ok(_) => Ok(None),
+        Err(Cause::Memory) => Err(AllocError),
+        Err(cause) => Ok(Some(cause)),
+    }
+}
+
 /// Why the words of a line are refused, whatever they denote; none where they are not.
-pub(crate) fn words_cause(alloc: Global, line: &[u8]) -> Option<Cause> {
+pub(crate) fn words_cause(alloc: Global, line: &[u8]) -> Result<Option<Cause>, AllocError>
+    ensures { IfOk result (λ cause. cause ≡ words_cause (words line.now)) }
+{
     match next_word(line) {
-        Some((word, behind)) if is_name(word, "ack") => ack(alloc, behind).err(),
-        _ => read_statement(alloc, line).err(),
+        Some((word, behind)) if is_name(word, "ack") => ack_cause(alloc, behind),
+        _ => statement_cause(alloc, line),
     }
 }

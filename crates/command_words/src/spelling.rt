@@ -4,12 +4,12 @@ ghost use Rattle.std.specs.List.{join_with_byte};
 ghost use Rattle.std.specs.String.{string_bytes};
 ghost use Rattle.hex.specs.Hex.{IsBytes, encode_upper};
 ghost use Rattle.scenario_words.specs.Words.{ended_line};
-ghost use Rattle.command_files.specs.Fault.{text_fault};
-ghost use Rattle.command_words.specs.Spelling.{IsSpellDone, IsSpellFault};
+ghost use Rattle.command_texts.specs.Blamed.{IsRefusedText};
+ghost use Rattle.command_words.specs.Spelling.{IsSpellDone, IsSpellFault, IsSpellWhy, words_cause};
 
 use crate::arrival::{arrival_of, words_cause};
 use command_files::{Answer, Fault, Refusal, Status, Why};
-use command_texts::{LineReader, blame_by};
+use command_texts::{LineReader, refuse_by};
 use scenario_asm::AsmFault;
 use scenario_words::Cause;
 use std::alloc::{AllocError, Global};
@@ -18,8 +18,10 @@ use std::alloc::{AllocError, Global};
 struct Statements;
 
 impl LineReader for Statements {
-    fn cause_of(&self, alloc: Global, words: &[u8]) -> Option<Cause> {
-        words_cause(alloc, words)
+    ghost causes = { words_cause };
+
+    fn cause_of(&self, alloc: Global, line: &[u8]) -> Result<Option<Cause>, AllocError> {
+        words_cause(alloc, line)
     }
 }
 
@@ -43,21 +45,17 @@ fn hex_line(alloc: Global, bytes: &[u8]) -> Result<String, AllocError>
 
 /// The refusal of a line of words for this cause, as the first line of a text is refused.
 fn refused<'a>(alloc: Global, line: &str, cause: Cause) -> Refusal<'a>
-    ensures { result.fault ≡ text_fault (record { line = 1; cause = cause }) }
+    ensures { IsRefusedText words_cause line.now (record { line = 1; cause = cause }) result.fault result.why }
 {
-    let fault = AsmFault { line: 1, cause };
-    Refusal {
-        fault: Fault::from(fault),
-        about: None,
-        why: blame_by(alloc, line, fault, &Statements),
-    }
+    refuse_by(alloc, None, line, AsmFault { line: 1, cause }, &Statements)
 }
 
-#[tactic(auto, using(crate::proofs::Spelled::spelled, crate::proofs::Spelled::refused, crate::proofs::Spelled::no_memory))]
+#[tactic(auto, using(crate::proofs::Spelled::spelled, crate::proofs::Spelled::refused, crate::proofs::Spelled::no_memory, crate::proofs::Spelled::spelled_why, crate::proofs::Spelled::memory_why))]
 /// `spell STATEMENT`: the datagram that a statement denotes, a mnemonic, `recv` or `ack`, in hex.
 pub fn spell<'a>(alloc: Global, given: &[&'a str]) -> Result<Answer<'a>, Refusal<'a>>
     ensures done { IfOk result (IsSpellDone (map (λ w. w.now) given.now)) }
     ensures refused { IfErr result (λ r. IsSpellFault (map (λ w. w.now) given.now) r.fault) }
+    ensures blamed { IfErr result (λ r. IsSpellWhy (map (λ w. w.now) given.now) r.fault r.why) }
 {
     let line = joined(alloc, given)?;
     match arrival_of(alloc, line.as_bytes()) {

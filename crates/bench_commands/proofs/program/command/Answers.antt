@@ -16,5 +16,5 @@ returns-in-Err g c =
         errors = g.E.Output.taken c.perform.new.errors;
       };
     } in
-    faulted _ _ _ between _ _ _ _ _ _ _ c.tell_in.ensures.status c.in-Err.ensures.refused c.in-Err.ensures.form
+    faulted _ _ _ between _ _ _ _ _ _ _ _ c.tell_in.ensures.status c.in-Err.ensures.refused c.in-Err.ensures.form
     c.tell_in.ensures.told refl refl
