@@ -1,5 +1,11 @@
-use Rattle.std.proofs.Common.{◌+◌, ◌∙◌, refl, arith}
+use Rattle.std.proofs.Common.{◌+◌, ◌∙◌, None, inl, refl, subst, sym, arith}
+use Rattle.std.proofs.lemmas.Result.{err_from_is_err_and}
 use Rattle.fleet_link.proofs.Seconds.{asked_less}
+use Rattle.command_files.specs.World.{FilesKnown, StreamFaults}
+use Rattle.command_fleet.specs.Snapshots.{AreKeptSoFar}
+use Rattle.command_fleet.proofs.Kept.{kept_first, kept_on}
+use Rattle.command_fleet.proofs.Sessions.{snapshot_lost}
+use Rattle.command_fleet.proofs.Settled.{repeated_as}
 use Rattle.command_fleet.proofs.serving.go_on.Goals as goal
 
 pub loop-turn-init : goal.loop-turn-init
@@ -10,6 +16,7 @@ loop-turn-init g c = record {
   began = refl;
   repeats = λ e. refl;
   told = λ start h. h;
+  kept = λ before h r. kept_first _ _ _ _ before _ _ _ (c.second-last.ensures ∙ c.requires) c.requires;
 }
 
 pub loop-turn-preserved : goal.loop-turn-preserved
@@ -24,6 +31,15 @@ loop-turn-preserved g c = record {
   began = c.in_ok-turn.ensures.began ∙ c.loop-turn.invariant.began;
   repeats = λ e. c.in_ok-turn.ensures.repeats e ∙ c.loop-turn.invariant.repeats e;
   told = λ start h. c.in_ok-turn.ensures.told start (c.loop-turn.invariant.told start h);
+  kept = λ before h r.
+      let part = c.args.part.now in
+      let play = c.args.asked.now.play in
+      let was = c.loop-turn.invariant.fleet part play before h in
+      let are = c.in_ok-turn.ensures.fleet part play before was in
+      kept_on _ part play _ before _ _ _ _ _ _ _ _ _ (c.loop-turn.invariant.kept before h r) are
+      (repeated_as _ _ _ (are.count ∙ sym h.count)
+      (λ e. c.in_ok-turn.ensures.repeats e ∙ c.loop-turn.invariant.repeats e) r)
+      (c.in_ok-turn.ensures.swept part play before was) c.in_ok-turn.ensures.later c.in_ok-last.ensures.kept_up;
 }
 
 pub returns-clause-fleet : goal.returns-clause-fleet
@@ -34,3 +50,6 @@ returns-clause-told g c = λ start h. c.loop-turn.invariant.told start h
 
 pub returns-clause-repeats : goal.returns-clause-repeats
 returns-clause-repeats g c = λ e. c.loop-turn.invariant.repeats e
+
+pub returns-clause-kept : goal.returns-clause-kept
+returns-clause-kept g c = λ before h r. (c.loop-turn.last, c.loop-turn.invariant.kept before h r)

@@ -31,6 +31,10 @@ pub returns-in_ok-tell_traffic-in-Ok-clause-repeats : goal.returns-in_ok-tell_tr
 returns-in_ok-tell_traffic-in-Ok-clause-repeats g c =
     always c.tell_if_later.result _ (λ e. c.turn.ensures.went.repeats e)
 
+pub returns-in_ok-tell_traffic-in-Ok-clause-swept : goal.returns-in_ok-tell_traffic-in-Ok-clause-swept
+returns-in_ok-tell_traffic-in-Ok-clause-swept g c =
+    λ s played before h. always c.tell_if_later.result _ (c.in-Ok.ensures.swept s played before h)
+
 pub returns-in_ok-tell_traffic-in-Ok-clause-told : goal.returns-in_ok-tell_traffic-in-Ok-clause-told
 returns-in_ok-tell_traffic-in-Ok-clause-told g c =
     let same = c.watched_is_fixed.ensures _ _ c.turn.ensures.fixed in
