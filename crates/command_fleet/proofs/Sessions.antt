@@ -36,16 +36,17 @@ use Rattle.command_sources.specs.Sources.{IsNoScenario, IsScenarioOf}
 use Rattle.command_fleet.specs.declared.devices.Devices.{Devices}
 use Rattle.command_fleet.specs.declared.telling.Telling.{Telling}
 use Rattle.command_fleet.specs.Devices.{AreChosen, IsPart}
-use Rattle.command_fleet.specs.Inside.{IsShownFrom}
+use Rattle.command_fleet.specs.Inside.{IsNotKeptUp, IsShownFrom}
 use Rattle.command_fleet.specs.Listing.{AreListedIf, IsUnlisted}
 use Rattle.command_fleet.specs.Servers.{AreServers, IsServersFault}
-use Rattle.command_fleet.specs.Snapshots.{AreKept, AreKeptSoFar}
+use Rattle.command_fleet.specs.Snapshots.{AreKept}
 use Rattle.command_fleet.specs.Fleet.{AreMissing, AreReady, IsBrokenOff, IsConcluded, IsEndless, IsFleetDone}
 use Rattle.command_fleet.specs.Fleet.{IsFleetFault, IsOpened, IsPlace, IsReadyTold, IsSaveFault, IsSavedAt, IsSavedIf}
 use Rattle.command_fleet.specs.Fleet.{IsServed, IsSessionCut, IsSessionDone, IsSessionFault, IsUnconcluded, IsUnfit}
-use Rattle.command_fleet.specs.Fleet.{IsUnkept, IsUnsaved, IsUnstarted, IsHeldDone, IsHeldFault, IsShownIf, Session, cut_of}
+use Rattle.command_fleet.specs.Fleet.{IsHeldDone, IsHeldFault, IsShownIf, IsUnsaved, IsUnstarted, Session, cut_of}
 use Rattle.command_fleet.specs.Fleet.{free_ports, has_passed, line_of, opening_text, ready_line, status_of, telling_for}
-use Rattle.command_fleet.specs.Telling.{AreTold, telling_of}
+use Rattle.command_fleet.specs.Telling.{AreTold, IsCut, telling_of}
+use Rattle.command_fleet.proofs.Kept.{kept_first}
 use Rattle.command_fleet.proofs.Told.{cut_at_start}
 use Rattle.command_fleet.specs.Wires.{IsNoPlan, IsPlanBy, IsPlanned, IsWireBy}
 
@@ -411,20 +412,16 @@ done_if before after asked terminal part place ports quit wire notes shown sessi
 pub cut_if : (files : FilesKnown) (streams : StreamFaults) (before after : World) (asked : AskedFleet)
     (terminal : Bool) (part : Scenario) (place : SocketAddr) (ports : List ℕ) (telling : Telling) (first : World)
     (told : ℕ → Option Traffic) (fault : Fault) → IsOpened asked part place ports before first
-    → telling ≡ telling_for asked terminal part
-    → IsBrokenOff telling files streams (option_map (λ p. p.now) asked.save) first.streams after.streams fault
-    → ((e : ℕ) → told e ≡ Some no_traffic) → AreKeptSoFar asked part told first.made after.made
+    → telling ≡ telling_for asked terminal part → ((e : ℕ) → told e ≡ Some no_traffic)
+    → IsBrokenOff telling files streams asked part told first after fault
     → IsSessionCut files streams before after asked terminal part place ports fault
-cut_if files streams before after asked terminal part place ports telling first told fault opened is cut new kept =
-    record {
-      first = first;
-      opened = opened;
-      cut = subst (λ t. IsBrokenOff t files streams (option_map (λ p. p.now) asked.save) first.streams after.streams
-          fault) is cut;
-      told = told;
-      new = new;
-      kept = kept;
-    }
+cut_if files streams before after asked terminal part place ports telling first told fault opened is new cut = record {
+  first = first;
+  opened = opened;
+  told = told;
+  new = new;
+  cut = subst (λ t. IsBrokenOff t files streams asked part told first after fault) is cut;
+}
 
 pub lost_if : (files : FilesKnown) (streams : StreamFaults) (before after : World) (asked : AskedFleet)
     (terminal : Bool) (part : Scenario) (place : SocketAddr) (ports : List ℕ) (quit : Bool) (wire : Option Wired)
@@ -463,18 +460,46 @@ lost_if files streams before after asked terminal part place ports quit wire not
 
 -- ---- it is broken off
 
--- before an event was told
-pub broken_at_start : (telling : Telling) (files : FilesKnown) (streams : StreamFaults) (path : Option (List ℕ))
-    (t : Streams) (fault : Fault) → fault ≡ faults.Memory → IsBrokenOff telling files streams path t t fault
-broken_at_start telling files streams path t fault memory = inl (cut_at_start telling streams t fault memory)
+-- while its devices are served
+pub serving_cut : (telling : Telling) (files : FilesKnown) (streams : StreamFaults) (asked : AskedFleet)
+    (part : Scenario) (told : ℕ → Option Traffic) (second last : ℕ) (before after : World) (fault : Fault)
+    → IsCut telling streams second before.streams after.streams fault
+    → AreKept asked part told last second before.made after.made
+    → IsBrokenOff telling files streams asked part told before after fault
+serving_cut telling files streams asked part told second last before after fault cut kept =
+    inl (record { second = second; cut = cut; kept_last = last; kept = kept })
 
--- by a snapshot, after events that were told
-pub snapshot_lost : (telling : Telling) (files : FilesKnown) (streams : StreamFaults) (path : Option (List ℕ))
-    (notes : List Note) (shown : List Shown) (second : ℕ) (a b : Streams) (fault : Fault)
-    → AreTold telling notes shown second a b → IsUnkept files.refuses path fault
-    → IsBrokenOff telling files streams path a b fault
-snapshot_lost telling files streams path notes shown second a b fault told why =
-    inr (record { notes = notes; shown = shown; second = second; told = told; why = why })
+-- before an event was told
+pub broken_at_start : (telling : Telling) (files : FilesKnown) (streams : StreamFaults) (asked : AskedFleet)
+    (part : Scenario) (told : ℕ → Option Traffic) (world : World) (fault : Fault) → fault ≡ faults.Memory
+    → IsBrokenOff telling files streams asked part told world world fault
+broken_at_start telling files streams asked part told world fault memory =
+    serving_cut telling files streams asked part told 0 0 world world fault
+    (cut_at_start telling streams world.streams fault memory)
+    (kept_first (option_map (λ p. p.now) asked.save) part asked.play (asked.play && asked.repeat) told 0 0 world.made
+    refl refl)
+
+-- by a snapshot
+pub snapshot_lost : (telling : Telling) (files : FilesKnown) (streams : StreamFaults) (asked : AskedFleet)
+    (part : Scenario) (told : ℕ → Option Traffic) (notes : List Note) (shown : List Shown) (second began last : ℕ)
+    (before after : World) (made : Option (List Made)) (fault : Fault)
+    → AreTold telling notes shown second before.streams after.streams
+    → AreKept asked part told last began before.made made → after.made ≡ made
+    → IsNotKeptUp files.refuses (option_map (λ p. p.now) asked.save) last second fault
+    → IsBrokenOff telling files streams asked part told before after fault
+snapshot_lost telling files streams asked part told notes shown second began last before after made fault events kept
+    none lost =
+    inr (record {
+      notes = notes;
+      shown = shown;
+      second = second;
+      events = events;
+      began = began;
+      kept_last = last;
+      kept = subst (AreKept asked part told last began before.made) (sym none) kept;
+      due = lost.0;
+      why = lost.1;
+    })
 
 -- ---- a wire on it
 

@@ -41,7 +41,7 @@ use Rattle.command_fleet.specs.Devices.{AreChosen, IsPart}
 use Rattle.command_fleet.specs.InJson.{done_json, port_json, ready_json}
 use Rattle.command_fleet.specs.Listing.{AreListedIf, IsUnlisted}
 use Rattle.command_fleet.specs.Servers.{AreServers}
-use Rattle.command_fleet.specs.Snapshots.{AreKept, AreKeptSoFar, snapshot_path}
+use Rattle.command_fleet.specs.Snapshots.{AreKept, snapshot_path}
 use Rattle.command_fleet.specs.Telling.{AreTold, IsCut, telling_of}
 use Rattle.command_fleet.specs.Wires.{IsNoPlan, IsWireBy}
 use Rattle.trace_json.specs.Writing.{json_line}
@@ -308,31 +308,44 @@ IsUntold files streams before after asked part place ports fault =
     ⊎ (AreListedIf before.made after.made (option_map (λ p. p.now) asked.ports) ports
     × IsUnready streams before.streams after.streams asked part place (free_ports (asked.port == 0) ports) fault)
 
--- a session was broken off after events that were told: a snapshot could not be made
-pub record IsSnapshotLost (telling : Telling) (refuses : List ℕ → Type 0) (path : Option (List ℕ))
-    (before after : Streams) (fault : Fault) : Type 0 where
+-- A session was broken off while its devices were served: this second was told last, and its snapshots were made up to
+-- then.
+pub record IsServingCut (telling : Telling) (streams : StreamFaults) (asked : AskedFleet) (part : Scenario)
+    (told : ℕ → Option Traffic) (before after : World) (fault : Fault) : Type 0 where
+  pub second : ℕ
+  pub cut : IsCut telling streams second before.streams after.streams fault
+  pub kept_last : ℕ
+  pub kept : AreKept asked part told kept_last second before.made after.made
+
+-- It was broken off by a snapshot, which was to be made at the end of a turn, at the second that was told last, and could
+-- not be made. The others were made up to the second at which the turn began.
+pub record IsSnapshotLost (telling : Telling) (refuses : List ℕ → Type 0) (asked : AskedFleet) (part : Scenario)
+    (told : ℕ → Option Traffic) (before after : World) (fault : Fault) : Type 0 where
   pub notes : List Note
   pub shown : List Shown
   pub second : ℕ
-  pub told : AreTold telling notes shown second before after
-  pub why : IsUnkept refuses path fault
+  pub events : AreTold telling notes shown second before.streams after.streams
+  pub began : ℕ
+  pub kept_last : ℕ
+  pub kept : AreKept asked part told kept_last began before.made after.made
+  pub due : kept_last + 60 ≤ second
+  pub why : IsUnkept refuses (option_map (λ p. p.now) asked.save) fault
 
--- a session was broken off: while its devices were served, or by a snapshot
-abbrev pub IsBrokenOff : Telling → FilesKnown → StreamFaults → Option (List ℕ) → Streams → Streams → Fault → Type 0
-IsBrokenOff telling files streams path before after fault =
-    IsCut telling streams before after fault ⊎ IsSnapshotLost telling files.refuses path before after fault
+-- the one or the other, on ports that told this at the beginning
+abbrev pub IsBrokenOff : Telling → FilesKnown → StreamFaults → AskedFleet → Scenario → (ℕ → Option Traffic) → World
+    → World → Fault → Type 0
+IsBrokenOff telling files streams asked part told before after fault =
+    IsServingCut telling streams asked part told before after fault
+    ⊎ IsSnapshotLost telling files.refuses asked part told before after fault
 
--- it was told that the devices are there, at ports that were new; and then the session was broken off, with the
--- snapshots that were made by then
+-- it was told that the devices are there, at ports that were new; and then the session was broken off
 pub record IsSessionCut (files : FilesKnown) (streams : StreamFaults) (before after : World) (asked : AskedFleet)
     (terminal : Bool) (part : Scenario) (place : SocketAddr) (ports : List ℕ) (fault : Fault) : Type 0 where
   pub first : World
   pub opened : IsOpened asked part place ports before first
-  pub cut : IsBrokenOff (telling_for asked terminal part) files streams (option_map (λ p. p.now) asked.save)
-      first.streams after.streams fault
   pub told : ℕ → Option Traffic
   pub new : (e : ℕ) → told e ≡ Some no_traffic
-  pub kept : AreKeptSoFar asked part told first.made after.made
+  pub cut : IsBrokenOff (telling_for asked terminal part) files streams asked part told first after fault
 
 -- it came to its end, with its snapshots, and was not concluded; no file was made at its end
 pub record IsSessionLost (files : FilesKnown) (streams : StreamFaults) (before after : World) (asked : AskedFleet)

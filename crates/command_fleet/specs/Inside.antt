@@ -4,7 +4,8 @@ use Rattle.scenario_image.specs.Scenario.{Scenario}
 use Rattle.fleet_link.specs.declared.slot.Slot.{Slot}
 use Rattle.fleet_link.specs.Traffic.{Traffic, no_traffic}
 use Rattle.command_files.specs.Files.{Made}
-use Rattle.command_fleet.specs.Fleet.{IsSavedAt}
+use Rattle.command_files.specs.declared.fault.Fault.{Fault}
+use Rattle.command_fleet.specs.Fleet.{IsSavedAt, IsUnkept}
 use Rattle.command_fleet.specs.Snapshots.{snapshot_path}
 
 -- ports begin to be shown when nothing has gone through them yet, or are not shown
@@ -26,3 +27,7 @@ abbrev pub IsKeptUp : Option (List Made) → Option (List Made) → Option (List
 IsKeptUp before after None part slots last second now = after ≡ before
 IsKeptUp before after (Some path) part slots last second now =
     IsKeptUpAt before after path part slots last second now
+
+-- a snapshot was to be made, and could not be
+abbrev pub IsNotKeptUp : (List ℕ → Type 0) → Option (List ℕ) → ℕ → ℕ → Fault → Type 0
+IsNotKeptUp refuses path last second fault = (last + 60 ≤ second) × IsUnkept refuses path fault

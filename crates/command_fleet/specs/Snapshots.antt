@@ -80,8 +80,3 @@ abbrev pub AreKept : AskedFleet → Scenario → (ℕ → Option Traffic) → �
 AreKept asked part before last second old new =
     AreKeptIf (option_map (λ p. p.now) asked.save) part asked.play (asked.play && asked.repeat) before last second old
     new
-
--- those up to some second of it
-abbrev pub AreKeptSoFar : AskedFleet → Scenario → (ℕ → Option Traffic) → Option (List Made) → Option (List Made)
-    → Type 0
-AreKeptSoFar asked part before old new = (last second : ℕ) × AreKept asked part before last second old new

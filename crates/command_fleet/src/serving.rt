@@ -1,6 +1,6 @@
 //! Devices of a scenario on ports, for a session.
 ghost use Rattle.std.specs.Prelude.{ℕ, ◌≡◌, ◌+◌, ◌≤◌, ◌⊎◌, ◌&&◌, [], Bool, Option, None, List, IfErr, IfOk, OnOk, false, length};
-ghost use Rattle.std.specs.Prelude.{slice_get, option_map, true, OnErr};
+ghost use Rattle.std.specs.Prelude.{slice_get, true};
 ghost use Rattle.scenario_image.specs.Scenario.{Scenario as ScenarioData};
 ghost use Rattle.fleet_link.specs.Serving.{repeats_in, AreAt, AreRepeated, AreSwept, IsFleet};
 ghost use Rattle.fleet_link.specs.Timing.{AreAsked};
@@ -10,7 +10,7 @@ ghost use Rattle.fleet_lines.specs.declared.shown.Shown.{Shown as ShownData};
 ghost use Rattle.fleet_lines.specs.Counting.{AreAllShown, IsAccount};
 ghost use Rattle.command_files.specs.World.{Streams};
 ghost use Rattle.command_fleet.specs.Fleet.{has_passed, IsBrokenOff, IsEndless};
-ghost use Rattle.command_fleet.specs.Snapshots.{AreKept, AreKeptSoFar};
+ghost use Rattle.command_fleet.specs.Snapshots.{AreKept};
 ghost use Rattle.command_fleet.specs.Telling.{AreTold, IsCut};
 
 use crate::asking::Quit;
@@ -113,7 +113,7 @@ fn turn<'a, P: Counted, C: Seconds, O: Output, E: Output>(
         → AreTold telling (P.watched ports.old).notes (P.watched ports.old).shown fleet.old.second start
         (record { input = None; output = O.taken output.old; errors = E.taken errors.old })
         → IfErr result (λ r. IsCut telling
-        (record { input_fails = ⊥; output_refuses = O.refuses; errors_refuse = E.refuses }) start
+        (record { input_fails = ⊥; output_refuses = O.refuses; errors_refuse = E.refuses }) fleet.old.second start
         (record { input = None; output = O.taken output.new; errors = E.taken errors.new }) r.fault) }
 {
     P::watched_is_fixed();
@@ -147,7 +147,7 @@ fn tell_if_later<'a, P: Counted, O: Output, E: Output>(
         → AreTold telling notes shown last start
         (record { input = None; output = O.taken output.old; errors = E.taken errors.old })
         → IfErr result (λ r. IsCut telling
-        (record { input_fails = ⊥; output_refuses = O.refuses; errors_refuse = E.refuses }) start
+        (record { input_fails = ⊥; output_refuses = O.refuses; errors_refuse = E.refuses }) last start
         (record { input = None; output = O.taken output.new; errors = E.taken errors.new }) r.fault) }
 {
     if second == last {
@@ -192,23 +192,25 @@ fn go_on<'a, P: Counted, C: Seconds, Q: Quit, F: Files, O: Output, E: Output>(
         (record { input = None; output = O.taken output.old; errors = E.taken errors.old })
         → OnOk result (AreTold telling (P.watched ports.new).notes (P.watched ports.new).shown fleet.new.second start
         (record { input = None; output = O.taken output.new; errors = E.taken errors.new })) }
-    ensures cut { (start : Streams)
+    ensures cut { (start : Streams) (before : ℕ → Option Traffic)
         → AreTold telling (P.watched ports.old).notes (P.watched ports.old).shown fleet.old.second start
         (record { input = None; output = O.taken output.old; errors = E.taken errors.old })
+        → IsFleet part.now asked.now.play before fleet.old.slots.items fleet.old.second false (P.told ports.old)
+        → AreRepeated fleet.old.slots.items (asked.now.play && asked.now.repeat)
         → IfErr result (λ r. IsBrokenOff telling
         (record { holds = F.holds files.old; fails = F.fails files.old; refuses = F.refuses })
-        (record { input_fails = ⊥; output_refuses = O.refuses; errors_refuse = E.refuses })
-        (option_map (λ p. p.now) asked.now.save) start
-        (record { input = None; output = O.taken output.new; errors = E.taken errors.new }) r.fault) }
+        (record { input_fails = ⊥; output_refuses = O.refuses; errors_refuse = E.refuses }) asked.now part.now before
+        (record { made = F.made files.old; streams = start })
+        (record {
+          made = F.made files.new;
+          streams = record { input = None; output = O.taken output.new; errors = E.taken errors.new };
+        })
+        r.fault) }
     ensures kept { (before : ℕ → Option Traffic)
         → IsFleet part.now asked.now.play before fleet.old.slots.items fleet.old.second false (P.told ports.old)
         → AreRepeated fleet.old.slots.items (asked.now.play && asked.now.repeat)
         → OnOk result ((last : ℕ) × AreKept asked.now part.now before last fleet.new.second (F.made files.old)
         (F.made files.new)) }
-    ensures kept_so_far { (before : ℕ → Option Traffic)
-        → IsFleet part.now asked.now.play before fleet.old.slots.items fleet.old.second false (P.told ports.old)
-        → AreRepeated fleet.old.slots.items (asked.now.play && asked.now.repeat)
-        → OnErr result (AreKeptSoFar asked.now part.now before (F.made files.old) (F.made files.new)) }
 {
     let mut last = fleet.second();
     for _turn in 0..turns {
@@ -228,7 +230,7 @@ fn go_on<'a, P: Counted, C: Seconds, Q: Quit, F: Files, O: Output, E: Output>(
 /// for by this clock or until the session is asked to end. Each second that a turn comes to is told, and what the wire
 /// did and what devices received and sent, as far as the ports show it. The devices' rows are played, once or over and
 /// over, and their steps recorded, if that is asked for. What went through the ports is counted.
-#[tactic(auto, using(crate::proofs::Told::cut_at_start))]
+#[tactic(auto, using(crate::proofs::Sessions::broken_at_start))]
 pub fn serve_part<'a, P: Counted, C: Seconds, Q: Quit, F: Files, O: Output, E: Output>(
     alloc: Global,
     asked: &AskedFleet<'a>,
@@ -257,16 +259,21 @@ pub fn serve_part<'a, P: Counted, C: Seconds, Q: Quit, F: Files, O: Output, E: O
         r.fleet.second
         (record { input = None; output = O.taken output.old; errors = E.taken errors.old })
         (record { input = None; output = O.taken output.new; errors = E.taken errors.new })) }
-    ensures cut { IfErr result (λ r. IsBrokenOff telling
-        (record { holds = F.holds files.old; fails = F.fails files.old; refuses = F.refuses })
-        (record { input_fails = ⊥; output_refuses = O.refuses; errors_refuse = E.refuses })
-        (option_map (λ p. p.now) asked.now.save)
-        (record { input = None; output = O.taken output.old; errors = E.taken errors.old })
-        (record { input = None; output = O.taken output.new; errors = E.taken errors.new }) r.fault) }
     ensures kept { IfOk result (λ r. (last : ℕ) × AreKept asked.now part.now (P.told ports.old) last r.fleet.second
         (F.made files.old) (F.made files.new)) }
-    ensures kept_so_far { OnErr result (AreKeptSoFar asked.now part.now (P.told ports.old) (F.made files.old)
-        (F.made files.new)) }
+    ensures cut { IfErr result (λ r. IsBrokenOff telling
+        (record { holds = F.holds files.old; fails = F.fails files.old; refuses = F.refuses })
+        (record { input_fails = ⊥; output_refuses = O.refuses; errors_refuse = E.refuses }) asked.now part.now
+        (P.told ports.old)
+        (record {
+          made = F.made files.old;
+          streams = record { input = None; output = O.taken output.old; errors = E.taken errors.old };
+        })
+        (record {
+          made = F.made files.new;
+          streams = record { input = None; output = O.taken output.new; errors = E.taken errors.new };
+        })
+        r.fault) }
 {
     let mut fleet = start(alloc, part, asked.play, asked.repeat, asked.save.is_some())?;
     go_on(

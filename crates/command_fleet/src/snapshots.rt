@@ -4,8 +4,8 @@ ghost use Rattle.std.specs.String.{string_bytes};
 ghost use Rattle.fleet_link.specs.Saved.{IsSaved};
 ghost use Rattle.scenario_image.specs.Image.{IsImageIn};
 ghost use Rattle.scenario_image.specs.Scenario.{Scenario as ScenarioData};
-ghost use Rattle.command_fleet.specs.Fleet.{IsSaveFault, IsSavedAt, IsUnfit, IsUnkept};
-ghost use Rattle.command_fleet.specs.Inside.{IsKeptUp, IsKeptUpAt};
+ghost use Rattle.command_fleet.specs.Fleet.{IsSaveFault, IsSavedAt, IsUnfit};
+ghost use Rattle.command_fleet.specs.Inside.{IsKeptUp, IsKeptUpAt, IsNotKeptUp};
 ghost use Rattle.command_fleet.specs.Snapshots.{snapshot_path};
 
 use command_files::files::Files;
@@ -122,6 +122,7 @@ fn keep_up_at<'a, F: Files>(
     ensures kept_up { IfOk result (IsKeptUpAt (F.made files.old) (F.made files.new) path.entry.now part.now
         fleet.now.slots.items last fleet.now.second) }
     ensures none { OnErr result (F.made files.new ≡ F.made files.old) }
+    ensures due { OnErr result (last + 60 ≤ fleet.now.second) }
     ensures refused { IfErr result (λ r. IsSaveFault F.refuses (snapshot_path path.entry.now) r.fault) }
 {
     let second = fleet.second();
@@ -145,7 +146,8 @@ pub(crate) fn keep_up<'a, F: Files>(
     ensures kept_up { IfOk result (IsKeptUp (F.made files.old) (F.made files.new)
         (option_map (λ p. p.now) save.entry) part.now fleet.now.slots.items last fleet.now.second) }
     ensures none { OnErr result (F.made files.new ≡ F.made files.old) }
-    ensures refused { IfErr result (λ r. IsUnkept F.refuses (option_map (λ p. p.now) save.entry) r.fault) }
+    ensures refused { IfErr result (λ r. IsNotKeptUp F.refuses (option_map (λ p. p.now) save.entry) last
+        fleet.now.second r.fault) }
 {
     match save {
         None => Ok(last),

@@ -1,10 +1,9 @@
-use Rattle.std.proofs.Common.{◌+◌, ◌∙◌, None, inl, refl, subst, sym, arith}
+use Rattle.std.proofs.Common.{◌+◌, ◌∙◌, None, refl, sym, arith}
 use Rattle.std.proofs.lemmas.Result.{err_from_is_err_and}
 use Rattle.fleet_link.proofs.Seconds.{asked_less}
-use Rattle.command_files.specs.World.{FilesKnown, StreamFaults}
-use Rattle.command_fleet.specs.Snapshots.{AreKeptSoFar}
+use Rattle.command_files.specs.World.{FilesKnown, StreamFaults, World}
 use Rattle.command_fleet.proofs.Kept.{kept_first, kept_on}
-use Rattle.command_fleet.proofs.Sessions.{snapshot_lost}
+use Rattle.command_fleet.proofs.Sessions.{serving_cut, snapshot_lost}
 use Rattle.command_fleet.proofs.Settled.{repeated_as}
 use Rattle.command_fleet.proofs.serving.go_on.Goals as goal
 
@@ -53,3 +52,59 @@ returns-clause-repeats g c = λ e. c.loop-turn.invariant.repeats e
 
 pub returns-clause-kept : goal.returns-clause-kept
 returns-clause-kept g c = λ before h r. (c.loop-turn.last, c.loop-turn.invariant.kept before h r)
+
+pub returns-in_err-turn-clause-cut : goal.returns-in_err-turn-clause-cut
+returns-in_err-turn-clause-cut g c =
+    let files : FilesKnown = record {
+      holds = g.F.Files.holds c.args.files.now;
+      fails = g.F.Files.fails c.args.files.now;
+      refuses = g.F.Files.refuses;
+    } in
+    let streams : StreamFaults = record {
+      input_fails = ⊥;
+      output_refuses = g.O.Output.refuses;
+      errors_refuse = g.E.Output.refuses;
+    } in
+    let after : World = record {
+      made = g.F.Files.made c.loop-turn.files;
+      streams = record {
+        input = None;
+        output = g.O.Output.taken c.turn.new.output;
+        errors = g.E.Output.taken c.turn.new.errors;
+      };
+    } in
+    let r = c.from_residual in
+    let p = err_from_is_err_and r.result r.ensures.1 in
+    rw (p.1, p.2) (λ start before told fleet repeated. serving_cut c.args.telling files streams c.args.asked.now
+    c.args.part.now before c.loop-turn.fleet.second c.loop-turn.last
+    (record { made = g.F.Files.made c.args.files.now; streams = start }) after c.in_err-turn.field-0.0.fault
+    (c.in_err-turn.ensures.cut start (c.loop-turn.invariant.told start told))
+    (c.loop-turn.invariant.kept before fleet repeated))
+
+pub returns-in_err-last-clause-cut : goal.returns-in_err-last-clause-cut
+returns-in_err-last-clause-cut g c =
+    let files : FilesKnown = record {
+      holds = g.F.Files.holds c.args.files.now;
+      fails = g.F.Files.fails c.args.files.now;
+      refuses = g.F.Files.refuses;
+    } in
+    let streams : StreamFaults = record {
+      input_fails = ⊥;
+      output_refuses = g.O.Output.refuses;
+      errors_refuse = g.E.Output.refuses;
+    } in
+    let after : World = record {
+      made = g.F.Files.made c.keep_up.new.files;
+      streams = record {
+        input = None;
+        output = g.O.Output.taken c.turn.new.output;
+        errors = g.E.Output.taken c.turn.new.errors;
+      };
+    } in
+    let r = c.from_residual-in_err-last in
+    let p = err_from_is_err_and r.result r.ensures.1 in
+    rw (p.1, p.2) (λ start before told fleet repeated. snapshot_lost c.args.telling files streams c.args.asked.now
+    c.args.part.now before _ _ c.turn.new.fleet.second c.loop-turn.fleet.second c.loop-turn.last
+    (record { made = g.F.Files.made c.args.files.now; streams = start }) after _ c.in_err-last.field-0.0.fault
+    (c.in_ok-turn.ensures.told start (c.loop-turn.invariant.told start told))
+    (c.loop-turn.invariant.kept before fleet repeated) c.in_err-last.ensures.none c.in_err-last.ensures.refused)

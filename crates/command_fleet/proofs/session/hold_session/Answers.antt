@@ -177,8 +177,8 @@ returns-in_err-served-clause-refused g c =
     let h : IsSessionFault files faults before after asked c.args.terminal part c.args.place
     c.args.bound.now (g.Q.Quit.asked c.serve_part.new.quit) c.in_err-served.field-0.0.fault =
     inr (inl (cut_if files faults before after asked c.args.terminal part c.args.place c.args.bound.now
-    c.telling_of-telling.result first _ c.in_err-served.field-0.0.fault there is c.in_err-served.ensures.cut
-    c.requires.new c.in_err-served.ensures.kept_so_far)) in
+    c.telling_of-telling.result first _ c.in_err-served.field-0.0.fault there is c.requires.new
+    c.in_err-served.ensures.cut)) in
     let r = c.from_residual-in_err-served in
     let p = err_from_is_err_and r.result r.ensures.1 in
     rw (p.1, p.2) h
