@@ -1,5 +1,5 @@
 -- Snapshots of a session, turn by turn.
-use Rattle.std.proofs.Common.{ℕ, ◌≡◌, ◌+◌, ◌≤◌, Bool, List, [], ◌∷◌, ◌++◌, length, Option, None, Some, inl, inr, refl, sym, ap}
+use Rattle.std.proofs.Common.{ℕ, ◌≡◌, ◌+◌, ◌≤◌, Bool, false, List, [], ◌∷◌, ◌++◌, length, Option, None, Some, inl, inr, refl, sym, ap}
 use Rattle.std.proofs.Common.{subst, ◌∙◌, append_assoc, append-nil, arith}
 use Rattle.scenario_image.specs.Scenario.{Scenario}
 use Rattle.fleet_link.specs.declared.slot.Slot.{Slot}
@@ -7,7 +7,7 @@ use Rattle.fleet_link.specs.Serving.{AreRepeated, AreSwept, IsFleet}
 use Rattle.fleet_link.specs.Traffic.{Traffic}
 use Rattle.command_files.specs.Files.{Grows, Made}
 use Rattle.command_fleet.specs.Inside.{IsKeptUp}
-use Rattle.command_fleet.specs.Snapshots.{AreKeptIf, Snapshot}
+use Rattle.command_fleet.specs.Snapshots.{AreKeptIf, Snapshot, snapshot_files}
 
 -- what is known of files grows by nothing
 grows_not : (a : Option (List Made)) → Grows a a []
@@ -52,7 +52,7 @@ kept_on (Some path) part played repeat before told last now began second slots a
       last_is = same ∙ kept.last_is;
       since = (let since = kept.since in omega (arith, same, since, later));
       soon = omega (arith, same, soon);
-      made = subst (λ m. Grows a m _) (sym none) kept.made;
+      made = subst (λ m. Grows a m (snapshot_files path kept.snapshots)) (sym none) kept.made;
     }
 kept_on (Some path) part played repeat before told last now began second slots a b c kept fleet repeated swept later
     (inr (due, same, saved)) =

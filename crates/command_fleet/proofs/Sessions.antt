@@ -278,7 +278,7 @@ shown_if true None told shown none all = absurd none
 shown_if true (Some began) told shown from all =
     ∥∥₁_map all (λ h e. subst (λ t. WhereTold (AreShownOf e shown) t (told e)) (from e) (h e))
 
-pub served : (s : Scenario) (played repeat show : Bool) (seconds : Option ℕ) (quit : Bool) (wire : Option Wired)
+unfoldable pub served : (s : Scenario) (played repeat show : Bool) (seconds : Option ℕ) (quit : Bool) (wire : Option Wired)
     (began : Option (ℕ → Option Traffic)) (notes : List Note) (shown : List Shown) (session : Session)
     (before after : ℕ → Option Traffic)
     → IsFleet s played before session.slots session.second false after
@@ -330,7 +330,7 @@ pub ports_unlisted : (files : FilesKnown) (streams : StreamFaults) (before after
     → after.streams.output ≡ before.streams.output → after.streams.errors ≡ before.streams.errors
     → IsSessionFault files streams before after asked terminal part place ports quit fault
 ports_unlisted files streams before after asked terminal part place ports quit fault why none silent untold =
-    inl (inl (why, none, silent, untold))
+    inl (inl (why, none, (silent, untold)))
 
 pub line_refused : (files : FilesKnown) (streams : StreamFaults) (before after : World) (asked : AskedFleet)
     (terminal : Bool) (part : Scenario) (place : SocketAddr) (ports : List ℕ) (quit : Bool) (devices : ℕ)

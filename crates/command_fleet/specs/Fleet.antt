@@ -268,8 +268,8 @@ IsUnconcluded files faults before after asked session fault =
 abbrev pub telling_for : AskedFleet → Bool → Scenario → Telling
 telling_for asked terminal part = telling_of asked.json terminal (length part.rows)
 
--- the file of the ports was made, and it was told that the devices are there; then they were served, and each second was
--- told, with what the wire did and the datagrams that are shown, and snapshots were made; and then the session was
+-- the file of the ports was made, and it was told that the devices are there; then they were served, and each second
+-- was told, with what the wire did and the datagrams that are shown, and snapshots were made; and then the session was
 -- concluded, of which standard error heard nothing
 pub record IsSessionDone (before after : World) (asked : AskedFleet) (terminal : Bool) (part : Scenario)
     (place : SocketAddr) (ports : List ℕ) (quit : Bool) (status : Status) : Type 0 where
@@ -317,8 +317,8 @@ pub record IsServingCut (telling : Telling) (streams : StreamFaults) (asked : As
   pub kept_last : ℕ
   pub kept : AreKept asked part told kept_last second before.made after.made
 
--- It was broken off by a snapshot, which was to be made at the end of a turn, at the second that was told last, and could
--- not be made. The others were made up to the second at which the turn began.
+-- It was broken off by a snapshot, which was to be made at the end of a turn, at the second that was told last, and
+-- could not be made. The others were made up to the second at which the turn began.
 pub record IsSnapshotLost (telling : Telling) (refuses : List ℕ → Type 0) (asked : AskedFleet) (part : Scenario)
     (told : ℕ → Option Traffic) (before after : World) (fault : Fault) : Type 0 where
   pub notes : List Note

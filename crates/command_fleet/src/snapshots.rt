@@ -74,7 +74,7 @@ fn why_not(alloc: Global, why: Why) -> Why {
 
 /// The refusal of a snapshot of the session that is to be saved at this path.
 fn refusal_at<'a>(alloc: Global, path: &'a str, refusal: Refusal) -> Refusal<'a>
-    ensures { result.fault ≡ refusal.fault }
+    ensures { result.fault ≡ refusal.entry.fault }
 {
     Refusal {
         fault: refusal.fault,

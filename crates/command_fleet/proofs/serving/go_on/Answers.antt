@@ -15,7 +15,8 @@ loop-turn-init g c = record {
   began = refl;
   repeats = λ e. refl;
   told = λ start h. h;
-  kept = λ before h r. kept_first _ _ _ _ before _ _ _ (c.second-last.ensures ∙ c.requires) c.requires;
+  kept = λ before h r. kept_first _ _ _ _ before _ _ _ (c.second-last.ensures ∙ c.requires.start)
+      c.requires.start;
 }
 
 pub loop-turn-preserved : goal.loop-turn-preserved

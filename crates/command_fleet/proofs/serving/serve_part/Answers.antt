@@ -1,9 +1,9 @@
-use Rattle.std.proofs.Common.{◌≡◌, ◌⊎◌, ◌∙◌, ap, None, inl, refl, subst, sym, true}
+use Rattle.std.proofs.Common.{◌≡◌, ◌⊎◌, ◌∙◌, ap, None, inl, refl, rules, subst, sym, true}
 use Rattle.std.proofs.lemmas.Result.{err_from_is_err_and}
 use Rattle.fleet_lines.specs.Counting.{AreAllShown, Watched}
 use Rattle.command_files.specs.World.{FilesKnown, StreamFaults, Streams, World}
 use Rattle.command_files.specs.declared.fault.Fault.TheVariants as faults
-use Rattle.command_fleet.proofs.Sessions.{ended_so, none_asked, serving_cut}
+use Rattle.command_fleet.proofs.Sessions.{broken_at_start, ended_so, none_asked, serving_cut}
 use Rattle.command_fleet.proofs.Settled.{account_as, fleet_as, repeated_as}
 use Rattle.command_fleet.specs.Fleet.{IsBrokenOff}
 use Rattle.command_fleet.specs.Snapshots.{AreKept}
@@ -213,6 +213,30 @@ returns-clause-cut g c =
     (cut_off c.args.telling streams _ _ second first.streams last.streams c.from-in-None.result.fault told
     (inl c.from-in-None.ensures))
     (subst (λ n. AreKept asked part ports kept.0 n first.made last.made) (sym c.finish.ensures.second) kept.1)
+
+pub returns-in_err-fleet-clause-cut : goal.returns-in_err-fleet-clause-cut
+returns-in_err-fleet-clause-cut g c =
+    let files : FilesKnown = record {
+      holds = g.F.Files.holds c.args.files.now;
+      fails = g.F.Files.fails c.args.files.now;
+      refuses = g.F.Files.refuses;
+    } in
+    let streams : StreamFaults = record {
+      input_fails = ⊥;
+      output_refuses = g.O.Output.refuses;
+      errors_refuse = g.E.Output.refuses;
+    } in
+    let first : World = record {
+      made = g.F.Files.made c.args.files.now;
+      streams = record {
+        input = None;
+        output = g.O.Output.taken c.args.output.now;
+        errors = g.E.Output.taken c.args.errors.now;
+      };
+    } in
+    let h = broken_at_start c.args.telling files streams c.args.asked.now c.args.part.now
+    (g.P.Ports.told c.args.ports.now) first in
+    search (rules, h)
 
 pub returns-in_err-go_on-clause-cut : goal.returns-in_err-go_on-clause-cut
 returns-in_err-go_on-clause-cut g c =

@@ -7,6 +7,7 @@ use Rattle.command_fleet.proofs.Sessions.{ports_unlisted, served, telling_is}
 use Rattle.command_fleet.proofs.session.hold_session.Goals as goal
 
 pub returns-clause-done : goal.returns-clause-done
+unfolding served
 returns-clause-done g c =
     let before : World = record {
       made = g.F.Files.made c.args.files.now;
@@ -42,8 +43,8 @@ returns-clause-done g c =
     } in
     let asked = c.args.asked.now in
     let part = c.args.part.now in
-    let there = opened asked part c.args.place c.args.bound.now c.free_ports-free.result.now c.rows-devices.result before
-    first c.rows-devices.ensures.count c.free_ports-free.ensures c.in_ok-list_ports.ensures.listed
+    let there = opened asked part c.args.place c.args.bound.now c.free_ports-free.result.now c.rows-devices.result
+    before first c.rows-devices.ensures.count c.free_ports-free.ensures c.in_ok-list_ports.ensures.listed
     c.in_ok-tell_ready.ensures.told c.in_ok-print_ready.ensures.told in
     let is = telling_is asked c.args.terminal part c.rows-devices.result c.telling_of-telling.result
     c.rows-devices.ensures.count c.telling_of-telling.ensures in
@@ -64,6 +65,7 @@ returns-clause-done g c =
     c.in_ok-served.ensures.told c.in_ok-served.ensures.kept refl c.conclude_session.ensures.concluded
 
 pub returns-clause-refused : goal.returns-clause-refused
+unfolding served
 returns-clause-refused g c =
     let files : FilesKnown = record {
       holds = g.F.Files.holds c.args.files.now;
@@ -109,8 +111,8 @@ returns-clause-refused g c =
     } in
     let asked = c.args.asked.now in
     let part = c.args.part.now in
-    let there = opened asked part c.args.place c.args.bound.now c.free_ports-free.result.now c.rows-devices.result before
-    first c.rows-devices.ensures.count c.free_ports-free.ensures c.in_ok-list_ports.ensures.listed
+    let there = opened asked part c.args.place c.args.bound.now c.free_ports-free.result.now c.rows-devices.result
+    before first c.rows-devices.ensures.count c.free_ports-free.ensures c.in_ok-list_ports.ensures.listed
     c.in_ok-tell_ready.ensures.told c.in_ok-print_ready.ensures.told in
     let is = telling_is asked c.args.terminal part c.rows-devices.result c.telling_of-telling.result
     c.rows-devices.ensures.count c.telling_of-telling.ensures in
@@ -169,8 +171,8 @@ returns-in_err-served-clause-refused g c =
     } in
     let asked = c.args.asked.now in
     let part = c.args.part.now in
-    let there = opened asked part c.args.place c.args.bound.now c.free_ports-free.result.now c.rows-devices.result before
-    first c.rows-devices.ensures.count c.free_ports-free.ensures c.in_ok-list_ports.ensures.listed
+    let there = opened asked part c.args.place c.args.bound.now c.free_ports-free.result.now c.rows-devices.result
+    before first c.rows-devices.ensures.count c.free_ports-free.ensures c.in_ok-list_ports.ensures.listed
     c.in_ok-tell_ready.ensures.told c.in_ok-print_ready.ensures.told in
     let is = telling_is asked c.args.terminal part c.rows-devices.result c.telling_of-telling.result
     c.rows-devices.ensures.count c.telling_of-telling.ensures in
