@@ -1,13 +1,13 @@
 -- What a session of several devices came to.
-use Rattle.std.proofs.Common.{ℕ, ◌≡◌, ◌⊎◌, Bool, List}
-use Rattle.std.proofs.Common.{Result, Ok, Err, IfErr, IfOk}
-use Rattle.std.proofs.Common.{OnErr, inl, inr}
+use Rattle.std.proofs.Common.{ℕ, ◌≡◌, ◌⊎◌, Bool, List, Result, Ok, Err, IfErr, IfOk, inl, inr}
+use Rattle.std.proofs.Math.Logic.{⊎_map}
 use Rattle.command_line.specs.Words.{IsReadAs}
 use Rattle.command_line.specs.declared.fleet_words.AskedFleet.{AskedFleet}
 use Rattle.command_line.specs.declared.words.Asked.TheVariants as asked
 use Rattle.bench_commands.specs.Command.{IsFinished}
 use Rattle.bench_commands.specs.Command.{IsUnfinished}
-use Rattle.command_fleet.specs.Fleet.{IsFleetDone, IsFleetFault, IsHeldFault, IsSessionBroken, telling_for}
+use Rattle.command_fleet.specs.Fleet.{IsFleetDone, IsFleetFault, IsHeldFault, IsSessionBroken}
+use Rattle.command_fleet.specs.Fleet.{telling_for}
 use Rattle.command_fleet.specs.Telling.{Event, IsCut, IsRefused as IsEventRefused, IsSecondRefused, MayCome, Passed}
 use Rattle.command_fleet.specs.Telling.{came, went}
 use Rattle.command_fleet.specs.declared.telling.Telling.{Telling}
@@ -19,14 +19,19 @@ use Rattle.command_files.specs.declared.refusal.Refusal.{Refusal}
 use Rattle.command_files.specs.declared.status.Status.{Status}
 use Rattle.bench_commands.proofs.Seen.{beside_faults, beside_input}
 
+-- ---- what stands beside an input
+
+-- a world whose streams have no input
+abbrev pub beside : World → World
+beside world = record { made = world.made; streams = beside_input world.streams }
+
 -- ---- done
 
 -- a session of several devices that may have been lost
 pub served_if : {E : Type 0}
     → (files : FilesKnown) (faults : StreamFaults) (before after : World) (terminal : Bool) (words : List (List ℕ))
     (fleet : AskedFleet) (result : Result Status E) → IsReadAs words (asked.Fleet fleet)
-    → IfOk result (IsFleetDone files (record { made = before.made; streams = beside_input before.streams })
-    (record { made = after.made; streams = beside_input after.streams }) fleet terminal)
+    → IfOk result (IsFleetDone files (beside before) (beside after) fleet terminal)
     → after.streams.input ≡ before.streams.input → IfOk result (IsFinished files faults before after terminal words)
 served_if files faults before after terminal words fleet (Ok status) read served unread =
     let done = served.done.1 in
@@ -44,7 +49,10 @@ served_if files faults before after terminal words fleet (Ok status) read served
             served.done.0,
             record {
               first = done.first;
-              ready_told = record { shown = done.ready_told.shown; printed = done.ready_told.printed };
+              opened = record {
+                listed = done.opened.listed;
+                told = record { shown = done.opened.told.shown; printed = done.opened.told.printed };
+              };
               wire = done.wire;
               wire_is = done.wire_is;
               session = done.session;
@@ -53,6 +61,8 @@ served_if files faults before after terminal words fleet (Ok status) read served
               served = done.served;
               last = done.last;
               told = done.told;
+              kept_last = done.kept_last;
+              kept = done.kept;
               concluded = record {
                 printed = done.concluded.printed;
                 saved = done.concluded.saved;
@@ -86,31 +96,31 @@ event_so telling faults (came passed) between after fault refused =
 event_so telling faults (went notes shown) between after fault refused = refused
 
 -- and so is a session that was broken off
-cut_so : (telling : Telling) (faults : StreamFaults) (first after : Streams) (fault : Fault)
-    → IsCut telling (beside_faults faults) first (beside_input after) fault → IsCut telling faults first after fault
-cut_so telling faults first after fault cut =
+cut_so : (telling : Telling) (faults : StreamFaults) (second : ℕ) (first after : Streams) (fault : Fault)
+    → IsCut telling (beside_faults faults) second first (beside_input after) fault
+    → IsCut telling faults second first after fault
+cut_so telling faults second first after fault cut =
     record {
       notes = cut.notes;
       shown = cut.shown;
-      second = cut.second;
       between = cut.between;
       told = cut.told;
-      why = so cut.second cut.between cut.why;
+      why = so cut.between cut.why;
     }
   where
-    so : (second : ℕ) (between : Streams)
+    so : (between : Streams)
         → (IsSilent between (beside_input after) × ((fault ≡ Memory) ⊎ (fault ≡ Bind)))
         ⊎ ((event : Event) × MayCome second event
         × IsEventRefused telling (beside_faults faults) event between (beside_input after) fault)
         → (IsSilent between after × ((fault ≡ Memory) ⊎ (fault ≡ Bind)))
         ⊎ ((event : Event) × MayCome second event × IsEventRefused telling faults event between after fault)
-    so second between (inl silent) = inl silent
-    so second between (inr (event, may, refused)) =
+    so between (inl silent) = inl silent
+    so between (inr (event, may, refused)) =
         inr (event, may, event_so telling faults event between after fault refused)
 
-session_so : (files : FilesKnown) (faults : StreamFaults) (before after : Streams) (fleet : AskedFleet)
+session_so : (files : FilesKnown) (faults : StreamFaults) (before after : World) (fleet : AskedFleet)
     (terminal : Bool) (fault : Fault)
-    → IsSessionBroken files (beside_faults faults) (beside_input before) (beside_input after) fleet terminal fault
+    → IsSessionBroken files (beside_faults faults) (beside before) (beside after) fleet terminal fault
     → IsSessionBroken files faults before after fleet terminal fault
 session_so files faults before after fleet terminal fault broken =
     record {
@@ -122,8 +132,8 @@ session_so files faults before after fleet terminal fault broken =
       why = so broken.why;
     }
   where
-    so : IsHeldFault files (beside_faults faults) (beside_input before) (beside_input after) fleet terminal
-        broken.part broken.place broken.ports fault
+    so : IsHeldFault files (beside_faults faults) (beside before) (beside after) fleet terminal broken.part
+        broken.place broken.ports fault
         → IsHeldFault files faults before after fleet terminal broken.part broken.place broken.ports fault
     so (inl none) = inl none
     so (inr (quit, inl untold)) = inr (quit, inl untold)
@@ -132,8 +142,38 @@ session_so files faults before after fleet terminal fault broken =
           quit,
           inr (inl (record {
             first = lost.first;
-            ready_told = record { shown = lost.ready_told.shown; printed = lost.ready_told.printed };
-            cut = cut_so (telling_for fleet terminal broken.part) faults lost.first after fault lost.cut;
+            opened = record {
+              listed = lost.opened.listed;
+              told = record { shown = lost.opened.told.shown; printed = lost.opened.told.printed };
+            };
+            told = lost.told;
+            new = lost.new;
+            cut = ⊎_map
+                (λ c. record {
+                  second = c.second;
+                  cut = cut_so (telling_for fleet terminal broken.part) faults c.second lost.first.streams after.streams
+                      fault c.cut;
+                  kept_last = c.kept_last;
+                  kept = c.kept;
+                })
+                (λ s. record {
+                  notes = s.notes;
+                  shown = s.shown;
+                  second = s.second;
+                  events = record {
+                    events = s.events.events;
+                    seconds = s.events.seconds;
+                    notes_are = s.events.notes_are;
+                    shown_are = s.events.shown_are;
+                    output = s.events.output;
+                    errors = s.events.errors;
+                  };
+                  began = s.began;
+                  kept_last = s.kept_last;
+                  kept = s.kept;
+                  due = s.due;
+                  why = s.why;
+                }) lost.cut;
           })),
         )
     so (inr (quit, inr (inr lost))) =
@@ -141,7 +181,10 @@ session_so files faults before after fleet terminal fault broken =
           quit,
           inr (inr (record {
             first = lost.first;
-            ready_told = record { shown = lost.ready_told.shown; printed = lost.ready_told.printed };
+            opened = record {
+              listed = lost.opened.listed;
+              told = record { shown = lost.opened.told.shown; printed = lost.opened.told.printed };
+            };
             wire = lost.wire;
             wire_is = lost.wire_is;
             session = lost.session;
@@ -150,7 +193,10 @@ session_so files faults before after fleet terminal fault broken =
             served = lost.served;
             last = lost.last;
             told = lost.told;
+            kept_last = lost.kept_last;
+            kept = lost.kept;
             why = lost.why;
+            none_made = lost.none_made;
             quiet = lost.quiet;
           })),
         )
@@ -158,15 +204,16 @@ session_so files faults before after fleet terminal fault broken =
 -- a session of several devices that may have been concluded
 pub fleet_lost_if : (files : FilesKnown) (faults : StreamFaults) (before after : World) (terminal : Bool)
     (words : List (List ℕ)) (fleet : AskedFleet) (result : Result Status Refusal) → IsReadAs words (asked.Fleet fleet)
-    → IfErr result (λ r. IsFleetFault files (beside_faults faults) (beside_input before.streams)
-    (beside_input after.streams) fleet terminal r.fault)
-    → after.streams.input ≡ before.streams.input → OnErr result (after.made ≡ before.made)
+    → IfErr result (λ r. IsFleetFault files (beside_faults faults) (beside before) (beside after) fleet terminal
+    r.fault)
+    → after.streams.input ≡ before.streams.input
     → IfErr result (λ r. IsUnfinished files faults before after terminal words r.fault)
-fleet_lost_if files faults before after terminal words fleet (Ok status) read lost unread none = tt
-fleet_lost_if files faults before after terminal words fleet (Err r) read lost unread none =
-    inr (inr (inr (record { fleet = fleet; read = read; lost = so lost; none_made = none }, unread)))
+fleet_lost_if files faults before after terminal words fleet (Ok status) read lost unread = tt
+fleet_lost_if files faults before after terminal words fleet (Err r) read lost unread =
+    inr (inr (inr (record { fleet = fleet; read = read; lost = so lost }, unread)))
   where
-    so : IsFleetFault files (beside_faults faults) (beside_input before.streams) (beside_input after.streams) fleet
-        terminal r.fault → IsFleetFault files faults before.streams after.streams fleet terminal r.fault
-    so (inl none) = inl (record { why = none.why; silent = none.silent; untold = none.untold })
-    so (inr broken) = inr (session_so files faults before.streams after.streams fleet terminal r.fault broken)
+    so : IsFleetFault files (beside_faults faults) (beside before) (beside after) fleet terminal r.fault
+        → IsFleetFault files faults before after fleet terminal r.fault
+    so (inl none) =
+        inl (record { why = none.why; none_made = none.none_made; silent = none.silent; untold = none.untold })
+    so (inr broken) = inr (session_so files faults before after fleet terminal r.fault broken)

@@ -250,13 +250,13 @@ pub record AreServed (files : FilesKnown) (before after : World) (terminal : Boo
   pub read : IsReadAs words (asked.Fleet fleet)
   pub done : IsFleetDone files before after fleet terminal status
 
--- the words ask for devices on UDP, and this fault kept them from a session or from its conclusion
+-- the words ask for devices on UDP, and this fault kept them from a session or from its conclusion; the files that were
+-- made are those of the session up to then
 pub record IsFleetLost (files : FilesKnown) (faults : StreamFaults) (before after : World) (terminal : Bool)
     (words : List (List ℕ)) (fault : Fault) : Type 0 where
   pub fleet : AskedFleet
   pub read : IsReadAs words (asked.Fleet fleet)
-  pub lost : IsFleetFault files faults before.streams after.streams fleet terminal fault
-  pub none_made : after.made ≡ before.made
+  pub lost : IsFleetFault files faults before after fleet terminal fault
 
 -- the words ask for what a log says, which standard input has; all of it was read, and that was printed
 pub record IsLogAnswered (before after : World) (words : List (List ℕ)) (status : Status) : Type 0 where

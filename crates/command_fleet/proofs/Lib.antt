@@ -1,5 +1,6 @@
 pub mod Choices
 pub mod Fixed
+pub mod Kept
 pub mod Objects
 pub mod Parts
 pub mod Sessions

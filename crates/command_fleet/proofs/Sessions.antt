@@ -1,6 +1,6 @@
 -- Devices on UDP: what their session came to, put together from its parts.
 use Rattle.std.proofs.Common.{ℕ, Bool, Bor, ◌==◌, ◌&&◌, ◌≡◌, ◌⊎◌, arith, List, [], ◌∷◌, length, map, Option, None, Some, inl}
-use Rattle.std.proofs.Common.{inr, IfErr, IfOk, Result, Ok, Err, option_map, false, true, refl, sym, subst, ap, ◌∙◌}
+use Rattle.std.proofs.Common.{inr, IfErr, IfOk, OnErr, Result, Ok, Err, option_map, false, true, refl, sym, subst, ap, ◌∙◌}
 use Rattle.std.specs.Io.KnownBytes.{Appends}
 use Rattle.std.specs.declared.net.socket_addr.SocketAddr.{SocketAddr}
 use Rattle.command_line.specs.declared.fleet_words.AskedFleet.{AskedFleet}
@@ -36,13 +36,18 @@ use Rattle.command_sources.specs.Sources.{IsNoScenario, IsScenarioOf}
 use Rattle.command_fleet.specs.declared.devices.Devices.{Devices}
 use Rattle.command_fleet.specs.declared.telling.Telling.{Telling}
 use Rattle.command_fleet.specs.Devices.{AreChosen, IsPart}
+use Rattle.command_fleet.specs.Inside.{IsNotKeptUp, IsShownFrom}
+use Rattle.command_fleet.specs.Listing.{AreListedIf, IsUnlisted}
 use Rattle.command_fleet.specs.Servers.{AreServers, IsServersFault}
-use Rattle.command_fleet.specs.Fleet.{AreMissing, AreReady, IsConcluded, IsEndless, IsFleetDone, IsFleetFault, IsPlace}
-use Rattle.command_fleet.specs.Fleet.{IsReadyTold, IsSaveFault, IsSavedAt, IsSavedIf, IsServed, IsSessionCut}
-use Rattle.command_fleet.specs.Fleet.{IsSessionDone, IsSessionFault, IsUnconcluded, IsUnfit, IsUnsaved, IsUnstarted}
-use Rattle.command_fleet.specs.Fleet.{IsHeldDone, IsHeldFault, IsShownFrom, IsShownIf, IsUntold, Session, cut_of}
+use Rattle.command_fleet.specs.Snapshots.{AreKept}
+use Rattle.command_fleet.specs.Fleet.{AreMissing, AreReady, IsBrokenOff, IsConcluded, IsEndless, IsFleetDone}
+use Rattle.command_fleet.specs.Fleet.{IsFleetFault, IsOpened, IsPlace, IsReadyTold, IsSaveFault, IsSavedAt, IsSavedIf}
+use Rattle.command_fleet.specs.Fleet.{IsServed, IsSessionCut, IsSessionDone, IsSessionFault, IsUnconcluded, IsUnfit}
+use Rattle.command_fleet.specs.Fleet.{IsHeldDone, IsHeldFault, IsShownIf, IsUnsaved, IsUnstarted, Session, cut_of}
 use Rattle.command_fleet.specs.Fleet.{free_ports, has_passed, line_of, opening_text, ready_line, status_of, telling_for}
 use Rattle.command_fleet.specs.Telling.{AreTold, IsCut, telling_of}
+use Rattle.command_fleet.proofs.Kept.{kept_first}
+use Rattle.command_fleet.proofs.Told.{cut_at_start}
 use Rattle.command_fleet.specs.Wires.{IsNoPlan, IsPlanBy, IsPlanned, IsWireBy}
 
 -- ---- the scenario of a session
@@ -107,44 +112,49 @@ steps_unsaved files faults before after asked session fault cut is printed h =
 
 -- ---- there is no session
 
-pub source_refused : (files : FilesKnown) (faults : StreamFaults) (before after : Streams) (asked : AskedFleet)
+pub source_refused : (files : FilesKnown) (faults : StreamFaults) (before after : World) (asked : AskedFleet)
     (terminal : Bool)
     (fault : Fault)
     → IsReadingFault (files.fails asked.file.now) fault
     ⊎ IsHeld files.holds asked.file.now (λ bytes. IsNoScenario bytes fault)
-    → after.output ≡ before.output → after.errors ≡ before.errors
+    → after.made ≡ before.made → after.streams.output ≡ before.streams.output
+    → after.streams.errors ≡ before.streams.errors
     → IsFleetFault files faults before after asked terminal fault
-source_refused files faults before after asked terminal fault why silent untold =
-    inl (record { why = inl why; silent = silent; untold = untold })
+source_refused files faults before after asked terminal fault why none silent untold =
+    inl (record { why = inl why; none_made = none; silent = silent; untold = untold })
 
-unstarted : (files : FilesKnown) (streams : StreamFaults) (before after : Streams) (asked : AskedFleet)
+unstarted : (files : FilesKnown) (streams : StreamFaults) (before after : World) (asked : AskedFleet)
     (terminal : Bool) (s : Scenario)
     (fault : Fault) → IsHeld files.holds asked.file.now (λ bytes. IsScenarioOf bytes s) → IsUnstarted asked s fault
-    → after.output ≡ before.output → after.errors ≡ before.errors
+    → after.made ≡ before.made → after.streams.output ≡ before.streams.output
+    → after.streams.errors ≡ before.streams.errors
     → IsFleetFault files streams before after asked terminal fault
-unstarted files streams before after asked terminal s fault found why silent untold =
+unstarted files streams before after asked terminal s fault found why none silent untold =
     inl (record {
       why = inr (record { scenario = s; found = found; so = why });
+      none_made = none;
       silent = silent;
       untold = untold;
     })
 
-pub devices_missing : (files : FilesKnown) (streams : StreamFaults) (before after : Streams) (asked : AskedFleet)
+pub devices_missing : (files : FilesKnown) (streams : StreamFaults) (before after : World) (asked : AskedFleet)
     (terminal : Bool)
     (s : Scenario) → IsHeld files.holds asked.file.now (λ bytes. IsScenarioOf bytes s) → AreMissing asked s
-    → after.output ≡ before.output → after.errors ≡ before.errors
+    → after.made ≡ before.made → after.streams.output ≡ before.streams.output
+    → after.streams.errors ≡ before.streams.errors
     → IsFleetFault files streams before after asked terminal faults.NoDevice
-devices_missing files streams before after asked terminal s found missing silent untold =
-    unstarted files streams before after asked terminal s faults.NoDevice found missing silent untold
+devices_missing files streams before after asked terminal s found missing none silent untold =
+    unstarted files streams before after asked terminal s faults.NoDevice found missing none silent untold
 
-pub part_refused : (files : FilesKnown) (streams : StreamFaults) (before after : Streams) (asked : AskedFleet)
+pub part_refused : (files : FilesKnown) (streams : StreamFaults) (before after : World) (asked : AskedFleet)
     (terminal : Bool)
     (s : Scenario) (fault : Fault) → IsHeld files.holds asked.file.now (λ bytes. IsScenarioOf bytes s)
-    → fault ≡ faults.Memory → after.output ≡ before.output → after.errors ≡ before.errors
+    → fault ≡ faults.Memory → after.made ≡ before.made → after.streams.output ≡ before.streams.output
+    → after.streams.errors ≡ before.streams.errors
     → IsFleetFault files streams before after asked terminal fault
-part_refused files streams before after asked terminal s fault found memory silent untold =
+part_refused files streams before after asked terminal s fault found memory none silent untold =
     unstarted files streams before after asked terminal s fault found
-    (subst (IsUnstarted asked s) (sym memory) tt) silent untold
+    (subst (IsUnstarted asked s) (sym memory) tt) none silent untold
 
 why_unbound : (asked : AskedFleet) (s : Scenario) (devices : Devices) (fault : Fault)
     → AreChosen s (option_map (λ w. w.now) asked.devices) devices → (fault ≡ faults.Memory) ⊎ (fault ≡ faults.Bind)
@@ -152,50 +162,54 @@ why_unbound : (asked : AskedFleet) (s : Scenario) (devices : Devices) (fault : F
 why_unbound asked s devices fault chosen (inl h) = subst (IsUnstarted asked s) (sym h) tt
 why_unbound asked s devices fault chosen (inr h) = subst (IsUnstarted asked s) (sym h) (devices, chosen)
 
-pub ports_refused : (files : FilesKnown) (streams : StreamFaults) (before after : Streams) (asked : AskedFleet)
+pub ports_refused : (files : FilesKnown) (streams : StreamFaults) (before after : World) (asked : AskedFleet)
     (terminal : Bool)
     (s : Scenario) (devices : Devices) (fault : Fault)
     → IsHeld files.holds asked.file.now (λ bytes. IsScenarioOf bytes s)
     → AreChosen s (option_map (λ w. w.now) asked.devices) devices → (fault ≡ faults.Memory) ⊎ (fault ≡ faults.Bind)
-    → after.output ≡ before.output → after.errors ≡ before.errors
+    → after.made ≡ before.made → after.streams.output ≡ before.streams.output
+    → after.streams.errors ≡ before.streams.errors
     → IsFleetFault files streams before after asked terminal fault
-ports_refused files streams before after asked terminal s devices fault found chosen why silent untold =
+ports_refused files streams before after asked terminal s devices fault found chosen why none silent untold =
     unstarted files streams before after asked terminal s fault found
-    (why_unbound asked s devices fault chosen why) silent
-    untold
+    (why_unbound asked s devices fault chosen why) none silent untold
 
-pub plan_refused : (files : FilesKnown) (streams : StreamFaults) (before after : Streams) (asked : AskedFleet)
+pub plan_refused : (files : FilesKnown) (streams : StreamFaults) (before after : World) (asked : AskedFleet)
     (terminal : Bool) (s : Scenario) (fault : Fault)
     → IsHeld files.holds asked.file.now (λ bytes. IsScenarioOf bytes s)
     → (fault ≡ faults.Memory) ⊎ ((fault ≡ faults.Wire) × IsNoPlan asked.wire)
-    → after.output ≡ before.output → after.errors ≡ before.errors
+    → after.made ≡ before.made → after.streams.output ≡ before.streams.output
+    → after.streams.errors ≡ before.streams.errors
     → IsFleetFault files streams before after asked terminal fault
-plan_refused files streams before after asked terminal s fault found (inl memory) silent untold =
+plan_refused files streams before after asked terminal s fault found (inl memory) none silent untold =
     unstarted files streams before after asked terminal s fault found
-    (subst (IsUnstarted asked s) (sym memory) tt) silent untold
-plan_refused files streams before after asked terminal s fault found (inr none) silent untold =
+    (subst (IsUnstarted asked s) (sym memory) tt) none silent untold
+plan_refused files streams before after asked terminal s fault found (inr word) none silent untold =
     unstarted files streams before after asked terminal s fault found
-    (subst (IsUnstarted asked s) (sym none.0) none.1) silent untold
+    (subst (IsUnstarted asked s) (sym word.0) word.1) none silent untold
 
-pub place_refused : (files : FilesKnown) (streams : StreamFaults) (before after : Streams) (asked : AskedFleet)
+pub place_refused : (files : FilesKnown) (streams : StreamFaults) (before after : World) (asked : AskedFleet)
     (terminal : Bool)
     (s : Scenario) (devices : Devices) (fault : Fault)
     → IsHeld files.holds asked.file.now (λ bytes. IsScenarioOf bytes s)
     → AreChosen s (option_map (λ w. w.now) asked.devices) devices → fault ≡ faults.Bind
-    → after.output ≡ before.output → after.errors ≡ before.errors
+    → after.made ≡ before.made → after.streams.output ≡ before.streams.output
+    → after.streams.errors ≡ before.streams.errors
     → IsFleetFault files streams before after asked terminal fault
-place_refused files streams before after asked terminal s devices fault found chosen why silent untold =
-    ports_refused files streams before after asked terminal s devices fault found chosen (inr why) silent untold
+place_refused files streams before after asked terminal s devices fault found chosen why none silent untold =
+    ports_refused files streams before after asked terminal s devices fault found chosen (inr why) none silent untold
 
-pub servers_refused : (files : FilesKnown) (streams : StreamFaults) (before after : Streams) (asked : AskedFleet)
+pub servers_refused : (files : FilesKnown) (streams : StreamFaults) (before after : World) (asked : AskedFleet)
     (terminal : Bool)
     (s : Scenario) (devices : Devices) (words : List (List ℕ)) (about : Option (List ℕ)) (fault : Fault)
     → IsHeld files.holds asked.file.now (λ bytes. IsScenarioOf bytes s)
     → AreChosen s (option_map (λ w. w.now) asked.devices) devices → IsServersFault s words about fault
-    → after.output ≡ before.output → after.errors ≡ before.errors
+    → after.made ≡ before.made → after.streams.output ≡ before.streams.output
+    → after.streams.errors ≡ before.streams.errors
     → IsFleetFault files streams before after asked terminal fault
-servers_refused files streams before after asked terminal s devices words about fault found chosen why silent untold =
-    ports_refused files streams before after asked terminal s devices fault found chosen (of why) silent untold
+servers_refused files streams before after asked terminal s devices words about fault found chosen why none silent
+    untold =
+    ports_refused files streams before after asked terminal s devices fault found chosen (of why) none silent untold
   where
     of : IsServersFault s words about fault → (fault ≡ faults.Memory) ⊎ (fault ≡ faults.Bind)
     of (inl memory) = inl memory
@@ -264,7 +278,7 @@ shown_if true None told shown none all = absurd none
 shown_if true (Some began) told shown from all =
     ∥∥₁_map all (λ h e. subst (λ t. WhereTold (AreShownOf e shown) t (told e)) (from e) (h e))
 
-pub served : (s : Scenario) (played repeat show : Bool) (seconds : Option ℕ) (quit : Bool) (wire : Option Wired)
+unfoldable pub served : (s : Scenario) (played repeat show : Bool) (seconds : Option ℕ) (quit : Bool) (wire : Option Wired)
     (began : Option (ℕ → Option Traffic)) (notes : List Note) (shown : List Shown) (session : Session)
     (before after : ℕ → Option Traffic)
     → IsFleet s played before session.slots session.second false after
@@ -288,30 +302,69 @@ served s played repeat show seconds quit wire began notes shown session before a
     }
 
 -- that the devices are there, told of as many as there are rows
-pub ready_told : (json : Bool) (rows devices : ℕ) (place : SocketAddr) (ports : List ℕ) (before after : Streams)
+ready_told : (json : Bool) (rows devices : ℕ) (place : SocketAddr) (ports : List ℕ) (before after : Streams)
     → devices ≡ rows → Appends before.errors after.errors (ready_line devices place)
     → Appends before.output after.output (opening_text json devices place ports)
     → IsReadyTold json rows place ports before after
 ready_told json rows devices place ports before after same shown printed =
     subst (λ n. IsReadyTold json n place ports before after) same (record { shown = shown; printed = printed })
 
-pub line_refused : (streams : StreamFaults) (before after : Streams) (asked : AskedFleet) (part : Scenario)
-    (place : SocketAddr) (ports : List ℕ) (devices : ℕ) (fault : Fault) → devices ≡ length part.rows
-    → IsWritingFault (streams.errors_refuse (ready_line devices place)) fault → after.output ≡ before.output
-    → IsUntold streams before after asked part place ports fault
-line_refused streams before after asked part place ports devices fault same why silent =
-    inl (subst (λ n. IsWritingFault (streams.errors_refuse (ready_line n place)) fault) same why, silent)
+-- once their ports are listed
+pub opened : (asked : AskedFleet) (part : Scenario) (place : SocketAddr) (ports free : List ℕ) (devices : ℕ)
+    (before after : World) → devices ≡ length part.rows → free ≡ free_ports (asked.port == 0) ports
+    → AreListedIf before.made after.made (option_map (λ p. p.now) asked.ports) ports
+    → Appends before.streams.errors after.streams.errors (ready_line devices place)
+    → Appends before.streams.output after.streams.output (opening_text asked.json devices place free)
+    → IsOpened asked part place ports before after
+opened asked part place ports free devices before after same is listed shown printed = record {
+  listed = listed;
+  told = ready_told asked.json (length part.rows) devices place (free_ports (asked.port == 0) ports) before.streams
+      after.streams same shown
+      (subst (λ ps. Appends before.streams.output after.streams.output (opening_text asked.json devices place ps)) is
+      printed);
+}
 
-pub opening_refused : (streams : StreamFaults) (before after : Streams) (asked : AskedFleet) (part : Scenario)
-    (place : SocketAddr) (ports : List ℕ) (devices : ℕ) (fault : Fault) → devices ≡ length part.rows
-    → Appends before.errors after.errors (ready_line devices place)
-    → IsWritingFault (streams.output_refuses (opening_text asked.json devices place ports)) fault
-    → IsUntold streams before after asked part place ports fault
-opening_refused streams before after asked part place ports devices fault same told why =
-    inr (
-      subst (λ n. Appends before.errors after.errors (ready_line n place)) same told,
-      subst (λ n. IsWritingFault (streams.output_refuses (opening_text asked.json n place ports)) fault) same why,
-    )
+pub ports_unlisted : (files : FilesKnown) (streams : StreamFaults) (before after : World) (asked : AskedFleet)
+    (terminal : Bool) (part : Scenario) (place : SocketAddr) (ports : List ℕ) (quit : Bool) (fault : Fault)
+    → IsUnlisted files.refuses (option_map (λ p. p.now) asked.ports) fault → after.made ≡ before.made
+    → after.streams.output ≡ before.streams.output → after.streams.errors ≡ before.streams.errors
+    → IsSessionFault files streams before after asked terminal part place ports quit fault
+ports_unlisted files streams before after asked terminal part place ports quit fault why none silent untold =
+    inl (inl (why, none, (silent, untold)))
+
+pub line_refused : (files : FilesKnown) (streams : StreamFaults) (before after : World) (asked : AskedFleet)
+    (terminal : Bool) (part : Scenario) (place : SocketAddr) (ports : List ℕ) (quit : Bool) (devices : ℕ)
+    (fault : Fault) → devices ≡ length part.rows
+    → AreListedIf before.made after.made (option_map (λ p. p.now) asked.ports) ports
+    → IsWritingFault (streams.errors_refuse (ready_line devices place)) fault
+    → after.streams.output ≡ before.streams.output
+    → IsSessionFault files streams before after asked terminal part place ports quit fault
+line_refused files streams before after asked terminal part place ports quit devices fault same listed why silent =
+    inl (inr (
+      listed,
+      inl (subst (λ n. IsWritingFault (streams.errors_refuse (ready_line n place)) fault) same why, silent),
+    ))
+
+pub opening_refused : (files : FilesKnown) (streams : StreamFaults) (before after : World) (asked : AskedFleet)
+    (terminal : Bool) (part : Scenario) (place : SocketAddr) (ports free : List ℕ) (quit : Bool) (devices : ℕ)
+    (fault : Fault) → devices ≡ length part.rows → free ≡ free_ports (asked.port == 0) ports
+    → AreListedIf before.made after.made (option_map (λ p. p.now) asked.ports) ports
+    → Appends before.streams.errors after.streams.errors (ready_line devices place)
+    → IsWritingFault (streams.output_refuses (opening_text asked.json devices place free)) fault
+    → IsSessionFault files streams before after asked terminal part place ports quit fault
+opening_refused files streams before after asked terminal part place ports free quit devices fault same is listed told
+    why =
+    let text : opening_text asked.json devices place free
+    ≡ opening_text asked.json (length part.rows) place (free_ports (asked.port == 0) ports) =
+    ap (λ n. opening_text asked.json n place free) same
+    ∙ ap (opening_text asked.json (length part.rows) place) is in
+    inl (inr (
+      listed,
+      inr (
+        subst (λ n. Appends before.streams.errors after.streams.errors (ready_line n place)) same told,
+        subst (λ l. IsWritingFault (streams.output_refuses l) fault) text why,
+      ),
+    ))
 
 -- how the seconds are told, of as many devices as there are rows
 pub telling_is : (asked : AskedFleet) (terminal : Bool) (part : Scenario) (devices : ℕ) (telling : Telling)
@@ -325,22 +378,23 @@ without_errors streams = record { input = None; output = streams.output; errors 
 
 pub done_if : (before after : World) (asked : AskedFleet) (terminal : Bool) (part : Scenario) (place : SocketAddr)
     (ports : List ℕ) (quit : Bool) (wire : Option Wired) (notes : List Note) (shown : List Shown) (session : Session)
-    (telling : Telling) (first last : Streams) (r : Result Status Refusal)
-    → IsReadyTold asked.json (length part.rows) place ports before.streams first
+    (telling : Telling) (first last : World) (r : Result Status Refusal) → IsOpened asked part place ports before first
     → IsWireBy asked.wire (length part.rows) wire
-    → IsServed part asked.play asked.repeat asked.show asked.seconds quit wire notes shown session
-    → telling ≡ telling_for asked terminal part → AreTold telling notes shown session.second first last
-    → after.streams.errors ≡ last.errors
-    → IfOk r (IsConcluded (record { made = before.made; streams = without_errors last })
+    → (were : IsServed part asked.play asked.repeat asked.show asked.seconds quit wire notes shown session)
+    → telling ≡ telling_for asked terminal part
+    → AreTold telling notes shown session.second first.streams last.streams
+    → ((kept : ℕ) × AreKept asked part were.before kept session.second first.made last.made)
+    → after.streams.errors ≡ last.streams.errors
+    → IfOk r (IsConcluded (record { made = last.made; streams = without_errors last.streams })
     (record { made = after.made; streams = without_errors after.streams }) asked part session)
     → IfOk r (IsSessionDone before after asked terminal part place ports quit)
 done_if before after asked terminal part place ports quit wire notes shown session telling first last (Err e) opened
-    wired were is told quiet done = tt
+    wired were is told kept quiet done = tt
 done_if before after asked terminal part place ports quit wire notes shown session telling first last (Ok status) opened
-    wired were is told quiet done =
+    wired were is told kept quiet done =
     record {
       first = first;
-      ready_told = opened;
+      opened = opened;
       wire = wire;
       wire_is = wired;
       session = session;
@@ -348,39 +402,47 @@ done_if before after asked terminal part place ports quit wire notes shown sessi
       shown = shown;
       served = were;
       last = last;
-      told = subst (λ t. AreTold t notes shown session.second first last) is told;
+      told = subst (λ t. AreTold t notes shown session.second first.streams last.streams) is told;
+      kept_last = kept.0;
+      kept = kept.1;
       concluded = record { printed = done.printed; saved = done.saved; ended = done.ended };
       quiet = quiet;
     }
 
-pub cut_if : (streams : StreamFaults) (before after : Streams) (asked : AskedFleet) (terminal : Bool) (part : Scenario)
-    (place : SocketAddr) (ports : List ℕ) (telling : Telling) (first : Streams) (fault : Fault)
-    → IsReadyTold asked.json (length part.rows) place ports before first → telling ≡ telling_for asked terminal part
-    → IsCut telling streams first after fault
-    → IsSessionCut streams before after asked terminal part place ports fault
-cut_if streams before after asked terminal part place ports telling first fault opened is cut = record {
+pub cut_if : (files : FilesKnown) (streams : StreamFaults) (before after : World) (asked : AskedFleet)
+    (terminal : Bool) (part : Scenario) (place : SocketAddr) (ports : List ℕ) (telling : Telling) (first : World)
+    (told : ℕ → Option Traffic) (fault : Fault) → IsOpened asked part place ports before first
+    → telling ≡ telling_for asked terminal part → ((e : ℕ) → told e ≡ Some no_traffic)
+    → IsBrokenOff telling files streams asked part told first after fault
+    → IsSessionCut files streams before after asked terminal part place ports fault
+cut_if files streams before after asked terminal part place ports telling first told fault opened is new cut = record {
   first = first;
-  ready_told = opened;
-  cut = subst (λ t. IsCut t streams first after fault) is cut;
+  opened = opened;
+  told = told;
+  new = new;
+  cut = subst (λ t. IsBrokenOff t files streams asked part told first after fault) is cut;
 }
 
-pub lost_if : (files : FilesKnown) (streams : StreamFaults) (before after : Streams) (asked : AskedFleet)
+pub lost_if : (files : FilesKnown) (streams : StreamFaults) (before after : World) (asked : AskedFleet)
     (terminal : Bool) (part : Scenario) (place : SocketAddr) (ports : List ℕ) (quit : Bool) (wire : Option Wired)
-    (notes : List Note) (shown : List Shown) (session : Session) (telling : Telling) (first last : Streams)
-    (r : Result Status Refusal)
-    → IsReadyTold asked.json (length part.rows) place ports before first → IsWireBy asked.wire (length part.rows) wire
-    → IsServed part asked.play asked.repeat asked.show asked.seconds quit wire notes shown session
-    → telling ≡ telling_for asked terminal part → AreTold telling notes shown session.second first last
-    → after.errors ≡ last.errors
-    → IfErr r (λ e. IsUnconcluded files streams (without_errors last) (without_errors after) asked session e.fault)
+    (notes : List Note) (shown : List Shown) (session : Session) (telling : Telling) (first last : World)
+    (r : Result Status Refusal) → IsOpened asked part place ports before first
+    → IsWireBy asked.wire (length part.rows) wire
+    → (were : IsServed part asked.play asked.repeat asked.show asked.seconds quit wire notes shown session)
+    → telling ≡ telling_for asked terminal part
+    → AreTold telling notes shown session.second first.streams last.streams
+    → ((kept : ℕ) × AreKept asked part were.before kept session.second first.made last.made)
+    → OnErr r (after.made ≡ last.made) → after.streams.errors ≡ last.streams.errors
+    → IfErr r (λ e. IsUnconcluded files streams (without_errors last.streams) (without_errors after.streams) asked
+    session e.fault)
     → IfErr r (λ e. IsSessionFault files streams before after asked terminal part place ports quit e.fault)
 lost_if files streams before after asked terminal part place ports quit wire notes shown session telling first last
-    (Ok status) opened wired were is told quiet why = tt
+    (Ok status) opened wired were is told kept none quiet why = tt
 lost_if files streams before after asked terminal part place ports quit wire notes shown session telling first last
-    (Err e) opened wired were is told quiet why =
+    (Err e) opened wired were is told kept none quiet why =
     inr (inr (record {
       first = first;
-      ready_told = opened;
+      opened = opened;
       wire = wire;
       wire_is = wired;
       session = session;
@@ -388,10 +450,56 @@ lost_if files streams before after asked terminal part place ports quit wire not
       shown = shown;
       served = were;
       last = last;
-      told = subst (λ t. AreTold t notes shown session.second first last) is told;
+      told = subst (λ t. AreTold t notes shown session.second first.streams last.streams) is told;
+      kept_last = kept.0;
+      kept = kept.1;
       why = why;
+      none_made = none;
       quiet = quiet;
     }))
+
+-- ---- it is broken off
+
+-- while its devices are served
+pub serving_cut : (telling : Telling) (files : FilesKnown) (streams : StreamFaults) (asked : AskedFleet)
+    (part : Scenario) (told : ℕ → Option Traffic) (second last : ℕ) (before after : World) (fault : Fault)
+    → IsCut telling streams second before.streams after.streams fault
+    → AreKept asked part told last second before.made after.made
+    → IsBrokenOff telling files streams asked part told before after fault
+serving_cut telling files streams asked part told second last before after fault cut kept =
+    inl (record { second = second; cut = cut; kept_last = last; kept = kept })
+
+-- before an event was told
+pub broken_at_start : (telling : Telling) (files : FilesKnown) (streams : StreamFaults) (asked : AskedFleet)
+    (part : Scenario) (told : ℕ → Option Traffic) (world : World) (fault : Fault) → fault ≡ faults.Memory
+    → IsBrokenOff telling files streams asked part told world world fault
+broken_at_start telling files streams asked part told world fault memory =
+    serving_cut telling files streams asked part told 0 0 world world fault
+    (cut_at_start telling streams world.streams fault memory)
+    (kept_first (option_map (λ p. p.now) asked.save) part asked.play (asked.play && asked.repeat) told 0 0 world.made
+    refl refl)
+
+-- by a snapshot
+pub snapshot_lost : (telling : Telling) (files : FilesKnown) (streams : StreamFaults) (asked : AskedFleet)
+    (part : Scenario) (told : ℕ → Option Traffic) (notes : List Note) (shown : List Shown) (second began last : ℕ)
+    (before after : World) (made : Option (List Made)) (fault : Fault)
+    → AreTold telling notes shown second before.streams after.streams
+    → AreKept asked part told last began before.made made → after.made ≡ made
+    → IsNotKeptUp files.refuses (option_map (λ p. p.now) asked.save) last second fault
+    → IsBrokenOff telling files streams asked part told before after fault
+snapshot_lost telling files streams asked part told notes shown second began last before after made fault events kept
+    none lost =
+    inr (record {
+      notes = notes;
+      shown = shown;
+      second = second;
+      events = events;
+      began = began;
+      kept_last = last;
+      kept = subst (AreKept asked part told last began before.made) (sym none) kept;
+      due = lost.0;
+      why = lost.1;
+    })
 
 -- ---- a wire on it
 
@@ -404,26 +512,21 @@ wire_on wire rows devices plan fixed made is as_planned as_many same planned =
     let count : fixed.devices ≡ rows = ap (λ (f : Fixed). f.devices) is ∙ as_many ∙ same in
     (planned.0, subst (IsPlanBy wire) (sym plan_is) planned.1, count)
 
--- the ports that the system chose, of these
-pub same_free : (zero : Bool) (bound copied given ports : List ℕ) → given ≡ ports → copied ≡ bound
-    → ports ≡ free_ports zero copied → given ≡ free_ports zero bound
-same_free zero bound copied given ports is same free = is ∙ free ∙ ap (free_ports zero) same
-
 pub held_done : (before after : World) (asked : AskedFleet) (terminal : Bool) (part : Scenario) (place : SocketAddr)
-    (ports free : List ℕ) (quit : Bool) (r : Result Status Refusal) → free ≡ free_ports (asked.port == 0) ports
-    → IfOk r (IsSessionDone before after asked terminal part place free quit)
+    (ports bound : List ℕ) (quit : Bool) (r : Result Status Refusal) → bound ≡ ports
+    → IfOk r (IsSessionDone before after asked terminal part place bound quit)
     → IfOk r (IsHeldDone before after asked terminal part place ports)
-held_done before after asked terminal part place ports free quit (Err e) are done = tt
-held_done before after asked terminal part place ports free quit (Ok status) are done =
+held_done before after asked terminal part place ports bound quit (Err e) are done = tt
+held_done before after asked terminal part place ports bound quit (Ok status) are done =
     (quit, subst (λ ps. IsSessionDone before after asked terminal part place ps quit status) are done)
 
-pub held_broken : (files : FilesKnown) (streams : StreamFaults) (before after : Streams) (asked : AskedFleet)
-    (terminal : Bool) (part : Scenario) (place : SocketAddr) (ports free : List ℕ) (quit : Bool)
-    (r : Result Status Refusal) → free ≡ free_ports (asked.port == 0) ports
-    → IfErr r (λ e. IsSessionFault files streams before after asked terminal part place free quit e.fault)
+pub held_broken : (files : FilesKnown) (streams : StreamFaults) (before after : World) (asked : AskedFleet)
+    (terminal : Bool) (part : Scenario) (place : SocketAddr) (ports bound : List ℕ) (quit : Bool)
+    (r : Result Status Refusal) → bound ≡ ports
+    → IfErr r (λ e. IsSessionFault files streams before after asked terminal part place bound quit e.fault)
     → IfErr r (λ e. IsHeldFault files streams before after asked terminal part place ports e.fault)
-held_broken files streams before after asked terminal part place ports free quit (Ok status) are why = tt
-held_broken files streams before after asked terminal part place ports free quit (Err e) are why =
+held_broken files streams before after asked terminal part place ports bound quit (Ok status) are why = tt
+held_broken files streams before after asked terminal part place ports bound quit (Err e) are why =
     inr (
       quit,
       subst (λ ps. IsSessionFault files streams before after asked terminal part place ps quit e.fault) are why,
@@ -439,7 +542,7 @@ fleet_done files before after asked terminal part place ports (Err e) there each
 fleet_done files before after asked terminal part place ports (Ok status) there each done =
     record { part = part; place = place; ready = there; ports = ports; each = each; done = done }
 
-pub fleet_broken : (files : FilesKnown) (streams : StreamFaults) (before after : Streams) (asked : AskedFleet)
+pub fleet_broken : (files : FilesKnown) (streams : StreamFaults) (before after : World) (asked : AskedFleet)
     (terminal : Bool) (part : Scenario) (place : SocketAddr) (ports : List ℕ) (r : Result Status Refusal)
     → AreReady files asked part place → length ports ≡ length part.rows
     → IfErr r (λ e. IsHeldFault files streams before after asked terminal part place ports e.fault)

@@ -148,11 +148,10 @@ told_when (Err e) telling notes shown old new a b same told = tt
 -- after events that were told
 pub cut_off : (telling : Telling) (streams : StreamFaults) (notes : List Note) (shown : List Shown) (second : ℕ)
     (a b : Streams) (fault : Fault) → AreTold telling notes shown second a b
-    → (fault ≡ faults.Memory) ⊎ (fault ≡ faults.Bind) → IsCut telling streams a b fault
+    → (fault ≡ faults.Memory) ⊎ (fault ≡ faults.Bind) → IsCut telling streams second a b fault
 cut_off telling streams notes shown second a b fault told why = record {
   notes = notes;
   shown = shown;
-  second = second;
   between = b;
   told = told;
   why = inl ((refl, refl), why);
@@ -160,18 +159,17 @@ cut_off telling streams notes shown second a b fault told why = record {
 
 -- before an event was told
 pub cut_at_start : (telling : Telling) (streams : StreamFaults) (t : Streams) (fault : Fault) → fault ≡ faults.Memory
-    → IsCut telling streams t t fault
+    → IsCut telling streams 0 t t fault
 cut_at_start telling streams t fault memory =
     cut_off telling streams [] [] 0 t t fault (none_told telling [] [] 0 t refl refl refl) (inl memory)
 
 -- an event was not taken
 cut_before : (telling : Telling) (streams : StreamFaults) (notes : List Note) (shown : List Shown) (second : ℕ)
     (e : Event) (a b c : Streams) (fault : Fault) → AreTold telling notes shown second a b → MayCome second e
-    → IsRefused telling streams e b c fault → IsCut telling streams a c fault
+    → IsRefused telling streams e b c fault → IsCut telling streams second a c fault
 cut_before telling streams notes shown second e a b c fault told may refused = record {
   notes = notes;
   shown = shown;
-  second = second;
   between = b;
   told = told;
   why = inr (e, may, refused);
@@ -180,7 +178,8 @@ cut_before telling streams notes shown second e a b c fault told may refused = r
 -- a later second was not taken
 cut_untold : (telling : Telling) (streams : StreamFaults) (notes : List Note) (shown : List Shown) (old new : ℕ)
     (p : Passed) (a b c : Streams) (fault : Fault) → AreTold telling notes shown old a b → old ≤ new
-    → (new ≡ old → ⊥) → p.second ≡ new → IsSecondRefused telling streams p b c fault → IsCut telling streams a c fault
+    → (new ≡ old → ⊥) → p.second ≡ new → IsSecondRefused telling streams p b c fault
+    → IsCut telling streams old a c fault
 cut_untold telling streams notes shown old new p a b c fault told below other same refused =
     cut_before telling streams notes shown old (came p) a b c fault told (omega (arith, below, other, same)) refused
 
@@ -188,15 +187,22 @@ cut_untold telling streams notes shown old new p a b c fault told below other sa
 pub untold_if : {T : Type 0} (r : Result T Refusal) (telling : Telling) (streams : StreamFaults) (notes : List Note)
     (shown : List Shown) (old new : ℕ) (p : Passed) (a b c : Streams) → AreTold telling notes shown old a b → old ≤ new
     → (new ≡ old → ⊥) → p.second ≡ new → IfErr r (λ e. IsSecondRefused telling streams p b c e.fault)
-    → IfErr r (λ e. IsCut telling streams a c e.fault)
+    → IfErr r (λ e. IsCut telling streams old a c e.fault)
 untold_if (Ok x) telling streams notes shown old new p a b c told below other same refused = tt
 untold_if (Err e) telling streams notes shown old new p a b c told below other same refused =
     cut_untold telling streams notes shown old new p a b c e.fault told below other same refused
 
+-- the same by another name
+pub cut_when : {T : Type 0} (r : Result T Refusal) (telling : Telling) (streams : StreamFaults) (old new : ℕ)
+    (a b : Streams) → new ≡ old → IfErr r (λ e. IsCut telling streams old a b e.fault)
+    → IfErr r (λ e. IsCut telling streams new a b e.fault)
+cut_when (Ok x) telling streams old new a b same cut = tt
+cut_when (Err e) telling streams old new a b same cut = subst (λ n. IsCut telling streams n a b e.fault) (sym same) cut
+
 -- what went through was not taken
 pub cut_traffic : (telling : Telling) (streams : StreamFaults) (notes more : List Note) (shown also : List Shown)
     (second : ℕ) (a b c : Streams) (fault : Fault) → AreTold telling notes shown second a b
-    → IsRefused telling streams (went more also) b c fault → IsCut telling streams a c fault
+    → IsRefused telling streams (went more also) b c fault → IsCut telling streams second a c fault
 cut_traffic telling streams notes more shown also second a b c fault told refused =
     cut_before telling streams notes shown second (went more also) a b c fault told tt refused
 

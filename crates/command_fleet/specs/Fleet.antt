@@ -39,7 +39,9 @@ use Rattle.command_fleet.specs.declared.devices.Devices.{Devices}
 use Rattle.command_fleet.specs.declared.telling.Telling.{Telling}
 use Rattle.command_fleet.specs.Devices.{AreChosen, IsPart}
 use Rattle.command_fleet.specs.InJson.{done_json, port_json, ready_json}
+use Rattle.command_fleet.specs.Listing.{AreListedIf, IsUnlisted}
 use Rattle.command_fleet.specs.Servers.{AreServers}
+use Rattle.command_fleet.specs.Snapshots.{AreKept, snapshot_path}
 use Rattle.command_fleet.specs.Telling.{AreTold, IsCut, telling_of}
 use Rattle.command_fleet.specs.Wires.{IsNoPlan, IsWireBy}
 use Rattle.trace_json.specs.Writing.{json_line}
@@ -67,12 +69,6 @@ pub record IsEndless (second : ℕ) : Type 0 where
 abbrev pub IsShownIf : Bool → (ℕ → Option Traffic) → List Shown → Type 0
 IsShownIf false told shown = shown ≡ []
 IsShownIf true told shown = AreShown new_ports told shown
-
--- ports begin to be shown when nothing has gone through them yet, or are not shown
-abbrev pub IsShownFrom : Bool → Option (ℕ → Option Traffic) → Type 0
-IsShownFrom false began = began ≡ None
-IsShownFrom true None = ⊥
-IsShownFrom true (Some began) = (e : ℕ) → began e ≡ Some no_traffic
 
 -- The devices of a scenario were served, each from the start of its class to the end of the session, at ports that were
 -- new, with this wire on them or with none, and whose datagrams were counted; these are the notes of the wire, and the
@@ -154,6 +150,14 @@ pub record IsReadyTold (json : Bool) (devices : ℕ) (place : SocketAddr) (ports
     : Type 0 where
   pub shown : Appends before.errors after.errors (ready_line devices place)
   pub printed : Appends before.output after.output (opening_text json devices place ports)
+
+-- the devices are there, the first of them at this place: the file of their ports was made, if it has a place, and no
+-- other file; and then that was told
+pub record IsOpened (asked : AskedFleet) (part : Scenario) (place : SocketAddr) (ports : List ℕ)
+    (before after : World) : Type 0 where
+  pub listed : AreListedIf before.made after.made (option_map (λ p. p.now) asked.ports) ports
+  pub told : IsReadyTold asked.json (length part.rows) place (free_ports (asked.port == 0) ports) before.streams
+      after.streams
 
 -- ---- its line
 
@@ -238,6 +242,10 @@ abbrev pub IsUnsaved : (List ℕ → Type 0) → Option (List ℕ) → Fault →
 IsUnsaved refuses None fault = ⊥
 IsUnsaved refuses (Some path) fault = IsSaveFault refuses path fault
 
+-- a snapshot could not be made, beside the path
+abbrev pub IsUnkept : (List ℕ → Type 0) → Option (List ℕ) → Fault → Type 0
+IsUnkept refuses path fault = IsUnsaved refuses (option_map snapshot_path path) fault
+
 -- ---- its conclusion
 
 -- the session's line was printed, and the steps were saved, if they are to be; and the status tells of losses
@@ -260,77 +268,123 @@ IsUnconcluded files faults before after asked session fault =
 abbrev pub telling_for : AskedFleet → Bool → Scenario → Telling
 telling_for asked terminal part = telling_of asked.json terminal (length part.rows)
 
--- it was told that the devices are there; then they were served, and each second was told, with what the wire did and
--- the datagrams that are shown; and then the session was concluded, of which standard error heard nothing
+-- the file of the ports was made, and it was told that the devices are there; then they were served, and each second
+-- was told, with what the wire did and the datagrams that are shown, and snapshots were made; and then the session was
+-- concluded, of which standard error heard nothing
 pub record IsSessionDone (before after : World) (asked : AskedFleet) (terminal : Bool) (part : Scenario)
     (place : SocketAddr) (ports : List ℕ) (quit : Bool) (status : Status) : Type 0 where
-  pub first : Streams
-  pub ready_told : IsReadyTold asked.json (length part.rows) place ports before.streams first
+  pub first : World
+  pub opened : IsOpened asked part place ports before first
   pub wire : Option Wired
   pub wire_is : IsWireBy asked.wire (length part.rows) wire
   pub session : Session
   pub notes : List Note
   pub shown : List Shown
   pub served : IsServed part asked.play asked.repeat asked.show asked.seconds quit wire notes shown session
-  pub last : Streams
-  pub told : AreTold (telling_for asked terminal part) notes shown session.second first last
-  pub concluded : IsConcluded (record { made = before.made; streams = last }) after asked part session status
-  pub quiet : after.streams.errors ≡ last.errors
+  pub last : World
+  pub told : AreTold (telling_for asked terminal part) notes shown session.second first.streams last.streams
+  -- the second of the last snapshot
+  pub kept_last : ℕ
+  pub kept : AreKept asked part served.before kept_last session.second first.made last.made
+  pub concluded : IsConcluded last after asked part session status
+  pub quiet : after.streams.errors ≡ last.streams.errors
 
--- it was not told that the devices are there: standard error did not take the line; or it did, and standard output did
--- not take what it gets
-abbrev pub IsUntold : StreamFaults → Streams → Streams → AskedFleet → Scenario → SocketAddr → List ℕ → Fault → Type 0
-IsUntold streams before after asked part place ports fault =
+-- standard error did not take the line that the devices are there; or it did, and standard output did not take what it
+-- gets
+abbrev pub IsUnready : StreamFaults → Streams → Streams → AskedFleet → Scenario → SocketAddr → List ℕ → Fault → Type 0
+IsUnready streams before after asked part place ports fault =
     (IsWritingFault (streams.errors_refuse (ready_line (length part.rows) place)) fault
     × (after.output ≡ before.output))
     ⊎ (Appends before.errors after.errors (ready_line (length part.rows) place)
     × IsWritingFault (streams.output_refuses (opening_text asked.json (length part.rows) place ports)) fault)
 
--- it was told, and then the session was broken off
-pub record IsSessionCut (streams : StreamFaults) (before after : Streams) (asked : AskedFleet) (terminal : Bool)
-    (part : Scenario) (place : SocketAddr) (ports : List ℕ) (fault : Fault) : Type 0 where
-  pub first : Streams
-  pub ready_told : IsReadyTold asked.json (length part.rows) place ports before first
-  pub cut : IsCut (telling_for asked terminal part) streams first after fault
+-- it was not told that the devices are there: the file of their ports could not be made, and nothing was printed; or it
+-- was made, if it has a place, and a stream did not take what it gets
+abbrev pub IsUntold : FilesKnown → StreamFaults → World → World → AskedFleet → Scenario → SocketAddr → List ℕ → Fault
+    → Type 0
+IsUntold files streams before after asked part place ports fault =
+    (IsUnlisted files.refuses (option_map (λ p. p.now) asked.ports) fault × (after.made ≡ before.made)
+    × IsSilent before.streams after.streams)
+    ⊎ (AreListedIf before.made after.made (option_map (λ p. p.now) asked.ports) ports
+    × IsUnready streams before.streams after.streams asked part place (free_ports (asked.port == 0) ports) fault)
 
--- it came to its end, and was not concluded
-pub record IsSessionLost (files : FilesKnown) (streams : StreamFaults) (before after : Streams) (asked : AskedFleet)
+-- A session was broken off while its devices were served: this second was told last, and its snapshots were made up to
+-- then.
+pub record IsServingCut (telling : Telling) (streams : StreamFaults) (asked : AskedFleet) (part : Scenario)
+    (told : ℕ → Option Traffic) (before after : World) (fault : Fault) : Type 0 where
+  pub second : ℕ
+  pub cut : IsCut telling streams second before.streams after.streams fault
+  pub kept_last : ℕ
+  pub kept : AreKept asked part told kept_last second before.made after.made
+
+-- It was broken off by a snapshot, which was to be made at the end of a turn, at the second that was told last, and
+-- could not be made. The others were made up to the second at which the turn began.
+pub record IsSnapshotLost (telling : Telling) (refuses : List ℕ → Type 0) (asked : AskedFleet) (part : Scenario)
+    (told : ℕ → Option Traffic) (before after : World) (fault : Fault) : Type 0 where
+  pub notes : List Note
+  pub shown : List Shown
+  pub second : ℕ
+  pub events : AreTold telling notes shown second before.streams after.streams
+  pub began : ℕ
+  pub kept_last : ℕ
+  pub kept : AreKept asked part told kept_last began before.made after.made
+  pub due : kept_last + 60 ≤ second
+  pub why : IsUnkept refuses (option_map (λ p. p.now) asked.save) fault
+
+-- the one or the other, on ports that told this at the beginning
+abbrev pub IsBrokenOff : Telling → FilesKnown → StreamFaults → AskedFleet → Scenario → (ℕ → Option Traffic) → World
+    → World → Fault → Type 0
+IsBrokenOff telling files streams asked part told before after fault =
+    IsServingCut telling streams asked part told before after fault
+    ⊎ IsSnapshotLost telling files.refuses asked part told before after fault
+
+-- it was told that the devices are there, at ports that were new; and then the session was broken off
+pub record IsSessionCut (files : FilesKnown) (streams : StreamFaults) (before after : World) (asked : AskedFleet)
+    (terminal : Bool) (part : Scenario) (place : SocketAddr) (ports : List ℕ) (fault : Fault) : Type 0 where
+  pub first : World
+  pub opened : IsOpened asked part place ports before first
+  pub told : ℕ → Option Traffic
+  pub new : (e : ℕ) → told e ≡ Some no_traffic
+  pub cut : IsBrokenOff (telling_for asked terminal part) files streams asked part told first after fault
+
+-- it came to its end, with its snapshots, and was not concluded; no file was made at its end
+pub record IsSessionLost (files : FilesKnown) (streams : StreamFaults) (before after : World) (asked : AskedFleet)
     (terminal : Bool) (part : Scenario) (place : SocketAddr) (ports : List ℕ) (quit : Bool) (fault : Fault) : Type 0
   where
-    pub first : Streams
-    pub ready_told : IsReadyTold asked.json (length part.rows) place ports before first
+    pub first : World
+    pub opened : IsOpened asked part place ports before first
     pub wire : Option Wired
     pub wire_is : IsWireBy asked.wire (length part.rows) wire
     pub session : Session
     pub notes : List Note
     pub shown : List Shown
     pub served : IsServed part asked.play asked.repeat asked.show asked.seconds quit wire notes shown session
-    pub last : Streams
-    pub told : AreTold (telling_for asked terminal part) notes shown session.second first last
-    pub why : IsUnconcluded files streams last after asked session fault
-    pub quiet : after.errors ≡ last.errors
+    pub last : World
+    pub told : AreTold (telling_for asked terminal part) notes shown session.second first.streams last.streams
+    pub kept_last : ℕ
+    pub kept : AreKept asked part served.before kept_last session.second first.made last.made
+    pub why : IsUnconcluded files streams last.streams after.streams asked session fault
+    pub none_made : after.made ≡ last.made
+    pub quiet : after.streams.errors ≡ last.streams.errors
 
-abbrev pub IsSessionFault : FilesKnown → StreamFaults → Streams → Streams → AskedFleet → Bool → Scenario → SocketAddr
+abbrev pub IsSessionFault : FilesKnown → StreamFaults → World → World → AskedFleet → Bool → Scenario → SocketAddr
     → List ℕ → Bool → Fault → Type 0
 IsSessionFault files streams before after asked terminal part place ports quit fault =
-    IsUntold streams before after asked part place ports fault
-    ⊎ (IsSessionCut streams before after asked terminal part place ports fault
+    IsUntold files streams before after asked part place ports fault
+    ⊎ (IsSessionCut files streams before after asked terminal part place ports fault
     ⊎ IsSessionLost files streams before after asked terminal part place ports quit fault)
 
--- the same, of devices at these ports, which the system chose or not; the session was asked to end, or was not
+-- the same, of a session that was asked to end, or was not
 abbrev pub IsHeldDone : World → World → AskedFleet → Bool → Scenario → SocketAddr → List ℕ → Status → Type 0
 IsHeldDone before after asked terminal part place ports status =
-    (quit : Bool)
-    × IsSessionDone before after asked terminal part place (free_ports (asked.port == 0) ports) quit status
+    (quit : Bool) × IsSessionDone before after asked terminal part place ports quit status
 
--- there was no memory for a session, or it has a fault
-abbrev pub IsHeldFault : FilesKnown → StreamFaults → Streams → Streams → AskedFleet → Bool → Scenario → SocketAddr
-    → List ℕ → Fault → Type 0
+-- there was no memory for a session, and no file was made; or it has a fault
+abbrev pub IsHeldFault : FilesKnown → StreamFaults → World → World → AskedFleet → Bool → Scenario → SocketAddr → List ℕ
+    → Fault → Type 0
 IsHeldFault files streams before after asked terminal part place ports fault =
-    ((fault ≡ faults.Memory) × IsSilent before after)
-    ⊎ ((quit : Bool)
-    × IsSessionFault files streams before after asked terminal part place (free_ports (asked.port == 0) ports) quit
-    fault)
+    ((fault ≡ faults.Memory) × (after.made ≡ before.made) × IsSilent before.streams after.streams)
+    ⊎ ((quit : Bool) × IsSessionFault files streams before after asked terminal part place ports quit fault)
 
 -- ---- the command
 
@@ -360,18 +414,19 @@ pub record IsOverSource (files : FilesKnown) (asked : AskedFleet) (over : Scenar
   pub found : IsHeld files.holds asked.file.now (λ bytes. IsScenarioOf bytes scenario)
   pub so : over scenario
 
--- there was no session: the file is to blame, or the devices, the address, the servers or the ports; and nothing was
--- printed
-pub record IsNoSession (files : FilesKnown) (before after : Streams) (asked : AskedFleet) (fault : Fault) : Type 0 where
+-- there was no session: the file is to blame, or the devices, the address, the servers or the ports; and no file was
+-- made, and nothing printed
+pub record IsNoSession (files : FilesKnown) (before after : World) (asked : AskedFleet) (fault : Fault) : Type 0 where
   pub why :
       (IsReadingFault (files.fails asked.file.now) fault
       ⊎ IsHeld files.holds asked.file.now (λ bytes. IsNoScenario bytes fault))
       ⊎ IsOverSource files asked (λ s. IsUnstarted asked s fault)
-  pub silent : after.output ≡ before.output
-  pub untold : after.errors ≡ before.errors
+  pub none_made : after.made ≡ before.made
+  pub silent : after.streams.output ≡ before.streams.output
+  pub untold : after.streams.errors ≡ before.streams.errors
 
 -- the devices are there, each at a port of its own, and their session has a fault
-pub record IsSessionBroken (files : FilesKnown) (streams : StreamFaults) (before after : Streams) (asked : AskedFleet)
+pub record IsSessionBroken (files : FilesKnown) (streams : StreamFaults) (before after : World) (asked : AskedFleet)
     (terminal : Bool) (fault : Fault) : Type 0 where
   pub part : Scenario
   pub place : SocketAddr
@@ -380,7 +435,7 @@ pub record IsSessionBroken (files : FilesKnown) (streams : StreamFaults) (before
   pub each : length ports ≡ length part.rows
   pub why : IsHeldFault files streams before after asked terminal part place ports fault
 
-abbrev pub IsFleetFault : FilesKnown → StreamFaults → Streams → Streams → AskedFleet → Bool → Fault → Type 0
+abbrev pub IsFleetFault : FilesKnown → StreamFaults → World → World → AskedFleet → Bool → Fault → Type 0
 IsFleetFault files streams before after asked terminal fault =
     IsNoSession files before after asked fault
     ⊎ IsSessionBroken files streams before after asked terminal fault

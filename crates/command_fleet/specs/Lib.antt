@@ -1,6 +1,9 @@
 pub mod Devices
 pub mod Fleet
 pub mod InJson
+pub mod Inside
+pub mod Listing
 pub mod Servers
+pub mod Snapshots
 pub mod Telling
 pub mod Wires

@@ -134,12 +134,12 @@ abbrev pub MayCome : ℕ → Event → Type 0
 MayCome second (came passed) = second < passed.second
 MayCome second (went notes shown) = ⊤
 
--- A session was broken off after events that were told: no memory was left, the system failed at all ports, or an event
--- was not taken. Of the notes and the datagrams that were told by then nothing is known here.
-pub record IsCut (telling : Telling) (streams : StreamFaults) (before after : Streams) (fault : Fault) : Type 0 where
+-- A session was broken off after events that were told, this second last: no memory was left, the system failed at all
+-- ports, or an event was not taken. Of the notes and the datagrams that were told by then nothing is known here.
+pub record IsCut (telling : Telling) (streams : StreamFaults) (second : ℕ) (before after : Streams) (fault : Fault)
+    : Type 0 where
   pub notes : List Note
   pub shown : List Shown
-  pub second : ℕ
   pub between : Streams
   pub told : AreTold telling notes shown second before between
   pub why :

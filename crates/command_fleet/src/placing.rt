@@ -7,15 +7,20 @@ use crate::in_json::{port_object, ready_object};
 use std::alloc::{AllocError, Global};
 use std::net::SocketAddr;
 
-/// The ports that the system chose: a copy of these, if the port that is asked for is 0, and none otherwise.
-pub(crate) fn free_ports(alloc: Global, port: u16, ports: &[u16]) -> Result<Vec<u16>, AllocError>
-    ensures { IfOk result (λ free. free.items ≡ free_ports (port == 0) ports.now) }
+/// Of the ports of devices those that the system chose: all, if the port that is asked for is 0, and none otherwise.
+pub(crate) fn free_ports(port: u16, ports: &[u16]) -> &[u16]
+    ensures { result.now ≡ free_ports (port == 0) ports.now }
 {
-    let mut free = Vec::new(alloc);
-    if port == 0 {
-        free.extend_from_slice(ports)?;
-    }
-    Ok(free)
+    if port == 0 { ports } else { &ports[..0] }
+}
+
+/// A copy of the ports of devices.
+pub(crate) fn copy_ports(alloc: Global, ports: &[u16]) -> Result<Vec<u16>, AllocError>
+    ensures { IfOk result (λ copy. copy.items ≡ ports.now) }
+{
+    let mut copy = Vec::new(alloc);
+    copy.extend_from_slice(ports)?;
+    Ok(copy)
 }
 
 /// The port of a device, as a line.

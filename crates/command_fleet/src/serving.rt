@@ -2,18 +2,21 @@
 ghost use Rattle.std.specs.Prelude.{ℕ, ◌≡◌, ◌+◌, ◌≤◌, ◌⊎◌, ◌&&◌, [], Bool, Option, None, List, IfErr, IfOk, OnOk, false, length};
 ghost use Rattle.std.specs.Prelude.{slice_get, true};
 ghost use Rattle.scenario_image.specs.Scenario.{Scenario as ScenarioData};
-ghost use Rattle.fleet_link.specs.Serving.{repeats_in, AreAt, AreRepeated, IsFleet};
+ghost use Rattle.fleet_link.specs.Serving.{repeats_in, AreAt, AreRepeated, AreSwept, IsFleet};
 ghost use Rattle.fleet_link.specs.Timing.{AreAsked};
 ghost use Rattle.fleet_link.specs.Traffic.{Traffic};
 ghost use Rattle.fleet_wire.specs.declared.note.Note.{Note as NoteData};
 ghost use Rattle.fleet_lines.specs.declared.shown.Shown.{Shown as ShownData};
 ghost use Rattle.fleet_lines.specs.Counting.{AreAllShown, IsAccount};
 ghost use Rattle.command_files.specs.World.{Streams};
-ghost use Rattle.command_fleet.specs.Fleet.{has_passed, IsEndless};
+ghost use Rattle.command_fleet.specs.Fleet.{has_passed, IsBrokenOff, IsEndless};
+ghost use Rattle.command_fleet.specs.Snapshots.{AreKept};
 ghost use Rattle.command_fleet.specs.Telling.{AreTold, IsCut};
 
 use crate::asking::Quit;
+use crate::snapshots::keep_up;
 use crate::telling::{Telling, tell_second, tell_traffic};
+use command_files::files::Files;
 use command_files::{Fault, Output, Refusal};
 use command_line::AskedFleet;
 use fleet_lines::{Account, Counted};
@@ -97,6 +100,10 @@ fn turn<'a, P: Counted, C: Seconds, O: Output, E: Output>(
     ensures began { OnOk result ((P.watched ports.new).began ≡ (P.watched ports.old).began) }
     ensures repeats { OnOk result ((e : ℕ) → repeats_in (slice_get fleet.new.slots.items e)
         ≡ repeats_in (slice_get fleet.old.slots.items e)) }
+    ensures swept { (s : ScenarioData) (played : Bool) (before : ℕ → Option Traffic)
+        → IsFleet s played before fleet.old.slots.items fleet.old.second false (P.told ports.old)
+        → OnOk result (AreSwept fleet.new.slots.items (length fleet.new.slots.items) fleet.old.second) }
+    ensures later { fleet.old.second ≤ fleet.new.second }
     ensures told { (start : Streams)
         → AreTold telling (P.watched ports.old).notes (P.watched ports.old).shown fleet.old.second start
         (record { input = None; output = O.taken output.old; errors = E.taken errors.old })
@@ -106,7 +113,7 @@ fn turn<'a, P: Counted, C: Seconds, O: Output, E: Output>(
         → AreTold telling (P.watched ports.old).notes (P.watched ports.old).shown fleet.old.second start
         (record { input = None; output = O.taken output.old; errors = E.taken errors.old })
         → IfErr result (λ r. IsCut telling
-        (record { input_fails = ⊥; output_refuses = O.refuses; errors_refuse = E.refuses }) start
+        (record { input_fails = ⊥; output_refuses = O.refuses; errors_refuse = E.refuses }) fleet.old.second start
         (record { input = None; output = O.taken output.new; errors = E.taken errors.new }) r.fault) }
 {
     P::watched_is_fixed();
@@ -140,7 +147,7 @@ fn tell_if_later<'a, P: Counted, O: Output, E: Output>(
         → AreTold telling notes shown last start
         (record { input = None; output = O.taken output.old; errors = E.taken errors.old })
         → IfErr result (λ r. IsCut telling
-        (record { input_fails = ⊥; output_refuses = O.refuses; errors_refuse = E.refuses }) start
+        (record { input_fails = ⊥; output_refuses = O.refuses; errors_refuse = E.refuses }) last start
         (record { input = None; output = O.taken output.new; errors = E.taken errors.new }) r.fault) }
 {
     if second == last {
@@ -149,27 +156,31 @@ fn tell_if_later<'a, P: Counted, O: Output, E: Output>(
     tell_second(alloc, telling, second, ports, output, errors)
 }
 
-/// Makes turns until these seconds of the session have passed, if they are given, or until it is asked to end, `turns`
-/// at most, and tells what goes through the ports and each second that a turn comes to.
-fn go_on<'a, P: Counted, C: Seconds, Q: Quit, O: Output, E: Output>(
+/// Makes turns until the seconds that are asked for have passed, if they are, or until the session is asked to end,
+/// `turns` at most, and tells what goes through the ports and each second that a turn comes to. Each minute a snapshot
+/// is made, if the session is to be saved.
+fn go_on<'a, P: Counted, C: Seconds, Q: Quit, F: Files, O: Output, E: Output>(
     alloc: Global,
+    asked: &AskedFleet<'a>,
+    part: &Scenario,
     telling: Telling,
     fleet: &mut Fleet,
     ports: &mut P,
     clock: &mut C,
     quit: &mut Q,
     turns: u64,
-    seconds: Option<u32>,
+    files: &mut F,
     output: &mut O,
     errors: &mut E,
 ) -> Result<(), Refusal<'a>>
+    requires start { fleet.old.second ≡ 0 }
     ensures fleet { (s : ScenarioData) (played : Bool) (before : ℕ → Option Traffic)
         → IsFleet s played before fleet.old.slots.items fleet.old.second false (P.told ports.old)
         → OnOk result (IsFleet s played before fleet.new.slots.items fleet.new.second false (P.told ports.new)) }
     ensures stop { (read_before asked_before : Option (List ℕ)) (calls : ℕ)
         → AreAsked read_before (C.read clock.old) asked_before
         (P.asked ports.old) fleet.old.began fleet.old.second calls
-        → OnOk result ((has_passed seconds fleet.new.second ≡ true) ⊎ ((Q.asked quit.new ≡ true)
+        → OnOk result ((has_passed asked.now.seconds fleet.new.second ≡ true) ⊎ ((Q.asked quit.new ≡ true)
         ⊎ AreAsked read_before (C.read clock.new) asked_before (P.asked ports.new) fleet.new.began fleet.new.second
         (calls + turns))) }
     ensures wire { OnOk result ((P.watched ports.new).wire ≡ (P.watched ports.old).wire) }
@@ -181,21 +192,36 @@ fn go_on<'a, P: Counted, C: Seconds, Q: Quit, O: Output, E: Output>(
         (record { input = None; output = O.taken output.old; errors = E.taken errors.old })
         → OnOk result (AreTold telling (P.watched ports.new).notes (P.watched ports.new).shown fleet.new.second start
         (record { input = None; output = O.taken output.new; errors = E.taken errors.new })) }
-    ensures cut { (start : Streams)
+    ensures cut { (start : Streams) (before : ℕ → Option Traffic)
         → AreTold telling (P.watched ports.old).notes (P.watched ports.old).shown fleet.old.second start
         (record { input = None; output = O.taken output.old; errors = E.taken errors.old })
-        → IfErr result (λ r. IsCut telling
-        (record { input_fails = ⊥; output_refuses = O.refuses; errors_refuse = E.refuses }) start
-        (record { input = None; output = O.taken output.new; errors = E.taken errors.new }) r.fault) }
+        → IsFleet part.now asked.now.play before fleet.old.slots.items fleet.old.second false (P.told ports.old)
+        → AreRepeated fleet.old.slots.items (asked.now.play && asked.now.repeat)
+        → IfErr result (λ r. IsBrokenOff telling
+        (record { holds = F.holds files.old; fails = F.fails files.old; refuses = F.refuses })
+        (record { input_fails = ⊥; output_refuses = O.refuses; errors_refuse = E.refuses }) asked.now part.now before
+        (record { made = F.made files.old; streams = start })
+        (record {
+          made = F.made files.new;
+          streams = record { input = None; output = O.taken output.new; errors = E.taken errors.new };
+        })
+        r.fault) }
+    ensures kept { (before : ℕ → Option Traffic)
+        → IsFleet part.now asked.now.play before fleet.old.slots.items fleet.old.second false (P.told ports.old)
+        → AreRepeated fleet.old.slots.items (asked.now.play && asked.now.repeat)
+        → OnOk result ((last : ℕ) × AreKept asked.now part.now before last fleet.new.second (F.made files.old)
+        (F.made files.new)) }
 {
+    let mut last = fleet.second();
     for _turn in 0..turns {
-        if has_passed(seconds, fleet.second()) {
+        if has_passed(asked.seconds, fleet.second()) {
             return Ok(());
         }
         if quit.asks() {
             return Ok(());
         }
         turn(alloc, telling, fleet, ports, clock, output, errors)?;
+        last = keep_up(alloc, asked.save, part, fleet, last, files)?;
     }
     Ok(())
 }
@@ -204,8 +230,8 @@ fn go_on<'a, P: Counted, C: Seconds, Q: Quit, O: Output, E: Output>(
 /// for by this clock or until the session is asked to end. Each second that a turn comes to is told, and what the wire
 /// did and what devices received and sent, as far as the ports show it. The devices' rows are played, once or over and
 /// over, and their steps recorded, if that is asked for. What went through the ports is counted.
-#[tactic(auto, using(crate::proofs::Told::cut_at_start))]
-pub fn serve_part<'a, P: Counted, C: Seconds, Q: Quit, O: Output, E: Output>(
+#[tactic(auto, using(crate::proofs::Sessions::broken_at_start))]
+pub fn serve_part<'a, P: Counted, C: Seconds, Q: Quit, F: Files, O: Output, E: Output>(
     alloc: Global,
     asked: &AskedFleet<'a>,
     part: &Scenario,
@@ -213,6 +239,7 @@ pub fn serve_part<'a, P: Counted, C: Seconds, Q: Quit, O: Output, E: Output>(
     ports: &mut P,
     clock: &mut C,
     quit: &mut Q,
+    files: &mut F,
     output: &mut O,
     errors: &mut E,
 ) -> Result<Served, Refusal<'a>>
@@ -232,21 +259,34 @@ pub fn serve_part<'a, P: Counted, C: Seconds, Q: Quit, O: Output, E: Output>(
         r.fleet.second
         (record { input = None; output = O.taken output.old; errors = E.taken errors.old })
         (record { input = None; output = O.taken output.new; errors = E.taken errors.new })) }
-    ensures cut { IfErr result (λ r. IsCut telling
-        (record { input_fails = ⊥; output_refuses = O.refuses; errors_refuse = E.refuses })
-        (record { input = None; output = O.taken output.old; errors = E.taken errors.old })
-        (record { input = None; output = O.taken output.new; errors = E.taken errors.new }) r.fault) }
+    ensures kept { IfOk result (λ r. (last : ℕ) × AreKept asked.now part.now (P.told ports.old) last r.fleet.second
+        (F.made files.old) (F.made files.new)) }
+    ensures cut { IfErr result (λ r. IsBrokenOff telling
+        (record { holds = F.holds files.old; fails = F.fails files.old; refuses = F.refuses })
+        (record { input_fails = ⊥; output_refuses = O.refuses; errors_refuse = E.refuses }) asked.now part.now
+        (P.told ports.old)
+        (record {
+          made = F.made files.old;
+          streams = record { input = None; output = O.taken output.old; errors = E.taken errors.old };
+        })
+        (record {
+          made = F.made files.new;
+          streams = record { input = None; output = O.taken output.new; errors = E.taken errors.new };
+        })
+        r.fault) }
 {
     let mut fleet = start(alloc, part, asked.play, asked.repeat, asked.save.is_some())?;
     go_on(
         alloc,
+        asked,
+        part,
         telling,
         &mut fleet,
         ports,
         clock,
         quit,
         u64::MAX,
-        asked.seconds,
+        files,
         output,
         errors,
     )?;

@@ -1,16 +1,18 @@
 //! `fleet FILE PORT ..`: devices on UDP.
-ghost use Rattle.std.specs.Prelude.{ℕ, ◌≡◌, ◌==◌, [], None, Some, IfErr, OnErr, IfOk, length};
+ghost use Rattle.std.specs.Prelude.{ℕ, ◌≡◌, [], None, Some, IfErr, IfOk, length};
 ghost use Rattle.fleet_link.specs.Traffic.{no_traffic};
 ghost use Rattle.fleet_link.specs.Udp.{ports_over_udp, told_over_udp};
 ghost use Rattle.command_fleet.specs.Fleet.{IsFleetDone, IsFleetFault, IsHeldDone, IsHeldFault, IsSessionDone};
-ghost use Rattle.command_fleet.specs.Fleet.{IsSessionFault, IsShownFrom};
+ghost use Rattle.command_fleet.specs.Fleet.{IsSessionFault};
+ghost use Rattle.command_fleet.specs.Inside.{IsShownFrom};
 ghost use Rattle.command_fleet.specs.Wires.{IsPlanned, IsWireBy};
 
 use crate::asking::{Quit, StandardInput};
 use crate::concluding::conclude_session;
 use crate::devices::{chosen_devices, part_of};
+use crate::listing::list_ports;
 use crate::places::{place_of, ports_at, tell_ready};
-use crate::placing::free_ports;
+use crate::placing::{copy_ports, free_ports};
 use crate::servers::servers_of;
 use crate::serving::serve_part;
 use crate::telling::{print_ready, telling_of};
@@ -31,15 +33,17 @@ use std::rt::Clock;
 
 /// The devices of a scenario that are asked for are served, each from the start of its class, at UDP ports, with a wire
 /// on them if words ask for one, and by the machine's clock; their rows are played, once or over and over, if that is
-/// asked for. Once their ports are there, exactly the line that says so goes to standard error, and where the system
-/// chose them a line for each is printed. Each second that comes is told as a line on standard error, if that is a
-/// terminal. What the wire does with a datagram is printed as a line, and, if that is asked for, so is each datagram
-/// that a device receives or sends. The session ends after the seconds that are asked for, if they are, or when
-/// standard input asks for it. Then exactly the line of the session is printed. If JSON is asked for, exactly objects
-/// are printed in the place of these lines: that the ports are there, each of them that the system chose, each second,
-/// what goes through the ports, and the end. Then, if there is a path, the image, in version 2, of the scenario whose
-/// rows have the devices' steps is made there. The status tells of datagrams that were dropped or lost, if that is
-/// asked for. Of what standard input has nothing is said.
+/// asked for. Once their ports are there, a file that lists them is made, if it has a path; then exactly the line that
+/// says so goes to standard error, and where the system chose them a line for each is printed. Each second that comes
+/// is told as a line on standard error, if that is a terminal. What the wire does with a datagram is printed as a line,
+/// and, if that is asked for, so is each datagram that a device receives or sends. The session ends after the seconds
+/// that are asked for, if they are, or when standard input asks for it. Then exactly the line of the session is
+/// printed. If JSON is asked for, exactly objects are printed in the place of these lines: that the ports are there,
+/// each of them that the system chose, each second, what goes through the ports, and the end. Then, if there is a path,
+/// the image, in version 2, of the scenario whose rows have the devices' steps is made there; and each minute before it
+/// one of their steps so far, beside the path. No other file is made, and at a fault just those that came before it.
+/// The status tells of datagrams that were dropped or lost, if that is asked for. Of what standard input has nothing is
+/// said.
 #[tactic(auto, using(crate::proofs::Sessions::source_refused, crate::proofs::Sessions::devices_missing, crate::proofs::Sessions::part_refused, crate::proofs::Sessions::place_refused, crate::proofs::Sessions::plan_refused, crate::proofs::Sessions::servers_refused, crate::proofs::Sessions::ports_refused))]
 pub fn fleet<'a, R: Net + Clock + Input, F: Files, O: Output, E: Output>(
     rt: &R,
@@ -61,12 +65,17 @@ pub fn fleet<'a, R: Net + Clock + Input, F: Files, O: Output, E: Output>(
           streams = record { input = None; output = O.taken output.new; errors = E.taken errors.new };
         })
         asked.entry terminal) }
-    ensures kept { OnErr result (F.made files.new ≡ F.made files.old) }
     ensures refused { IfErr result (λ r. IsFleetFault
         (record { holds = F.holds files.old; fails = F.fails files.old; refuses = F.refuses })
         (record { input_fails = ⊥; output_refuses = O.refuses; errors_refuse = E.refuses })
-        (record { input = None; output = O.taken output.old; errors = E.taken errors.old })
-        (record { input = None; output = O.taken output.new; errors = E.taken errors.new })
+        (record {
+          made = F.made files.old;
+          streams = record { input = None; output = O.taken output.old; errors = E.taken errors.old };
+        })
+        (record {
+          made = F.made files.new;
+          streams = record { input = None; output = O.taken output.new; errors = E.taken errors.new };
+        })
         asked.entry terminal r.fault) }
 {
     let scenario = load_source(alloc, asked.file, files)?;
@@ -113,15 +122,20 @@ fn hold_on<'a, R: Net + Clock + Input, F: Files, O: Output, E: Output>(
           streams = record { input = None; output = O.taken output.new; errors = E.taken errors.new };
         })
         asked.now terminal part.now place (ports_over_udp ports)) }
-    ensures kept { OnErr result (F.made files.new ≡ F.made files.old) }
     ensures refused { IfErr result (λ r. IsHeldFault
         (record { holds = F.holds files.old; fails = F.fails files.old; refuses = F.refuses })
         (record { input_fails = ⊥; output_refuses = O.refuses; errors_refuse = E.refuses })
-        (record { input = None; output = O.taken output.old; errors = E.taken errors.old })
-        (record { input = None; output = O.taken output.new; errors = E.taken errors.new })
+        (record {
+          made = F.made files.old;
+          streams = record { input = None; output = O.taken output.old; errors = E.taken errors.old };
+        })
+        (record {
+          made = F.made files.new;
+          streams = record { input = None; output = O.taken output.new; errors = E.taken errors.new };
+        })
         asked.now terminal part.now place (ports_over_udp ports) r.fault) }
 {
-    let free = free_ports(alloc, asked.port, ports.ports())?;
+    let bound = copy_ports(alloc, ports.ports())?;
     let mut clock = MachineClock::new(rt);
     let mut quit = StandardInput::new(rt, alloc, asked.seconds.is_none())?;
     match plan {
@@ -135,7 +149,7 @@ fn hold_on<'a, R: Net + Clock + Input, F: Files, O: Output, E: Output>(
                 ports,
                 &mut clock,
                 &mut quit,
-                free.as_slice(),
+                bound.as_slice(),
                 files,
                 output,
                 errors,
@@ -152,7 +166,7 @@ fn hold_on<'a, R: Net + Clock + Input, F: Files, O: Output, E: Output>(
                 wired,
                 &mut clock,
                 &mut quit,
-                free.as_slice(),
+                bound.as_slice(),
                 files,
                 output,
                 errors,
@@ -171,7 +185,7 @@ fn hold_ports<'a, P: Counted + Drop, C: Seconds, Q: Quit, F: Files, O: Output, E
     ports: P,
     clock: &mut C,
     quit: &mut Q,
-    free: &[u16],
+    bound: &[u16],
     files: &mut F,
     output: &mut O,
     errors: &mut E,
@@ -190,32 +204,38 @@ fn hold_ports<'a, P: Counted + Drop, C: Seconds, Q: Quit, F: Files, O: Output, E
           made = F.made files.new;
           streams = record { input = None; output = O.taken output.new; errors = E.taken errors.new };
         })
-        asked.now terminal part.now place free.now (Q.asked quit.new)) }
-    ensures kept { OnErr result (F.made files.new ≡ F.made files.old) }
+        asked.now terminal part.now place bound.now (Q.asked quit.new)) }
     ensures refused { IfErr result (λ r. IsSessionFault
         (record { holds = F.holds files.old; fails = F.fails files.old; refuses = F.refuses })
         (record { input_fails = ⊥; output_refuses = O.refuses; errors_refuse = E.refuses })
-        (record { input = None; output = O.taken output.old; errors = E.taken errors.old })
-        (record { input = None; output = O.taken output.new; errors = E.taken errors.new })
-        asked.now terminal part.now place free.now (Q.asked quit.new) r.fault) }
+        (record {
+          made = F.made files.old;
+          streams = record { input = None; output = O.taken output.old; errors = E.taken errors.old };
+        })
+        (record {
+          made = F.made files.new;
+          streams = record { input = None; output = O.taken output.new; errors = E.taken errors.new };
+        })
+        asked.now terminal part.now place bound.now (Q.asked quit.new) r.fault) }
 {
     if asked.show {
         let mut ports = ShownPorts::new(alloc, ports);
         hold_session(
-            alloc, asked, terminal, part, place, &mut ports, clock, quit, free, files, output,
+            alloc, asked, terminal, part, place, &mut ports, clock, quit, bound, files, output,
             errors,
         )
     } else {
         let mut ports = ports;
         hold_session(
-            alloc, asked, terminal, part, place, &mut ports, clock, quit, free, files, output,
+            alloc, asked, terminal, part, place, &mut ports, clock, quit, bound, files, output,
             errors,
         )
     }
 }
 
-/// The session of devices on these ports, which are new, by this clock: it is told that they are there, and which of
-/// them the system chose; they are served until `quit` asks for the end, and the session is concluded.
+/// The session of devices on these ports, which are new, by this clock: those to which they are bound are listed, if
+/// that is asked for; it is told that they are there, and which of them the system chose; they are served until `quit`
+/// asks for the end, and the session is concluded.
 fn hold_session<'a, P: Counted, C: Seconds, Q: Quit, F: Files, O: Output, E: Output>(
     alloc: Global,
     asked: &AskedFleet<'a>,
@@ -225,7 +245,7 @@ fn hold_session<'a, P: Counted, C: Seconds, Q: Quit, F: Files, O: Output, E: Out
     ports: &mut P,
     clock: &mut C,
     quit: &mut Q,
-    free: &[u16],
+    bound: &[u16],
     files: &mut F,
     output: &mut O,
     errors: &mut E,
@@ -244,21 +264,28 @@ fn hold_session<'a, P: Counted, C: Seconds, Q: Quit, F: Files, O: Output, E: Out
           made = F.made files.new;
           streams = record { input = None; output = O.taken output.new; errors = E.taken errors.new };
         })
-        asked.now terminal part.now place free.now (Q.asked quit.new)) }
-    ensures kept { OnErr result (F.made files.new ≡ F.made files.old) }
+        asked.now terminal part.now place bound.now (Q.asked quit.new)) }
     ensures refused { IfErr result (λ r. IsSessionFault
         (record { holds = F.holds files.old; fails = F.fails files.old; refuses = F.refuses })
         (record { input_fails = ⊥; output_refuses = O.refuses; errors_refuse = E.refuses })
-        (record { input = None; output = O.taken output.old; errors = E.taken errors.old })
-        (record { input = None; output = O.taken output.new; errors = E.taken errors.new })
-        asked.now terminal part.now place free.now (Q.asked quit.new) r.fault) }
+        (record {
+          made = F.made files.old;
+          streams = record { input = None; output = O.taken output.old; errors = E.taken errors.old };
+        })
+        (record {
+          made = F.made files.new;
+          streams = record { input = None; output = O.taken output.new; errors = E.taken errors.new };
+        })
+        asked.now terminal part.now place bound.now (Q.asked quit.new) r.fault) }
 {
     let devices = part.rows();
+    list_ports(alloc, asked.ports, bound, files)?;
     tell_ready(alloc, devices, place, errors)?;
+    let free = free_ports(asked.port, bound);
     print_ready(alloc, asked.json, devices, place, free, output)?;
     let telling = telling_of(asked.json, terminal, devices);
     let served = serve_part(
-        alloc, asked, part, telling, ports, clock, quit, output, errors,
+        alloc, asked, part, telling, ports, clock, quit, files, output, errors,
     )?;
     conclude_session(
         alloc,

@@ -24,7 +24,6 @@ pub returns-in-Fleet-clause-refused : goal.returns-in-Fleet-clause-refused
 returns-in-Fleet-clause-refused g c = λ words is_read.
     let read = subst (IsReadAs words) c.in-Fleet.is is_read in
     fleet_lost_if _ _ _ _ _ words c.in-Fleet.asked c.fleet.result read c.fleet.ensures.refused refl
-    c.fleet.ensures.kept
 
 pub returns-in-Log-clause-done : goal.returns-in-Log-clause-done
 returns-in-Log-clause-done g c = λ words is_read.

@@ -1,5 +1,10 @@
-use Rattle.std.proofs.Common.{◌+◌, ◌∙◌, refl, arith}
+use Rattle.std.proofs.Common.{◌+◌, ◌∙◌, None, refl, sym, arith}
+use Rattle.std.proofs.lemmas.Result.{err_from_is_err_and}
 use Rattle.fleet_link.proofs.Seconds.{asked_less}
+use Rattle.command_files.specs.World.{FilesKnown, StreamFaults, World}
+use Rattle.command_fleet.proofs.Kept.{kept_first, kept_on}
+use Rattle.command_fleet.proofs.Sessions.{serving_cut, snapshot_lost}
+use Rattle.command_fleet.proofs.Settled.{repeated_as}
 use Rattle.command_fleet.proofs.serving.go_on.Goals as goal
 
 pub loop-turn-init : goal.loop-turn-init
@@ -10,6 +15,8 @@ loop-turn-init g c = record {
   began = refl;
   repeats = λ e. refl;
   told = λ start h. h;
+  kept = λ before h r. kept_first _ _ _ _ before _ _ _ (c.second-last.ensures ∙ c.requires.start)
+      c.requires.start;
 }
 
 pub loop-turn-preserved : goal.loop-turn-preserved
@@ -24,6 +31,15 @@ loop-turn-preserved g c = record {
   began = c.in_ok-turn.ensures.began ∙ c.loop-turn.invariant.began;
   repeats = λ e. c.in_ok-turn.ensures.repeats e ∙ c.loop-turn.invariant.repeats e;
   told = λ start h. c.in_ok-turn.ensures.told start (c.loop-turn.invariant.told start h);
+  kept = λ before h r.
+      let part = c.args.part.now in
+      let play = c.args.asked.now.play in
+      let was = c.loop-turn.invariant.fleet part play before h in
+      let are = c.in_ok-turn.ensures.fleet part play before was in
+      kept_on _ part play _ before _ _ _ _ _ _ _ _ _ (c.loop-turn.invariant.kept before h r) are
+      (repeated_as _ _ _ (are.count ∙ sym h.count)
+      (λ e. c.in_ok-turn.ensures.repeats e ∙ c.loop-turn.invariant.repeats e) r)
+      (c.in_ok-turn.ensures.swept part play before was) c.in_ok-turn.ensures.later c.in_ok-last.ensures.kept_up;
 }
 
 pub returns-clause-fleet : goal.returns-clause-fleet
@@ -34,3 +50,62 @@ returns-clause-told g c = λ start h. c.loop-turn.invariant.told start h
 
 pub returns-clause-repeats : goal.returns-clause-repeats
 returns-clause-repeats g c = λ e. c.loop-turn.invariant.repeats e
+
+pub returns-clause-kept : goal.returns-clause-kept
+returns-clause-kept g c = λ before h r. (c.loop-turn.last, c.loop-turn.invariant.kept before h r)
+
+pub returns-in_err-turn-clause-cut : goal.returns-in_err-turn-clause-cut
+returns-in_err-turn-clause-cut g c =
+    let files : FilesKnown = record {
+      holds = g.F.Files.holds c.args.files.now;
+      fails = g.F.Files.fails c.args.files.now;
+      refuses = g.F.Files.refuses;
+    } in
+    let streams : StreamFaults = record {
+      input_fails = ⊥;
+      output_refuses = g.O.Output.refuses;
+      errors_refuse = g.E.Output.refuses;
+    } in
+    let after : World = record {
+      made = g.F.Files.made c.loop-turn.files;
+      streams = record {
+        input = None;
+        output = g.O.Output.taken c.turn.new.output;
+        errors = g.E.Output.taken c.turn.new.errors;
+      };
+    } in
+    let r = c.from_residual in
+    let p = err_from_is_err_and r.result r.ensures.1 in
+    rw (p.1, p.2) (λ start before told fleet repeated. serving_cut c.args.telling files streams c.args.asked.now
+    c.args.part.now before c.loop-turn.fleet.second c.loop-turn.last
+    (record { made = g.F.Files.made c.args.files.now; streams = start }) after c.in_err-turn.field-0.0.fault
+    (c.in_err-turn.ensures.cut start (c.loop-turn.invariant.told start told))
+    (c.loop-turn.invariant.kept before fleet repeated))
+
+pub returns-in_err-last-clause-cut : goal.returns-in_err-last-clause-cut
+returns-in_err-last-clause-cut g c =
+    let files : FilesKnown = record {
+      holds = g.F.Files.holds c.args.files.now;
+      fails = g.F.Files.fails c.args.files.now;
+      refuses = g.F.Files.refuses;
+    } in
+    let streams : StreamFaults = record {
+      input_fails = ⊥;
+      output_refuses = g.O.Output.refuses;
+      errors_refuse = g.E.Output.refuses;
+    } in
+    let after : World = record {
+      made = g.F.Files.made c.keep_up.new.files;
+      streams = record {
+        input = None;
+        output = g.O.Output.taken c.turn.new.output;
+        errors = g.E.Output.taken c.turn.new.errors;
+      };
+    } in
+    let r = c.from_residual-in_err-last in
+    let p = err_from_is_err_and r.result r.ensures.1 in
+    rw (p.1, p.2) (λ start before told fleet repeated. snapshot_lost c.args.telling files streams c.args.asked.now
+    c.args.part.now before _ _ c.turn.new.fleet.second c.loop-turn.fleet.second c.loop-turn.last
+    (record { made = g.F.Files.made c.args.files.now; streams = start }) after _ c.in_err-last.field-0.0.fault
+    (c.in_ok-turn.ensures.told start (c.loop-turn.invariant.told start told))
+    (c.loop-turn.invariant.kept before fleet repeated) c.in_err-last.ensures.none c.in_err-last.ensures.refused)

@@ -1,10 +1,11 @@
--- All devices are served so far, and what went through and each second were told.
-use Rattle.std.proofs.Common.{ℕ, ◌≡◌, ◌+◌, Bool, List, false, Option, None, slice_get}
+-- All devices are served so far, what went through and each second were told, and snapshots were made.
+use Rattle.std.proofs.Common.{ℕ, ◌≡◌, ◌+◌, ◌&&◌, Bool, List, false, Option, None, slice_get}
 use Rattle.scenario_image.specs.Scenario.{Scenario}
-use Rattle.fleet_link.specs.Serving.{repeats_in, IsFleet}
+use Rattle.fleet_link.specs.Serving.{repeats_in, AreRepeated, IsFleet}
 use Rattle.fleet_link.specs.Timing.{AreAsked}
 use Rattle.fleet_link.specs.Traffic.{Traffic}
 use Rattle.command_files.specs.World.{Streams}
+use Rattle.command_fleet.specs.Snapshots.{AreKept}
 use Rattle.command_fleet.specs.Telling.{AreTold}
 use Rattle.command_fleet.proofs.serving.go_on.Given as goal
 
@@ -27,4 +28,8 @@ invariant-loop-turn g l = record {
       (record { input = None; output = g.O.Output.taken l.fn.output; errors = g.E.Output.taken l.fn.errors })
       → AreTold l.telling (g.P.Counted.watched l.ports).notes (g.P.Counted.watched l.ports).shown l.fleet.second start
       (record { input = None; output = g.O.Output.taken l.output; errors = g.E.Output.taken l.errors });
+  kept : (before : ℕ → Option Traffic)
+      → IsFleet l.part l.asked.play before l.fn.fleet.slots.items l.fn.fleet.second false (g.P.Ports.told l.fn.ports)
+      → AreRepeated l.fn.fleet.slots.items (l.asked.play && l.asked.repeat)
+      → AreKept l.asked l.part before l.last l.fleet.second (g.F.Files.made l.fn.files) (g.F.Files.made l.files);
 }

@@ -1,11 +1,12 @@
-use Rattle.std.proofs.Common.{◌≡◌, ◌⊎◌, ◌∙◌, ap, None, inl, refl, subst, sym, true}
+use Rattle.std.proofs.Common.{◌≡◌, ◌⊎◌, ◌∙◌, ap, None, inl, refl, rules, subst, sym, true}
 use Rattle.std.proofs.lemmas.Result.{err_from_is_err_and}
 use Rattle.fleet_lines.specs.Counting.{AreAllShown, Watched}
-use Rattle.command_files.specs.World.{StreamFaults, Streams}
+use Rattle.command_files.specs.World.{FilesKnown, StreamFaults, Streams, World}
 use Rattle.command_files.specs.declared.fault.Fault.TheVariants as faults
-use Rattle.command_fleet.proofs.Sessions.{ended_so, none_asked}
+use Rattle.command_fleet.proofs.Sessions.{broken_at_start, ended_so, none_asked, serving_cut}
 use Rattle.command_fleet.proofs.Settled.{account_as, fleet_as, repeated_as}
-use Rattle.command_fleet.specs.Telling.{IsCut}
+use Rattle.command_fleet.specs.Fleet.{IsBrokenOff}
+use Rattle.command_fleet.specs.Snapshots.{AreKept}
 use Rattle.command_fleet.proofs.Told.{cut_off, cut_traffic, none_told, told_as}
 use Rattle.command_fleet.proofs.serving.serve_part.Goals as goal
 
@@ -78,82 +79,191 @@ returns-in-Some-clause-told g c =
 
 pub returns-in-Err-clause-cut : goal.returns-in-Err-clause-cut
 returns-in-Err-clause-cut g c =
+    let files : FilesKnown = record {
+      holds = g.F.Files.holds c.args.files.now;
+      fails = g.F.Files.fails c.args.files.now;
+      refuses = g.F.Files.refuses;
+    } in
     let streams : StreamFaults = record {
       input_fails = ⊥;
       output_refuses = g.O.Output.refuses;
       errors_refuse = g.E.Output.refuses;
     } in
-    let first : Streams = record {
-      input = None;
-      output = g.O.Output.taken c.args.output.now;
-      errors = g.E.Output.taken c.args.errors.now;
+    let first : World = record {
+      made = g.F.Files.made c.args.files.now;
+      streams = record {
+        input = None;
+        output = g.O.Output.taken c.args.output.now;
+        errors = g.E.Output.taken c.args.errors.now;
+      };
     } in
-    let last : Streams = record {
-      input = None;
-      output = g.O.Output.taken c.go_on.new.output;
-      errors = g.E.Output.taken c.go_on.new.errors;
+    let last : World = record {
+      made = g.F.Files.made c.go_on.new.files;
+      streams = record {
+        input = None;
+        output = g.O.Output.taken c.go_on.new.output;
+        errors = g.E.Output.taken c.go_on.new.errors;
+      };
     } in
-    let none = none_told c.args.telling _ _ c.in_ok-fleet.fleet.second first c.requires.no_notes c.requires.none_shown
-    c.in_ok-fleet.ensures.second in
-    cut_off c.args.telling streams _ _ c.go_on.new.fleet.second first last c.from.result.fault
-    (c.in_ok-go_on.ensures.told first none)
-    (subst (λ f. (f ≡ faults.Memory) ⊎ (f ≡ faults.Bind)) (sym c.from.ensures) c.fault_of.ensures)
+    let asked = c.args.asked.now in
+    let part = c.args.part.now in
+    let ports = g.P.Ports.told c.args.ports.now in
+    let none = none_told c.args.telling _ _ c.in_ok-fleet.fleet.second first.streams c.requires.no_notes
+    c.requires.none_shown c.in_ok-fleet.ensures.second in
+    let kept = c.in_ok-go_on.ensures.kept ports (c.in_ok-fleet.ensures.fleet ports) c.in_ok-fleet.ensures.repeated in
+    serving_cut c.args.telling files streams asked part ports c.go_on.new.fleet.second kept.0 first last
+    c.from.result.fault
+    (cut_off c.args.telling streams _ _ c.go_on.new.fleet.second first.streams last.streams c.from.result.fault
+    (c.in_ok-go_on.ensures.told first.streams none)
+    (subst (λ f. (f ≡ faults.Memory) ⊎ (f ≡ faults.Bind)) (sym c.from.ensures) c.fault_of.ensures)) kept.1
 
 pub returns-in_err-tell_traffic-clause-cut : goal.returns-in_err-tell_traffic-clause-cut
 returns-in_err-tell_traffic-clause-cut g c =
+    let files : FilesKnown = record {
+      holds = g.F.Files.holds c.args.files.now;
+      fails = g.F.Files.fails c.args.files.now;
+      refuses = g.F.Files.refuses;
+    } in
     let streams : StreamFaults = record {
       input_fails = ⊥;
       output_refuses = g.O.Output.refuses;
       errors_refuse = g.E.Output.refuses;
     } in
-    let first : Streams = record {
-      input = None;
-      output = g.O.Output.taken c.args.output.now;
-      errors = g.E.Output.taken c.args.errors.now;
+    let first : World = record {
+      made = g.F.Files.made c.args.files.now;
+      streams = record {
+        input = None;
+        output = g.O.Output.taken c.args.output.now;
+        errors = g.E.Output.taken c.args.errors.now;
+      };
     } in
-    let between : Streams = record {
-      input = None;
-      output = g.O.Output.taken c.go_on.new.output;
-      errors = g.E.Output.taken c.go_on.new.errors;
+    let between : World = record {
+      made = g.F.Files.made c.go_on.new.files;
+      streams = record {
+        input = None;
+        output = g.O.Output.taken c.go_on.new.output;
+        errors = g.E.Output.taken c.go_on.new.errors;
+      };
     } in
-    let last : Streams = record {
-      input = None;
-      output = g.O.Output.taken c.tell_traffic.new.output;
-      errors = g.E.Output.taken c.go_on.new.errors;
+    let last : World = record {
+      made = g.F.Files.made c.go_on.new.files;
+      streams = record {
+        input = None;
+        output = g.O.Output.taken c.tell_traffic.new.output;
+        errors = g.E.Output.taken c.go_on.new.errors;
+      };
     } in
-    let none = none_told c.args.telling _ _ c.in_ok-fleet.fleet.second first c.requires.no_notes c.requires.none_shown
-    c.in_ok-fleet.ensures.second in
+    let asked = c.args.asked.now in
+    let part = c.args.part.now in
+    let ports = g.P.Ports.told c.args.ports.now in
+    let none = none_told c.args.telling _ _ c.in_ok-fleet.fleet.second first.streams c.requires.no_notes
+    c.requires.none_shown c.in_ok-fleet.ensures.second in
+    let kept = c.in_ok-go_on.ensures.kept ports (c.in_ok-fleet.ensures.fleet ports) c.in_ok-fleet.ensures.repeated in
     let why = c.in_err-tell_traffic.ensures.refused in
-    let h : IsCut c.args.telling streams first last c.in_err-tell_traffic.field-0.0.fault =
-    cut_traffic c.args.telling streams _ why.0 _ why.1 c.go_on.new.fleet.second first between last
-    c.in_err-tell_traffic.field-0.0.fault (c.in_ok-go_on.ensures.told first none) (why.2, refl) in
+    let fault = c.in_err-tell_traffic.field-0.0.fault in
+    let h : IsBrokenOff c.args.telling files streams asked part ports first last fault =
+    serving_cut c.args.telling files streams asked part ports c.go_on.new.fleet.second kept.0 first last fault
+    (cut_traffic c.args.telling streams _ why.0 _ why.1 c.go_on.new.fleet.second first.streams between.streams
+    last.streams fault (c.in_ok-go_on.ensures.told first.streams none) (why.2, refl)) kept.1 in
     let r = c.from_residual-in_err-tell_traffic in
     let p = err_from_is_err_and r.result r.ensures.1 in
     rw (p.1, p.2) h
 
 pub returns-clause-cut : goal.returns-clause-cut
 returns-clause-cut g c =
+    let files : FilesKnown = record {
+      holds = g.F.Files.holds c.args.files.now;
+      fails = g.F.Files.fails c.args.files.now;
+      refuses = g.F.Files.refuses;
+    } in
     let streams : StreamFaults = record {
       input_fails = ⊥;
       output_refuses = g.O.Output.refuses;
       errors_refuse = g.E.Output.refuses;
     } in
-    let first : Streams = record {
-      input = None;
-      output = g.O.Output.taken c.args.output.now;
-      errors = g.E.Output.taken c.args.errors.now;
+    let first : World = record {
+      made = g.F.Files.made c.args.files.now;
+      streams = record {
+        input = None;
+        output = g.O.Output.taken c.args.output.now;
+        errors = g.E.Output.taken c.args.errors.now;
+      };
     } in
-    let last : Streams = record {
-      input = None;
-      output = g.O.Output.taken c.tell_traffic.new.output;
-      errors = g.E.Output.taken c.go_on.new.errors;
+    let last : World = record {
+      made = g.F.Files.made c.go_on.new.files;
+      streams = record {
+        input = None;
+        output = g.O.Output.taken c.tell_traffic.new.output;
+        errors = g.E.Output.taken c.go_on.new.errors;
+      };
     } in
-    let none = none_told c.args.telling _ _ c.in_ok-fleet.fleet.second first c.requires.no_notes c.requires.none_shown
-    c.in_ok-fleet.ensures.second in
+    let asked = c.args.asked.now in
+    let part = c.args.part.now in
+    let ports = g.P.Ports.told c.args.ports.now in
+    let none = none_told c.args.telling _ _ c.in_ok-fleet.fleet.second first.streams c.requires.no_notes
+    c.requires.none_shown c.in_ok-fleet.ensures.second in
+    let kept = c.in_ok-go_on.ensures.kept ports (c.in_ok-fleet.ensures.fleet ports) c.in_ok-fleet.ensures.repeated in
     let fixed = c.watched_is_fixed.ensures _ _ c.finish.ensures.fixed in
-    let told = c.in_ok-tell_traffic.ensures.told first c.finish.new.self.second (g.E.Output.taken c.go_on.new.errors)
-    (told_as c.args.telling _ _ _ _ c.go_on.new.fleet.second c.finish.new.self.second first _
-    (c.in_ok-go_on.ensures.told first none) (ap (λ (w : Watched). w.notes) fixed) (ap (λ (w : Watched). w.shown) fixed)
-    c.finish.ensures.second) in
-    cut_off c.args.telling streams _ _ c.finish.new.self.second first last c.from-in-None.result.fault told
-    (inl c.from-in-None.ensures)
+    let second = c.finish.new.self.second in
+    let told = c.in_ok-tell_traffic.ensures.told first.streams second (g.E.Output.taken c.go_on.new.errors)
+    (told_as c.args.telling _ _ _ _ c.go_on.new.fleet.second second first.streams _
+    (c.in_ok-go_on.ensures.told first.streams none) (ap (λ (w : Watched). w.notes) fixed)
+    (ap (λ (w : Watched). w.shown) fixed) c.finish.ensures.second) in
+    serving_cut c.args.telling files streams asked part ports second kept.0 first last c.from-in-None.result.fault
+    (cut_off c.args.telling streams _ _ second first.streams last.streams c.from-in-None.result.fault told
+    (inl c.from-in-None.ensures))
+    (subst (λ n. AreKept asked part ports kept.0 n first.made last.made) (sym c.finish.ensures.second) kept.1)
+
+pub returns-in_err-fleet-clause-cut : goal.returns-in_err-fleet-clause-cut
+returns-in_err-fleet-clause-cut g c =
+    let files : FilesKnown = record {
+      holds = g.F.Files.holds c.args.files.now;
+      fails = g.F.Files.fails c.args.files.now;
+      refuses = g.F.Files.refuses;
+    } in
+    let streams : StreamFaults = record {
+      input_fails = ⊥;
+      output_refuses = g.O.Output.refuses;
+      errors_refuse = g.E.Output.refuses;
+    } in
+    let first : World = record {
+      made = g.F.Files.made c.args.files.now;
+      streams = record {
+        input = None;
+        output = g.O.Output.taken c.args.output.now;
+        errors = g.E.Output.taken c.args.errors.now;
+      };
+    } in
+    let h = broken_at_start c.args.telling files streams c.args.asked.now c.args.part.now
+    (g.P.Ports.told c.args.ports.now) first in
+    search (rules, h)
+
+pub returns-in_err-go_on-clause-cut : goal.returns-in_err-go_on-clause-cut
+returns-in_err-go_on-clause-cut g c =
+    let first : World = record {
+      made = g.F.Files.made c.args.files.now;
+      streams = record {
+        input = None;
+        output = g.O.Output.taken c.args.output.now;
+        errors = g.E.Output.taken c.args.errors.now;
+      };
+    } in
+    let asked = c.args.asked.now in
+    let part = c.args.part.now in
+    let ports = g.P.Ports.told c.args.ports.now in
+    let none = none_told c.args.telling _ _ c.in_ok-fleet.fleet.second first.streams c.requires.no_notes
+    c.requires.none_shown c.in_ok-fleet.ensures.second in
+    let r = c.from_residual-in_err-go_on in
+    let p = err_from_is_err_and r.result r.ensures.1 in
+    rw (p.1, p.2) (c.in_err-go_on.ensures.cut first.streams ports none (c.in_ok-fleet.ensures.fleet ports)
+    c.in_ok-fleet.ensures.repeated)
+
+pub returns-in-Some-clause-kept : goal.returns-in-Some-clause-kept
+returns-in-Some-clause-kept g c =
+    let ports = g.P.Ports.told c.args.ports.now in
+    let kept = c.in_ok-go_on.ensures.kept ports (c.in_ok-fleet.ensures.fleet ports) c.in_ok-fleet.ensures.repeated in
+    (
+      kept.0,
+      subst (λ n. AreKept c.args.asked.now c.args.part.now ports kept.0 n (g.F.Files.made c.args.files.now)
+      (g.F.Files.made c.go_on.new.files)) (sym c.finish.ensures.second) kept.1,
+    )

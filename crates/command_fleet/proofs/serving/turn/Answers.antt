@@ -2,7 +2,7 @@ use Rattle.std.proofs.Common.{◌∙◌, ap, refl, sym}
 use Rattle.std.proofs.lemmas.Result.{err_from_is_err_and}
 use Rattle.fleet_lines.specs.Counting.{Watched}
 use Rattle.command_fleet.proofs.Settled.{asked_as, fleet_as}
-use Rattle.command_fleet.proofs.Told.{always, cut_traffic, told_as, told_when}
+use Rattle.command_fleet.proofs.Told.{always, cut_traffic, cut_when, told_as, told_when}
 use Rattle.command_fleet.proofs.serving.turn.Goals as goal
 
 pub returns-in_ok-tell_traffic-in-Ok-clause-fleet : goal.returns-in_ok-tell_traffic-in-Ok-clause-fleet
@@ -31,6 +31,10 @@ pub returns-in_ok-tell_traffic-in-Ok-clause-repeats : goal.returns-in_ok-tell_tr
 returns-in_ok-tell_traffic-in-Ok-clause-repeats g c =
     always c.tell_if_later.result _ (λ e. c.turn.ensures.went.repeats e)
 
+pub returns-in_ok-tell_traffic-in-Ok-clause-swept : goal.returns-in_ok-tell_traffic-in-Ok-clause-swept
+returns-in_ok-tell_traffic-in-Ok-clause-swept g c =
+    λ s played before h. always c.tell_if_later.result _ (c.in-Ok.ensures.swept s played before h)
+
 pub returns-in_ok-tell_traffic-in-Ok-clause-told : goal.returns-in_ok-tell_traffic-in-Ok-clause-told
 returns-in_ok-tell_traffic-in-Ok-clause-told g c =
     let same = c.watched_is_fixed.ensures _ _ c.turn.ensures.fixed in
@@ -43,10 +47,11 @@ returns-in_ok-tell_traffic-in-Ok-clause-told g c =
 pub returns-in_ok-tell_traffic-in-Ok-clause-cut : goal.returns-in_ok-tell_traffic-in-Ok-clause-cut
 returns-in_ok-tell_traffic-in-Ok-clause-cut g c =
     let same = c.watched_is_fixed.ensures _ _ c.turn.ensures.fixed in
-    λ start h. c.tell_if_later.ensures.cut start _ _
+    λ start h. cut_when c.tell_if_later.result _ _ _ _ _ _ (sym c.second-last.ensures) (c.tell_if_later.ensures.cut
+    start _ _
     (c.in_ok-tell_traffic-in-Ok.ensures.told start _ _
     (told_as _ _ _ _ _ _ _ _ _ h (ap (λ (w : Watched). w.notes) same) (ap (λ (w : Watched). w.shown) same)
-    c.second-last.ensures))
+    c.second-last.ensures)))
 
 pub returns-in_err-tell_traffic-in-Ok-clause-cut : goal.returns-in_err-tell_traffic-in-Ok-clause-cut
 returns-in_err-tell_traffic-in-Ok-clause-cut g c =

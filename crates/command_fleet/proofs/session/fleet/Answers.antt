@@ -1,5 +1,5 @@
 use Rattle.std.proofs.Common.{None}
-use Rattle.command_files.specs.World.{FilesKnown, StreamFaults, Streams}
+use Rattle.command_files.specs.World.{FilesKnown, StreamFaults, World}
 use Rattle.command_fleet.proofs.Sessions.{fixed_as, fleet_broken, fleet_done, ready}
 use Rattle.command_fleet.proofs.session.fleet.Goals as goal
 
@@ -10,23 +10,28 @@ returns-clause-done g c =
       fails = g.F.Files.fails c.args.files.now;
       refuses = g.F.Files.refuses;
     } in
-    let before : Streams = record {
-      input = None;
-      output = g.O.Output.taken c.args.output.now;
-      errors = g.E.Output.taken c.args.errors.now;
+    let before : World = record {
+      made = g.F.Files.made c.args.files.now;
+      streams = record {
+        input = None;
+        output = g.O.Output.taken c.args.output.now;
+        errors = g.E.Output.taken c.args.errors.now;
+      };
     } in
-    let after : Streams = record {
-      input = None;
-      output = g.O.Output.taken c.hold_on.new.output;
-      errors = g.E.Output.taken c.hold_on.new.errors;
+    let after : World = record {
+      made = g.F.Files.made c.hold_on.new.files;
+      streams = record {
+        input = None;
+        output = g.O.Output.taken c.hold_on.new.output;
+        errors = g.E.Output.taken c.hold_on.new.errors;
+      };
     } in
     let there = ready files c.args.asked c.in_ok-scenario.scenario c.in_ok-part.part c.in-Some.devices
     c.in_ok-servers.servers.items c.in_ok-place.place c.in_ok-scenario.ensures.found c.in-Some.ensures.chosen
     (fixed_as _ _ _ _ c.as_slice.ensures.value c.in_ok-servers.ensures.servers) c.in_ok-part.ensures.part
     c.in_ok-place.ensures.place in
-    fleet_done files (record { made = g.F.Files.made c.args.files.now; streams = before })
-    (record { made = g.F.Files.made c.hold_on.new.files; streams = after }) c.args.asked c.args.terminal
-    c.in_ok-part.part c.in_ok-place.place _ c.hold_on.result there c.in_ok-ports.ensures.count c.hold_on.ensures.done
+    fleet_done files before after c.args.asked c.args.terminal c.in_ok-part.part c.in_ok-place.place _ c.hold_on.result
+    there c.in_ok-ports.ensures.count c.hold_on.ensures.done
 
 pub returns-clause-refused : goal.returns-clause-refused
 returns-clause-refused g c =
@@ -40,15 +45,21 @@ returns-clause-refused g c =
       output_refuses = g.O.Output.refuses;
       errors_refuse = g.E.Output.refuses;
     } in
-    let before : Streams = record {
-      input = None;
-      output = g.O.Output.taken c.args.output.now;
-      errors = g.E.Output.taken c.args.errors.now;
+    let before : World = record {
+      made = g.F.Files.made c.args.files.now;
+      streams = record {
+        input = None;
+        output = g.O.Output.taken c.args.output.now;
+        errors = g.E.Output.taken c.args.errors.now;
+      };
     } in
-    let after : Streams = record {
-      input = None;
-      output = g.O.Output.taken c.hold_on.new.output;
-      errors = g.E.Output.taken c.hold_on.new.errors;
+    let after : World = record {
+      made = g.F.Files.made c.hold_on.new.files;
+      streams = record {
+        input = None;
+        output = g.O.Output.taken c.hold_on.new.output;
+        errors = g.E.Output.taken c.hold_on.new.errors;
+      };
     } in
     let there = ready files c.args.asked c.in_ok-scenario.scenario c.in_ok-part.part c.in-Some.devices
     c.in_ok-servers.servers.items c.in_ok-place.place c.in_ok-scenario.ensures.found c.in-Some.ensures.chosen

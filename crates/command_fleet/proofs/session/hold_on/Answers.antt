@@ -1,6 +1,6 @@
-use Rattle.std.proofs.Common.{◌==◌, None}
-use Rattle.command_files.specs.World.{FilesKnown, StreamFaults, Streams, World}
-use Rattle.command_fleet.proofs.Sessions.{held_broken, held_done, same_free}
+use Rattle.std.proofs.Common.{◌∙◌, None}
+use Rattle.command_files.specs.World.{FilesKnown, StreamFaults, World}
+use Rattle.command_fleet.proofs.Sessions.{held_broken, held_done}
 use Rattle.command_fleet.proofs.session.hold_on.Goals as goal
 
 pub returns-clause-done : goal.returns-clause-done
@@ -23,10 +23,9 @@ returns-clause-done g c =
     } in
     let asked = c.args.asked.now in
     let part = c.args.part.now in
-    let free = same_free (asked.port == 0) _ _ c.as_slice-in-Some.result.now _ c.as_slice-in-Some.ensures.value
-    c.ports.ensures c.in_ok-free.ensures in
+    let bound = c.as_slice-in-Some.ensures.value ∙ c.in_ok-bound.ensures ∙ c.ports.ensures in
     held_done before after asked c.args.terminal part c.args.place _ c.as_slice-in-Some.result.now _
-    c.hold_ports-in-Some.result free c.hold_ports-in-Some.ensures.done
+    c.hold_ports-in-Some.result bound c.hold_ports-in-Some.ensures.done
 
 pub returns-clause-refused : goal.returns-clause-refused
 returns-clause-refused g c =
@@ -40,22 +39,27 @@ returns-clause-refused g c =
       output_refuses = g.O.Output.refuses;
       errors_refuse = g.E.Output.refuses;
     } in
-    let before : Streams = record {
-      input = None;
-      output = g.O.Output.taken c.args.output.now;
-      errors = g.E.Output.taken c.args.errors.now;
+    let before : World = record {
+      made = g.F.Files.made c.args.files.now;
+      streams = record {
+        input = None;
+        output = g.O.Output.taken c.args.output.now;
+        errors = g.E.Output.taken c.args.errors.now;
+      };
     } in
-    let after : Streams = record {
-      input = None;
-      output = g.O.Output.taken c.hold_ports-in-Some.new.output;
-      errors = g.E.Output.taken c.hold_ports-in-Some.new.errors;
+    let after : World = record {
+      made = g.F.Files.made c.hold_ports-in-Some.new.files;
+      streams = record {
+        input = None;
+        output = g.O.Output.taken c.hold_ports-in-Some.new.output;
+        errors = g.E.Output.taken c.hold_ports-in-Some.new.errors;
+      };
     } in
     let asked = c.args.asked.now in
     let part = c.args.part.now in
-    let free = same_free (asked.port == 0) _ _ c.as_slice-in-Some.result.now _ c.as_slice-in-Some.ensures.value
-    c.ports.ensures c.in_ok-free.ensures in
+    let bound = c.as_slice-in-Some.ensures.value ∙ c.in_ok-bound.ensures ∙ c.ports.ensures in
     held_broken files faults before after asked c.args.terminal part c.args.place _ c.as_slice-in-Some.result.now _
-    c.hold_ports-in-Some.result free c.hold_ports-in-Some.ensures.refused
+    c.hold_ports-in-Some.result bound c.hold_ports-in-Some.ensures.refused
 
 pub returns-in-None-clause-refused : goal.returns-in-None-clause-refused
 returns-in-None-clause-refused g c =
@@ -69,19 +73,24 @@ returns-in-None-clause-refused g c =
       output_refuses = g.O.Output.refuses;
       errors_refuse = g.E.Output.refuses;
     } in
-    let before : Streams = record {
-      input = None;
-      output = g.O.Output.taken c.args.output.now;
-      errors = g.E.Output.taken c.args.errors.now;
+    let before : World = record {
+      made = g.F.Files.made c.args.files.now;
+      streams = record {
+        input = None;
+        output = g.O.Output.taken c.args.output.now;
+        errors = g.E.Output.taken c.args.errors.now;
+      };
     } in
-    let after : Streams = record {
-      input = None;
-      output = g.O.Output.taken c.hold_ports.new.output;
-      errors = g.E.Output.taken c.hold_ports.new.errors;
+    let after : World = record {
+      made = g.F.Files.made c.hold_ports.new.files;
+      streams = record {
+        input = None;
+        output = g.O.Output.taken c.hold_ports.new.output;
+        errors = g.E.Output.taken c.hold_ports.new.errors;
+      };
     } in
     let asked = c.args.asked.now in
     let part = c.args.part.now in
-    let free = same_free (asked.port == 0) _ _ c.as_slice.result.now _ c.as_slice.ensures.value
-    c.ports.ensures c.in_ok-free.ensures in
+    let bound = c.as_slice.ensures.value ∙ c.in_ok-bound.ensures ∙ c.ports.ensures in
     held_broken files faults before after asked c.args.terminal part c.args.place _ c.as_slice.result.now _
-    c.hold_ports.result free c.hold_ports.ensures.refused
+    c.hold_ports.result bound c.hold_ports.ensures.refused
