@@ -9,7 +9,7 @@ mod sender;
 mod single;
 mod transmission;
 
-pub use finding::Finding;
+pub use finding::{Finding, find_broken};
 pub use rule::{RULES, Rule};
 pub use sender::Sender;
 pub use transmission::Transmission;
