@@ -11,11 +11,11 @@ use Rattle.server_lint.specs.declared.rule.Rule.TheVariants.{RepeatedTooOften, A
 use Rattle.server_lint.specs.declared.rule.Rule.TheVariants.{NotificationNotAcknowledged, UnknownCriticalOption}
 use Rattle.server_lint.specs.declared.rule.Rule.TheVariants.{EmptyPathSegment}
 use Rattle.server_lint.specs.History.{Transmission, message_of}
-use Rattle.server_lint.specs.Inside.{answers_some, breaks, is_answered, is_con_from_server, is_unacknowledged}
-use Rattle.server_lint.specs.Inside.{times_sent_within, was_sent_within, was_used}
+use Rattle.server_lint.specs.Inside.{answers_some, breaks, is_answered, is_con_from_server}
+use Rattle.server_lint.specs.Inside.{times_sent_within, was_sent_within}
 use Rattle.server_lint.specs.Pairs.{answers, is_again_within, reuses_id}
 use Rattle.server_lint.specs.Rules.{IsBroken, Place}
-use Rattle.server_lint.specs.Single.{has_empty_segment, has_unknown_option, is_confirmable, is_from_server, is_reply}
+use Rattle.server_lint.specs.Single.{is_confirmable, is_from_server, is_reply}
 
 and_both : (a b : Bool) → a ≡ true → b ≡ true → (a && b) ≡ true
 and_both true b p q = q

@@ -1,6 +1,6 @@
 -- A finding at a place, by the test of its rule.
 use Rattle.std.proofs.Common.{◌≡◌, ℕ, zero, suc, ◌+◌, ◌-◌, ◌≤◌, ◌↔◌, Bool, true, List, [], ◌∷◌, length, get_or, take}
-use Rattle.std.proofs.Common.{drop, refl, sym, ap, ◌∙◌, arith, add-one}
+use Rattle.std.proofs.Common.{drop, refl, sym, ap, ◌∙◌, arith}
 use Rattle.std.specs.Prelude.{Some, slice_get}
 use Rattle.std.specs.List.{Contains}
 use Rattle.server_lint.specs.declared.rule.Rule.{Rule}
@@ -43,14 +43,15 @@ found_here chosen history end place rule t b before (x ∷ xs) front back some f
     let so : b ≡ breaks rule (take place history) x (drop (place + 1) history) end =
     is ∙ ap (λ l. breaks rule l t (take (length (x ∷ xs) - 1) xs) end) front
     ∙ ap (λ y. breaks rule (take place history) y (take (length (x ∷ xs) - 1) xs) end) first
-    ∙ ap (λ l. breaks rule (take place history) x l end) (all ∙ behind) in
-    (λ h. record {
-      chose = chose;
-      this = x;
-      stands = stands;
-      broken = broken rule (take place history) x (drop (place + 1) history) end (sym so ∙ h);
-    },
-    λ f.
-    let same : f.this ≡ x = let e : Some f.this ≡ Some x = sym f.stands ∙ stands in cc in
-    so ∙ ap (λ y. breaks rule (take place history) y (drop (place + 1) history) end) (sym same)
-    ∙ breaking rule (take place history) f.this (drop (place + 1) history) end f.broken)
+    ∙ ap (λ l. breaks rule (take place history) x l end) (all ∙ behind) in (
+      λ h. record {
+        chose = chose;
+        this = x;
+        stands = stands;
+        broken = broken rule (take place history) x (drop (place + 1) history) end (sym so ∙ h);
+      },
+      λ f.
+          let same : f.this ≡ x = let e : Some f.this ≡ Some x = sym f.stands ∙ stands in cc in
+          so ∙ ap (λ y. breaks rule (take place history) y (drop (place + 1) history) end) (sym same)
+          ∙ breaking rule (take place history) f.this (drop (place + 1) history) end f.broken,
+    )

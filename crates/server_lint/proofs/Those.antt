@@ -1,5 +1,5 @@
 -- The elements of a list of which something holds, when the list has one more.
-use Rattle.std.proofs.Common.{◌≡◌, List, [], ◌∷◌, ◌++◌, ◌⊎◌, inl, inr, refl, ap}
+use Rattle.std.proofs.Common.{List, [], ◌∷◌, ◌++◌, inl, inr, refl, ap}
 use Rattle.server_lint.specs.Findings.{AreThose}
 
 -- the element is one of them

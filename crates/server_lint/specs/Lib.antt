@@ -5,3 +5,4 @@ pub mod Names
 pub mod Rules
 pub mod Findings
 pub mod Inside
+pub mod Text

@@ -28,13 +28,13 @@ section_of NotificationNotAcknowledged = codes "4.2"
 section_of UnknownCriticalOption = codes "5.4.1"
 section_of EmptyPathSegment = codes "5.10.1"
 
--- what a finding says
+-- what a server does that breaks it
 abbrev pub summary_of : Rule → List ℕ
-summary_of NotAMessage = codes "these bytes are not a message"
-summary_of MessageIdReused = codes "the message ID is used again for other bytes before its lifetime has elapsed"
-summary_of RepeatedTooSoon = codes "a confirmable message again less than 2 s after the one before"
-summary_of RepeatedTooOften = codes "a confirmable message again, more than 4 times"
-summary_of AnswersNothing = codes "an acknowledgement or a reset of no message that the device sent"
-summary_of NotificationNotAcknowledged = codes "a confirmable message that is neither acknowledged nor reset in 93 s"
-summary_of UnknownCriticalOption = codes "a request with a critical option that devices do not recognize"
-summary_of EmptyPathSegment = codes "a request whose path has an empty segment"
+summary_of NotAMessage = codes "sends bytes that are not a message"
+summary_of MessageIdReused = codes "uses a message ID again for other bytes before its lifetime has elapsed"
+summary_of RepeatedTooSoon = codes "sends a confirmable message again less than 2 s after the one before"
+summary_of RepeatedTooOften = codes "sends a confirmable message again more than 4 times within 247 s"
+summary_of AnswersNothing = codes "acknowledges or resets nothing that the device sent"
+summary_of NotificationNotAcknowledged = codes "neither acknowledges nor resets a confirmable message within 93 s"
+summary_of UnknownCriticalOption = codes "sends a request with a critical option that devices do not recognize"
+summary_of EmptyPathSegment = codes "sends a request whose path has an empty segment"

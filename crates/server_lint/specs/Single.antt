@@ -1,5 +1,5 @@
 -- What a datagram is by itself.
-use Rattle.std.specs.Prelude.{ℕ, ◌==◌, nat_lt, Bool, true, false, not, ◌&&◌, length, Option, None, Some}
+use Rattle.std.specs.Prelude.{◌==◌, nat_lt, Bool, true, false, not, ◌&&◌, length, Option, None, Some}
 use Rattle.std.specs.List.{list_any}
 use Rattle.coap_codec.specs.declared.kind.Kind.{Kind}
 use Rattle.coap_codec.specs.declared.kind.Kind.TheVariants.{Con, Non, Ack, Rst}
@@ -9,7 +9,7 @@ use Rattle.coap_codec.specs.OptionNumber.{uri_path_option}
 use Rattle.device_requests.specs.Options.{has_unrecognized_critical}
 use Rattle.server_lint.specs.declared.sender.Sender.{Sender}
 use Rattle.server_lint.specs.declared.sender.Sender.TheVariants.{Server, Device}
-use Rattle.server_lint.specs.History.{Transmission, message_of}
+use Rattle.server_lint.specs.History.{Transmission}
 
 abbrev pub is_server : Sender → Bool
 is_server Server = true

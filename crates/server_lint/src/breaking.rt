@@ -27,7 +27,7 @@ fn was_sent_within(seconds: u32, before: &[Transmission], t: &Transmission) -> b
 }
 
 /// How often it was sent before, fewer than so many seconds ago.
-fn times_sent_within(seconds: u32, before: &[Transmission], t: &Transmission) -> usize
+pub(crate) fn times_sent_within(seconds: u32, before: &[Transmission], t: &Transmission) -> usize
     ensures { result ≡ times_sent_within seconds before.now t.now }
 {
     before

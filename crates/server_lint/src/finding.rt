@@ -30,13 +30,7 @@ fn is_chosen(chosen: &[Rule], rule: Rule) -> bool
 }
 
 /// Whether the datagram at this place of a history, which ends in this second, breaks a rule that is chosen.
-fn is_finding(
-    chosen: &[Rule],
-    history: &[Transmission],
-    end: u32,
-    place: usize,
-    rule: Rule,
-) -> bool
+fn is_finding(chosen: &[Rule], history: &[Transmission], end: u32, place: usize, rule: Rule) -> bool
     requires { place ≤ length history.now }
     ensures { IsTrue result ↔ IsFinding chosen.now history.now end (record { place = place; rule = rule }) }
 {

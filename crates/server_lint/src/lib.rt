@@ -7,9 +7,11 @@ mod pairs;
 mod rule;
 mod sender;
 mod single;
+mod text;
 mod transmission;
 
 pub use finding::{Finding, find_broken};
 pub use rule::{RULES, Rule};
 pub use sender::Sender;
+pub use text::finding_text;
 pub use transmission::Transmission;

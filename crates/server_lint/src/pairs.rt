@@ -37,7 +37,7 @@ fn has_same_bytes(earlier: &Transmission, t: &Transmission) -> bool
 }
 
 /// How many seconds after an earlier one it went.
-fn seconds_since(earlier: &Transmission, t: &Transmission) -> u32
+pub(crate) fn seconds_since(earlier: &Transmission, t: &Transmission) -> u32
     ensures { result ≡ seconds_since earlier.now t.now }
 {
     t.second().saturating_sub(earlier.second())
@@ -63,8 +63,7 @@ fn has_live_id(earlier: &Transmission, t: &Transmission) -> bool
         return false;
     };
     has_own_id(message.kind())
-        && (before.mid() == message.mid()
-            && seconds_since(earlier, t) < id_lifetime(before.kind()))
+        && (before.mid() == message.mid() && seconds_since(earlier, t) < id_lifetime(before.kind()))
 }
 
 /// Whether the server used its message ID in the earlier one, for other bytes.
@@ -98,8 +97,7 @@ fn has_id_answered(earlier: &Transmission, t: &Transmission) -> bool
         return false;
     };
     may_answer(before.kind(), message.kind())
-        && (before.mid() == message.mid()
-            && seconds_since(earlier, t) < id_lifetime(before.kind()))
+        && (before.mid() == message.mid() && seconds_since(earlier, t) < id_lifetime(before.kind()))
 }
 
 /// Whether a server acknowledges or resets in it what the device sent in the earlier one.
@@ -107,6 +105,5 @@ pub(crate) fn answers(earlier: &Transmission, t: &Transmission) -> bool
     ensures { result ≡ answers earlier.now t.now }
 {
     !is_from_server(earlier)
-        && (is_from_server(t)
-            && (earlier.server() == t.server() && has_id_answered(earlier, t)))
+        && (is_from_server(t) && (earlier.server() == t.server() && has_id_answered(earlier, t)))
 }

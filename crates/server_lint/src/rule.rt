@@ -1,6 +1,6 @@
 //! The rules that a server has to keep, and their names.
 ghost use Rattle.std.specs.Prelude.{◌≡◌};
-ghost use Rattle.server_lint.specs.Names.{rule_name};
+ghost use Rattle.server_lint.specs.Names.{rule_name, section_of, summary_of};
 
 /// A rule that a server breaks.
 #[derive(Clone, Copy, Debug, PartialEq, Eq)]
@@ -49,6 +49,48 @@ impl Rule {
             Rule::NotificationNotAcknowledged => "notification-not-acknowledged",
             Rule::UnknownCriticalOption => "unknown-critical-option",
             Rule::EmptyPathSegment => "empty-path-segment",
+        }
+    }
+
+    /// The section of RFC 7252 that has it.
+    pub fn section(self) -> &'static str
+        ensures { result.now ≡ section_of self }
+    {
+        match self {
+            Rule::NotAMessage => "3",
+            Rule::MessageIdReused => "4.4",
+            Rule::RepeatedTooSoon => "4.2",
+            Rule::RepeatedTooOften => "4.2",
+            Rule::AnswersNothing => "4.2",
+            Rule::NotificationNotAcknowledged => "4.2",
+            Rule::UnknownCriticalOption => "5.4.1",
+            Rule::EmptyPathSegment => "5.10.1",
+        }
+    }
+
+    /// What a server does that breaks it.
+    pub fn summary(self) -> &'static str
+        ensures { result.now ≡ summary_of self }
+    {
+        match self {
+            Rule::NotAMessage => "sends bytes that are not a message",
+            Rule::MessageIdReused => {
+                "uses a message ID again for other bytes before its lifetime has elapsed"
+            }
+            Rule::RepeatedTooSoon => {
+                "sends a confirmable message again less than 2 s after the one before"
+            }
+            Rule::RepeatedTooOften => {
+                "sends a confirmable message again more than 4 times within 247 s"
+            }
+            Rule::AnswersNothing => "acknowledges or resets nothing that the device sent",
+            Rule::NotificationNotAcknowledged => {
+                "neither acknowledges nor resets a confirmable message within 93 s"
+            }
+            Rule::UnknownCriticalOption => {
+                "sends a request with a critical option that devices do not recognize"
+            }
+            Rule::EmptyPathSegment => "sends a request whose path has an empty segment",
         }
     }
 }

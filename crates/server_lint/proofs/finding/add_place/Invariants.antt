@@ -7,6 +7,6 @@ abbrev pub invariant-loop-rule : goal.invariant-loop-rule
 invariant-loop-rule l = record {
   all : l.rule-items ≡ all_rules;
   those : (so_far : List Finding) → AreThose (IsFinding l.chosen l.history l.end) so_far l.fn.found.items
-  → AreThose (IsFinding l.chosen l.history l.end)
-  (so_far ++ map (λ rule. record { place = l.place; rule = rule }) (take l.rule-index l.rule-items)) l.found.items;
+      → AreThose (IsFinding l.chosen l.history l.end)
+      (so_far ++ map (λ rule. record { place = l.place; rule = rule }) (take l.rule-index l.rule-items)) l.found.items;
 }
