@@ -1,0 +1,30 @@
+-- What `lint` answers.
+use Rattle.std.proofs.Common.{◌≡◌, ℕ, List, [], ◌++◌, inl, inr, ap}
+use Rattle.std.specs.Prelude.{Option, None, Some, find}
+use Rattle.std.specs.String.{string_bytes}
+use Rattle.scenario_image.specs.Scenario.{Scenario}
+use Rattle.command_files.specs.Answers.{files_of}
+use Rattle.command_files.specs.Loading.{IsScenarioAt}
+use Rattle.command_files.specs.declared.answer.Answer.{Answer}
+use Rattle.command_files.specs.declared.status.Status.TheVariants.{Usage}
+use Rattle.command_lint.specs.Choice.{chosen_rules, is_unknown}
+use Rattle.command_lint.specs.Lines.{unknown_line}
+use Rattle.command_lint.specs.Lint.{IsLintDone, IsLinted}
+
+pub unknown_rule : (holds : List ℕ → List ℕ → Type 0) (path : List ℕ) (only excluded : List (List ℕ)) (answer : Answer)
+    (word : List ℕ) → find is_unknown (only ++ excluded) ≡ Some word → string_bytes answer.text ≡ unknown_line word
+    → answer.status ≡ Usage → answer.file ≡ None → IsLintDone holds path only excluded answer
+unknown_rule holds path only excluded answer word first text status file =
+    inl (record {
+      word = word;
+      first = first;
+      text_is = text;
+      status_is = status;
+      made_is = ap files_of file;
+    })
+
+pub linted : (holds : List ℕ → List ℕ → Type 0) (path : List ℕ) (only excluded : List (List ℕ)) (answer : Answer)
+    (s : Scenario) → find is_unknown (only ++ excluded) ≡ None → IsScenarioAt holds path s
+    → IsLinted (chosen_rules only excluded) s answer → IsLintDone holds path only excluded answer
+linted holds path only excluded answer s known read so =
+    inr (record { known = known; scenario = s; read = read; linted = so })
