@@ -1,6 +1,6 @@
 -- What `lint` answers.
-use Rattle.std.proofs.Common.{◌≡◌, ℕ, List, [], ◌++◌, inl, inr, ap}
-use Rattle.std.specs.Prelude.{Option, None, Some, find}
+use Rattle.std.proofs.Common.{◌≡◌, ℕ, List, ◌++◌, inl, inr, ap}
+use Rattle.std.specs.Prelude.{None, Some, find}
 use Rattle.std.specs.String.{string_bytes}
 use Rattle.scenario_image.specs.Scenario.{Scenario}
 use Rattle.command_files.specs.Answers.{files_of}

@@ -1,5 +1,5 @@
 -- Those elements of lists of which something holds.
-use Rattle.std.proofs.Common.{◌≡◌, List, [], ◌∷◌, ◌++◌, ◌⊎◌, inl, inr, refl, sym, ap, subst, map, ◌∙◌}
+use Rattle.std.proofs.Common.{List, [], ◌∷◌, ◌++◌, inl, inr, sym, ap, subst, map}
 use Rattle.server_lint.specs.Findings.{AreThose}
 
 -- of two lists, one after the other

@@ -1,7 +1,7 @@
 -- Words, seen through references.
-use Rattle.std.proofs.Common.{◌≡◌, ℕ, zero, suc, ◌+◌, ◌<◌, Bool, true, false, List, [], ◌∷◌, ◌++◌, length, get_or}
-use Rattle.std.proofs.Common.{take, map, refl, sym, ap, subst, ◌∙◌, cond, arith, ◌||◌}
-use Rattle.std.specs.Prelude.{Option, None, Some, find, option_map}
+use Rattle.std.proofs.Common.{◌≡◌, ℕ, zero, suc, ◌<◌, Bool, true, false, List, [], ◌∷◌, ◌++◌, length, get_or}
+use Rattle.std.proofs.Common.{take, map, refl, sym, ap, ◌∙◌, cond, arith, ◌||◌}
+use Rattle.std.specs.Prelude.{Option, None, Some, find}
 use Rattle.std.specs.List.{list_any}
 use Rattle.std.specs.Option.{option_or}
 use Rattle.std.proofs.lemmas.List.Folds.{find-append}

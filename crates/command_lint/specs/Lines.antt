@@ -11,21 +11,22 @@ use Rattle.server_lint.specs.Text.{finding_text}
 use Rattle.command_lint.specs.History.{end_of, history_of}
 use Rattle.command_lint.specs.declared.rows.Found.{Found}
 
--- `device D step K second S`
-abbrev pub place_words : ℕ → Transmission → List ℕ
-place_words device t =
-    codes "device " ++ decimal device ++ codes " step " ++ decimal t.step ++ codes " second " ++ decimal t.second
+-- `device D step K second S: WORDS`
+abbrev pub placed_line : ℕ → ℕ → ℕ → List ℕ → List ℕ
+placed_line device step second words =
+    ended_line (codes "device " ++ decimal device ++ codes " step " ++ decimal step ++ codes " second "
+    ++ decimal second ++ codes ": " ++ words)
 
--- `RULE: WHAT (RFC 7252 section N)`, of a datagram after these, in a history that ends in this second
-abbrev pub said_words : Rule → List Transmission → Transmission → ℕ → List ℕ
-said_words rule before t end =
-    rule_name rule ++ codes ": " ++ finding_text rule before t end ++ codes " (RFC 7252 section " ++ section_of rule
-    ++ codes ")"
+-- `RULE: WORDS (RFC 7252 section N)`
+abbrev pub broken_words : List ℕ → List ℕ → List ℕ → List ℕ
+broken_words name words section =
+    name ++ codes ": " ++ words ++ codes " (RFC 7252 section " ++ section ++ codes ")"
 
--- `device D step K second S: RULE: WHAT (RFC 7252 section N)`
+-- the line of a rule that a datagram breaks which stands after these, in a history that ends in this second
 abbrev pub line_of : ℕ → Rule → List Transmission → Transmission → ℕ → List ℕ
 line_of device rule before t end =
-    ended_line (place_words device t ++ codes ": " ++ said_words rule before t end)
+    placed_line device t.step t.second
+    (broken_words (rule_name rule) (finding_text rule before t end) (section_of rule))
 
 -- the line of a finding in a history that ends in this second
 abbrev pub line_at : ℕ → List Transmission → ℕ → Finding → Option Transmission → List ℕ
@@ -44,12 +45,11 @@ abbrev pub count_line : ℕ → List ℕ
 count_line n = ended_line (decimal n ++ codes " findings")
 
 -- `RULE (RFC 7252 section N): a server WHAT`
-abbrev pub rule_words : Rule → List ℕ
-rule_words rule =
-    rule_name rule ++ codes " (RFC 7252 section " ++ section_of rule ++ codes "): a server " ++ summary_of rule
+abbrev pub rule_words : List ℕ → List ℕ → List ℕ → List ℕ
+rule_words name section summary = name ++ codes " (RFC 7252 section " ++ section ++ codes "): a server " ++ summary
 
 abbrev pub rule_line : Rule → List ℕ
-rule_line rule = ended_line (rule_words rule)
+rule_line rule = ended_line (rule_words (rule_name rule) (section_of rule) (summary_of rule))
 
 -- a word that is the name of no rule
 abbrev pub unknown_line : List ℕ → List ℕ

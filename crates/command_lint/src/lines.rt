@@ -4,7 +4,7 @@ ghost use Rattle.std.specs.List.{flat_map};
 ghost use Rattle.std.specs.String.{string_bytes};
 ghost use Rattle.server_lint.specs.Findings.{all_rules};
 ghost use Rattle.scenario_words.specs.Words.{ended_line};
-ghost use Rattle.command_lint.specs.Lines.{count_line, line_in, line_of, rule_line, rule_words, unknown_line, place_words, said_words};
+ghost use Rattle.command_lint.specs.Lines.{broken_words, count_line, line_in, line_of, placed_line, rule_line, rule_words, unknown_line};
 
 use server_lint::{Finding, RULES, Rule, Transmission, finding_text};
 use std::alloc::{AllocError, Global};
@@ -16,28 +16,23 @@ fn ended_line(alloc: Global, line: &str) -> Result<String, AllocError>
     format!(in alloc; "{line}\n")
 }
 
-/// Where a finding is.
-fn place_words(alloc: Global, device: u16, t: &Transmission) -> Result<String, AllocError>
-    ensures { IfOk result (λ text. string_bytes text ≡ place_words device t.now) }
+/// The line of words about a step of a device.
+fn placed_line(
+    alloc: Global,
+    device: u16,
+    step: u32,
+    second: u32,
+    words: &str,
+) -> Result<String, AllocError>
+    ensures { IfOk result (λ text. string_bytes text ≡ placed_line device step second words.now) }
 {
-    let step = t.step();
-    let second = t.second();
-    format!(in alloc; "device {device} step {step} second {second}")
+    format!(in alloc; "device {device} step {step} second {second}: {words}\n")
 }
 
-/// What is said of a rule that a datagram breaks which stands after these, in a history that ends in this second.
-fn said_words(
-    alloc: Global,
-    rule: Rule,
-    before: &[Transmission],
-    t: &Transmission,
-    end: u32,
-) -> Result<String, AllocError>
-    ensures { IfOk result (λ text. string_bytes text ≡ said_words rule before.now t.now end) }
+/// What is said of a rule that is broken.
+fn broken_words(alloc: Global, name: &str, words: &str, section: &str) -> Result<String, AllocError>
+    ensures { IfOk result (λ text. string_bytes text ≡ broken_words name.now words.now section.now) }
 {
-    let name = rule.name();
-    let section = rule.section();
-    let words = finding_text(alloc, rule, before, t, end)?;
     format!(in alloc; "{name}: {words} (RFC 7252 section {section})")
 }
 
@@ -52,10 +47,9 @@ fn line_of(
 ) -> Result<String, AllocError>
     ensures { IfOk result (λ text. string_bytes text ≡ line_of device rule before.now t.now end) }
 {
-    let place = place_words(alloc, device, t)?;
-    let words = said_words(alloc, rule, before, t, end)?;
-    let line = format!(in alloc; "{place}: {words}")?;
-    ended_line(alloc, line.as_str())
+    let text = finding_text(alloc, rule, before, t, end)?;
+    let words = broken_words(alloc, rule.name(), text.as_str(), rule.section())?;
+    placed_line(alloc, device, t.step(), t.second(), words.as_str())
 }
 
 /// The line of a finding in a history that ends in this second.
@@ -98,19 +92,16 @@ pub(crate) fn unknown_line(alloc: Global, word: &str) -> Result<String, AllocErr
 }
 
 /// What is told of a rule.
-fn rule_words(alloc: Global, rule: Rule) -> Result<String, AllocError>
-    ensures { IfOk result (λ text. string_bytes text ≡ rule_words rule) }
+fn rule_words(alloc: Global, name: &str, section: &str, summary: &str) -> Result<String, AllocError>
+    ensures { IfOk result (λ text. string_bytes text ≡ rule_words name.now section.now summary.now) }
 {
-    let name = rule.name();
-    let section = rule.section();
-    let summary = rule.summary();
     format!(in alloc; "{name} (RFC 7252 section {section}): a server {summary}")
 }
 
 fn rule_line(alloc: Global, rule: Rule) -> Result<String, AllocError>
     ensures { IfOk result (λ text. string_bytes text ≡ rule_line rule) }
 {
-    let words = rule_words(alloc, rule)?;
+    let words = rule_words(alloc, rule.name(), rule.section(), rule.summary())?;
     ended_line(alloc, words.as_str())
 }
 
