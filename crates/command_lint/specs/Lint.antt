@@ -1,15 +1,19 @@
--- What `lint IMAGE [--only RULE].. [--not RULE]..` comes to: the findings that are printed, and what is refused.
+-- What `lint FILE [--only RULE].. [--not RULE]..` comes to: the findings that are printed, and what is refused.
 --
 -- Two relations say what is known of the files: `holds path bytes`, the file at the path had these bytes when it was
 -- read; `fails path`, it could not be read.
-use Rattle.std.specs.Prelude.{ℕ, zero, suc, ◌≡◌, ◌⊎◌, List, [], ◌∷◌, ◌++◌, length, map, find, None, Some}
+use Rattle.std.specs.Prelude.{⊤, ℕ, zero, suc, ◌≡◌, ◌⊎◌, List, [], ◌∷◌, ◌++◌, length, map, find, None, Some}
 use Rattle.std.specs.List.{flat_map}
 use Rattle.std.specs.String.{string_bytes}
 use Rattle.scenario_image.specs.Scenario.{Scenario}
 use Rattle.server_lint.specs.declared.rule.Rule.{Rule}
 use Rattle.server_lint.specs.Findings.{AreThose, IsFinding, all_rules, candidates}
 use Rattle.command_files.specs.Answers.{files_of}
-use Rattle.command_files.specs.Loading.{IsScenarioAt}
+use Rattle.command_files.specs.Fault.{IsReadingFault}
+use Rattle.command_files.specs.Loading.{IsHeld}
+use Rattle.command_files.specs.declared.fault.Fault.{Fault}
+use Rattle.command_files.specs.declared.fault.Fault.TheVariants as faults
+use Rattle.command_sources.specs.Sources.{IsNoScenario, IsScenarioOf}
 use Rattle.command_files.specs.declared.answer.Answer.{Answer}
 use Rattle.command_files.specs.declared.status.Status.{Status}
 use Rattle.command_files.specs.declared.status.Status.TheVariants.{Done, NotRun, Usage}
@@ -49,15 +53,15 @@ pub record IsLinted (chosen : List Rule) (s : Scenario) (answer : Answer) : Type
   pub status_is : answer.status ≡ status_of found
   pub made_is : files_of answer.file ≡ []
 
--- the words name rules, and the scenario of the image is linted by those that they choose
+-- the words name rules, and the scenario whose image or text the file is is linted by those that they choose
 pub record IsChosenLinted (holds : List ℕ → List ℕ → Type 0) (path : List ℕ) (only excluded : List (List ℕ))
     (answer : Answer) : Type 0 where
   pub known : find is_unknown (only ++ excluded) ≡ None
   pub scenario : Scenario
-  pub read : IsScenarioAt holds path scenario
+  pub read : IsHeld holds path (λ bytes. IsScenarioOf bytes scenario)
   pub linted : IsLinted (chosen_rules only excluded) scenario answer
 
--- the first word that is the name of no rule is told; the image is not read
+-- the first word that is the name of no rule is told; the file is not read
 pub record IsUnknownRule (only excluded : List (List ℕ)) (answer : Answer) : Type 0 where
   pub word : List ℕ
   pub first : find is_unknown (only ++ excluded) ≡ Some word
@@ -68,6 +72,18 @@ pub record IsUnknownRule (only excluded : List (List ℕ)) (answer : Answer) : T
 abbrev pub IsLintDone : (List ℕ → List ℕ → Type 0) → List ℕ → List (List ℕ) → List (List ℕ) → Answer → Type 0
 IsLintDone holds path only excluded answer =
     IsUnknownRule only excluded answer ⊎ IsChosenLinted holds path only excluded answer
+
+-- the file could not be read, or is neither an image nor a text
+abbrev pub IsUnread : (List ℕ → List ℕ → Type 0) → (List ℕ → Type 0) → List ℕ → Fault → Type 0
+IsUnread holds fails path fault =
+    IsReadingFault (fails path) fault ⊎ IsHeld holds path (λ bytes. IsNoScenario bytes fault)
+
+-- no memory was left; else the words name rules, and the file is to blame
+abbrev pub IsLintFault : (List ℕ → List ℕ → Type 0) → (List ℕ → Type 0) → List ℕ → List (List ℕ) → List (List ℕ)
+    → Fault → Type 0
+IsLintFault holds fails path only excluded faults.Memory = ⊤
+IsLintFault holds fails path only excluded fault =
+    (find is_unknown (only ++ excluded) ≡ None) × IsUnread holds fails path fault
 
 -- ---- `lint --rules`
 
