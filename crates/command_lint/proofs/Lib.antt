@@ -1,0 +1,5 @@
+pub mod Steps
+pub mod Those
+pub mod Adding
+pub mod Words
+pub mod Linted

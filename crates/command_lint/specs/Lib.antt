@@ -1,0 +1,4 @@
+pub mod History
+pub mod Choice
+pub mod Lines
+pub mod Lint

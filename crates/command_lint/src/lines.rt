@@ -1,0 +1,125 @@
+//! The lines of findings and of rules.
+ghost use Rattle.std.specs.Prelude.{◌≡◌, IfOk};
+ghost use Rattle.std.specs.List.{flat_map};
+ghost use Rattle.std.specs.String.{string_bytes};
+ghost use Rattle.server_lint.specs.Findings.{all_rules};
+ghost use Rattle.scenario_words.specs.Words.{ended_line};
+ghost use Rattle.command_lint.specs.Lines.{broken_words, count_line, line_in, line_of, placed_line, rule_line, rule_words, unknown_line};
+
+use server_lint::{Finding, RULES, Rule, Transmission, finding_text};
+use std::alloc::{AllocError, Global};
+
+/// A line, with its line feed.
+fn ended_line(alloc: Global, line: &str) -> Result<String, AllocError>
+    ensures { IfOk result (λ text. string_bytes text ≡ ended_line line.now) }
+{
+    format!(in alloc; "{line}\n")
+}
+
+/// The line of words about a step of a device.
+fn placed_line(
+    alloc: Global,
+    device: u16,
+    step: u32,
+    second: u32,
+    words: &str,
+) -> Result<String, AllocError>
+    ensures { IfOk result (λ text. string_bytes text ≡ placed_line device step second words.now) }
+{
+    format!(in alloc; "device {device} step {step} second {second}: {words}\n")
+}
+
+/// What is said of a rule that is broken.
+fn broken_words(alloc: Global, name: &str, words: &str, section: &str) -> Result<String, AllocError>
+    ensures { IfOk result (λ text. string_bytes text ≡ broken_words name.now words.now section.now) }
+{
+    format!(in alloc; "{name}: {words} (RFC 7252 section {section})")
+}
+
+/// The line of a rule that a datagram breaks which stands after these, in a history that ends in this second.
+fn line_of(
+    alloc: Global,
+    device: u16,
+    rule: Rule,
+    before: &[Transmission],
+    t: &Transmission,
+    end: u32,
+) -> Result<String, AllocError>
+    ensures { IfOk result (λ text. string_bytes text ≡ line_of device rule before.now t.now end) }
+{
+    let text = finding_text(alloc, rule, before, t, end)?;
+    let words = broken_words(alloc, rule.name(), text.as_str(), rule.section())?;
+    placed_line(alloc, device, t.step(), t.second(), words.as_str())
+}
+
+/// The line of a finding in a history that ends in this second.
+pub(crate) fn line_in(
+    alloc: Global,
+    device: u16,
+    history: &[Transmission],
+    end: u32,
+    finding: Finding,
+) -> Result<String, AllocError>
+    ensures { IfOk result (λ text. string_bytes text ≡ line_in device history.now end finding) }
+{
+    match history.get(finding.place) {
+        None => Ok(String::new(alloc)),
+        Some(t) => line_of(
+            alloc,
+            device,
+            finding.rule,
+            &history[..finding.place],
+            t,
+            end,
+        ),
+    }
+}
+
+/// The line that counts findings.
+pub(crate) fn count_line(alloc: Global, count: usize) -> Result<String, AllocError>
+    ensures { IfOk result (λ text. string_bytes text ≡ count_line count) }
+{
+    let words = format!(in alloc; "{count} findings")?;
+    ended_line(alloc, words.as_str())
+}
+
+/// The line of a word that is the name of no rule.
+pub(crate) fn unknown_line(alloc: Global, word: &str) -> Result<String, AllocError>
+    ensures { IfOk result (λ text. string_bytes text ≡ unknown_line word.now) }
+{
+    let words = format!(in alloc; "no such rule: {word}")?;
+    ended_line(alloc, words.as_str())
+}
+
+/// What is told of a rule.
+fn rule_words(alloc: Global, name: &str, section: &str, summary: &str) -> Result<String, AllocError>
+    ensures { IfOk result (λ text. string_bytes text ≡ rule_words name.now section.now summary.now) }
+{
+    format!(in alloc; "{name} (RFC 7252 section {section}): a server {summary}")
+}
+
+fn rule_line(alloc: Global, rule: Rule) -> Result<String, AllocError>
+    ensures { IfOk result (λ text. string_bytes text ≡ rule_line rule) }
+{
+    let words = rule_words(alloc, rule.name(), rule.section(), rule.summary())?;
+    ended_line(alloc, words.as_str())
+}
+
+/// The lines of these rules.
+fn lines_of(alloc: Global, rules: &[Rule]) -> Result<String, AllocError>
+    ensures { IfOk result (λ text. string_bytes text ≡ flat_map rule_line rules.now) }
+{
+    let mut text = String::new(alloc);
+    for rule in rules {
+        let line = rule_line(alloc, *rule)?;
+        text.push_str(line.as_str())?;
+    }
+    Ok(text)
+}
+
+/// The lines of all rules.
+pub(crate) fn rule_lines(alloc: Global) -> Result<String, AllocError>
+    ensures { IfOk result (λ text. string_bytes text ≡ flat_map rule_line all_rules) }
+{
+    lines_of(alloc, &RULES)
+}

@@ -1,0 +1,46 @@
+-- What a finding says.
+use Rattle.std.specs.Prelude.{ℕ, ◌-◌, Bool, List, [], ◌++◌, Option, None, Some, codes, count_by, find, reverse}
+use Rattle.std.specs.Fmt.{decimal}
+use Rattle.coap_codec.specs.Message.{Message}
+use Rattle.coap_codec.specs.Reading.{reading_of}
+use Rattle.message_words.specs.Text.{reading_text}
+use Rattle.server_lint.specs.declared.rule.Rule.{Rule}
+use Rattle.server_lint.specs.declared.rule.Rule.TheVariants.{NotAMessage, MessageIdReused, RepeatedTooSoon}
+use Rattle.server_lint.specs.declared.rule.Rule.TheVariants.{RepeatedTooOften, AnswersNothing}
+use Rattle.server_lint.specs.declared.rule.Rule.TheVariants.{NotificationNotAcknowledged, UnknownCriticalOption}
+use Rattle.server_lint.specs.declared.rule.Rule.TheVariants.{EmptyPathSegment}
+use Rattle.server_lint.specs.History.{Transmission, message_of, seconds_since}
+use Rattle.server_lint.specs.Pairs.{is_again_within, reuses_id}
+
+abbrev pub seconds_after : Transmission → Option Transmission → ℕ
+seconds_after t None = 0
+seconds_after t (Some earlier) = seconds_since earlier t
+
+-- how many seconds after the last earlier one that passes a test with it
+abbrev pub seconds_since_last : (Transmission → Transmission → Bool) → List Transmission → Transmission → ℕ
+seconds_since_last test before t = seconds_after t (find (λ earlier. test earlier t) (reverse before))
+
+-- what was done with a message ID, by a datagram after these, in a history that ends in this second
+abbrev pub deed_of : Rule → List Transmission → Transmission → ℕ → List ℕ
+deed_of NotAMessage before t end = []
+deed_of MessageIdReused before t end =
+    codes " again for other bytes after " ++ decimal (seconds_since_last reuses_id before t) ++ codes " s"
+deed_of RepeatedTooSoon before t end =
+    codes " sent again after " ++ decimal (seconds_since_last (is_again_within 2) before t) ++ codes " s"
+deed_of RepeatedTooOften before t end =
+    codes " sent again " ++ decimal (count_by (λ earlier. is_again_within 247 earlier t) before)
+    ++ codes " times within 247 s"
+deed_of AnswersNothing before t end = codes " answers nothing that was sent"
+deed_of NotificationNotAcknowledged before t end =
+    codes " neither acknowledged nor reset in the " ++ decimal (end - t.second) ++ codes " s after it"
+deed_of UnknownCriticalOption before t end = codes " has a critical option that is not recognized"
+deed_of EmptyPathSegment before t end = codes " has an empty segment in its path"
+
+-- of a message its ID and what was done with it, of other bytes why they are not a message
+abbrev pub text_about : Option Message → Rule → List Transmission → Transmission → ℕ → List ℕ
+text_about None rule before t end = reading_text (reading_of t.bytes)
+text_about (Some m) rule before t end = codes "message ID " ++ decimal m.mid ++ deed_of rule before t end
+
+-- what a finding by this rule says of the datagram after these, in a history that ends in this second
+abbrev pub finding_text : Rule → List Transmission → Transmission → ℕ → List ℕ
+finding_text rule before t end = text_about (message_of t) rule before t end

@@ -1,0 +1,17 @@
+//! What a server did wrong in the history of a device, by rules of RFC 7252.
+#![tactic(auto)]
+
+mod breaking;
+mod finding;
+mod pairs;
+mod rule;
+mod sender;
+mod single;
+mod text;
+mod transmission;
+
+pub use finding::{Finding, find_broken};
+pub use rule::{RULES, Rule};
+pub use sender::Sender;
+pub use text::finding_text;
+pub use transmission::Transmission;

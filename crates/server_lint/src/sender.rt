@@ -1,0 +1,8 @@
+/// Who sent a datagram.
+#[derive(Clone, Copy, Debug, PartialEq, Eq)]
+pub enum Sender {
+    /// A server, to the device.
+    Server,
+    /// The device, to a server.
+    Device,
+}
