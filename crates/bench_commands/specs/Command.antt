@@ -28,6 +28,7 @@ use Rattle.command_live.specs.Live.{IsLiveDone, IsLiveFault}
 use Rattle.command_files.specs.Refusals.{IsTold}
 use Rattle.command_join.specs.Join.{IsJoinDone, IsJoinFault}
 use Rattle.command_json.specs.Told.{IsToldInJson}
+use Rattle.command_lint.specs.Lint.{IsLintDone, IsLintFault}
 use Rattle.command_files.specs.Status.{text_status}
 use Rattle.command_play.specs.Play.{IsPlayDone, IsPlayFault}
 use Rattle.command_play.specs.declared.form.PlayForm.{PlayForm}
@@ -105,6 +106,8 @@ IsDone holds (jobs.Test files only form junit) answer =
     (option_map (λ p. p.now) junit) answer
 IsDone holds (jobs.Join output images) answer =
     IsJoinDone holds output.now (map (λ p. p.now) images.items) answer
+IsDone holds (jobs.Lint file only except) answer =
+    IsLintDone holds (option_map (λ p. p.now) file) (map (λ w. w.now) only.items) (map (λ w. w.now) except.items) answer
 
 -- a job is refused for this fault
 abbrev pub IsRefusedJob : (List ℕ → List ℕ → Type 0) → (List ℕ → Type 0) → Job → Fault → Type 0
@@ -132,6 +135,9 @@ IsRefusedJob holds fails (jobs.Test files only form junit) fault =
     IsTestFault holds fails (map (λ p. p.now) files.items) (option_map (λ w. w.now) only) fault
 IsRefusedJob holds fails (jobs.Join output images) fault =
     (about : Option (List ℕ)) × IsJoinFault holds fails (map (λ p. p.now) images.items) about fault
+IsRefusedJob holds fails (jobs.Lint file only except) fault =
+    IsLintFault holds fails (option_map (λ p. p.now) file) (map (λ w. w.now) only.items)
+    (map (λ w. w.now) except.items) fault
 
 -- what words are answered with; a text on how to use the program is printed as it is
 abbrev pub IsAnswerTo : (List ℕ → List ℕ → Type 0) → Asked → Answer → Type 0

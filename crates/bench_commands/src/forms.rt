@@ -44,7 +44,8 @@ pub(crate) fn job_wants_json(job: &Job) -> bool
         | Job::Pcap { .. }
         | Job::Debug { .. }
         | Job::Titles { .. }
-        | Job::Join { .. } => false,
+        | Job::Join { .. }
+        | Job::Lint { .. } => false,
     }
 }
 

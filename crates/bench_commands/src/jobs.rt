@@ -13,6 +13,7 @@ use command_files::files::Files;
 use command_files::{Answer, Input, Output, Refusal};
 use command_join::join;
 use command_line::{Job, TraceForm as AskedForm};
+use command_lint::lint;
 use command_play::play;
 use command_scenarios::{asm, check, check_json, dis, run};
 use command_test::{test, titles};
@@ -191,6 +192,10 @@ pub(crate) fn answer_to<'a, R: Threads + Wait + Sync, F: Files, I: Input, O: Out
             images,
         } => {
             let answer = join(alloc, path, images.as_slice(), files)?;
+            Ok(Some(answer))
+        }
+        Job::Lint { file, only, except } => {
+            let answer = lint(alloc, file, only.as_slice(), except.as_slice(), files)?;
             Ok(Some(answer))
         }
     }

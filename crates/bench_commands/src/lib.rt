@@ -8,6 +8,7 @@
 //! | `play` | `command_play` |
 //! | `asm`, `dis`, `run`, `check` | `command_scenarios` |
 //! | `join` | `command_join` |
+//! | `lint` | `command_lint` |
 //! | `show`, `pcap` | `command_traces` |
 //! | `debug` | `command_debug` |
 //! | `test` | `command_test` |

@@ -172,10 +172,10 @@ join_app = with_rule (with_rule (new_app (codes "join")) (needed (codes "OUT")))
 abbrev pub with_rules : App → App
 with_rules a = with_rule (with_rule a (text_options (codes "only"))) (text_options (codes "not"))
 
--- `lint [IMAGE] [--only RULE] .. [--not RULE] .. [--rules]`
+-- `lint [FILE] [--only RULE] .. [--not RULE] .. [--rules]`
 abbrev pub lint_app : App
 lint_app =
-    with_rule (with_rules (with_rule (new_app (codes "lint")) (may_stand (codes "IMAGE")))) (flag (codes "rules"))
+    with_rule (with_rules (with_rule (new_app (codes "lint")) (may_stand (codes "FILE")))) (flag (codes "rules"))
 
 -- `FILE .. [--only WORDS]`
 abbrev pub with_cases : App → App
@@ -229,9 +229,9 @@ LacksFleet rows =
 abbrev pub LacksJoin : List Row → Type 0
 LacksJoin rows = (first_of (codes "OUT") rows ≡ None) ⊎ (all_of (codes "IMAGE") rows ≡ None)
 
--- `lint` has neither an image nor `--rules`, or both
+-- `lint` has neither a file nor `--rules`, or both
 abbrev pub LacksLint : List Row → Type 0
-LacksLint rows = is_set (codes "rules") rows ≡ is_some (first_of (codes "IMAGE") rows)
+LacksLint rows = is_set (codes "rules") rows ≡ is_some (first_of (codes "FILE") rows)
 
 -- `--list` stands beside `--tap`, `--json` or `--junit`, of which each wants cases that are played
 abbrev pub ListsAndPlays : List Row → Type 0

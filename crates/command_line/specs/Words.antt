@@ -128,8 +128,8 @@ commands =
     ∷ flag (codes "show") ∷ flag (codes "json") ∷ [])
     -- `join OUT IMAGE ..`
     ∷ command (codes "join") (needed (codes "OUT") ∷ several (codes "IMAGE") ∷ [])
-    -- `lint IMAGE [--only RULE] .. [--not RULE] ..`, `lint --rules [--only RULE] .. [--not RULE] ..`
-    ∷ command (codes "lint") (may_stand (codes "IMAGE") ∷ text_options (codes "only") ∷ text_options (codes "not")
+    -- `lint FILE [--only RULE] .. [--not RULE] ..`, `lint --rules [--only RULE] .. [--not RULE] ..`
+    ∷ command (codes "lint") (may_stand (codes "FILE") ∷ text_options (codes "only") ∷ text_options (codes "not")
     ∷ flag (codes "rules") ∷ [])
     -- `test FILE .. [--only WORDS] [--list] [--tap] [--json] [--junit FILE]`
     ∷ command (codes "test") (several (codes "FILE") ∷ text_option (codes "only") ∷ flag (codes "list")
@@ -239,10 +239,10 @@ AsksFor found (jobs.Test files only form junit) =
 AsksFor found (jobs.Join output images) =
     (found.0 ≡ codes "join") × IsText found (codes "OUT") output.now
     × AreTexts found (codes "IMAGE") (map (λ p. p.now) images.items)
--- `--rules` stands in the place of an image
-AsksFor found (jobs.Lint image only except) =
-    (found.0 ≡ codes "lint") × (first_of (codes "IMAGE") found.1 ≡ option_map (λ p. p.now) image)
-    × (is_set (codes "rules") found.1 ≡ not (is_some image))
+-- `--rules` stands in the place of a file
+AsksFor found (jobs.Lint file only except) =
+    (found.0 ≡ codes "lint") × (first_of (codes "FILE") found.1 ≡ option_map (λ p. p.now) file)
+    × (is_set (codes "rules") found.1 ≡ not (is_some file))
     × (unwrap_or (all_of (codes "only") found.1) [] ≡ map (λ w. w.now) only.items)
     × (unwrap_or (all_of (codes "not") found.1) [] ≡ map (λ w. w.now) except.items)
 

@@ -223,11 +223,13 @@ Example:
   lwbench join night.image 0-999=first.image 1000-1999=second.image";
 
 pub const LINT: &str =
-    "Reads IMAGE, as `fleet` and `live` save it. Goes through the datagrams of each device, those that servers sent and
-those that the device sends, and prints a line for each rule that a server breaks, and at the end
+    "Reads FILE: what begins with LWSC is a scenario's image, as `fleet` and `live` save it, any other file its text.
+Goes through the datagrams of each device, those that servers sent and those that the device sends, and
+prints a line for each of them that breaks a rule, and at the end how many
+  device D step K second S: RULE: WORDS (RFC 7252 section N)
   N findings
 The status is 3 if there is one. With `--only` these rules alone are looked at, with `--not` all but these.
-With `--rules` reads no file, and prints them. Writes no file.
+With `--rules` in the place of FILE prints the rules. Writes no file.
 
 Example:
   lwbench lint night.image --not repeated-too-soon";

@@ -213,13 +213,9 @@ fn rules_job<'a>(
     ensures some { IfSome result (AsksFor (codes "lint", rows_of (found_of found.now))) }
     ensures none { IfNone result (LacksLint (rows_of (found_of found.now))) }
 {
-    let image = value_of(found, "IMAGE");
-    match (image, flag(found, "rules")) {
-        (Some(_), false) | (None, true) => Some(Job::Lint {
-            image,
-            only,
-            except,
-        }),
+    let file = value_of(found, "FILE");
+    match (file, flag(found, "rules")) {
+        (Some(_), false) | (None, true) => Some(Job::Lint { file, only, except }),
         _ => None,
     }
 }

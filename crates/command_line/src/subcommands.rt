@@ -341,14 +341,11 @@ fn join_command<'a>(alloc: Global) -> Result<Command<'a>, AllocError>
 fn lint_command<'a>(alloc: Global) -> Result<Command<'a>, AllocError>
     ensures { IfOk result (λ c. app_of c ≡ lint_app) }
 {
-    let about = "Says what servers did wrong in the steps of a scenario";
-    let image = may_stand(alloc, "IMAGE").help("The scenario, as an image");
-    let rules = flag(alloc, "rules").help("Prints the rules, and reads no image");
-    with_rules(
-        alloc,
-        described(alloc, "lint", about, help::LINT).arg(image)?,
-    )?
-    .arg(rules)
+    let about = "Finds what servers did wrong in the steps of a scenario";
+    let file = may_stand(alloc, "FILE").help("The scenario, as text or as an image");
+    let rules = flag(alloc, "rules").help("Prints the rules, and reads no file");
+    let lint = described(alloc, "lint", about, help::LINT).arg(file)?;
+    with_rules(alloc, lint)?.arg(rules)
 }
 
 /// Adds the words for the rules that are looked at.

@@ -188,11 +188,11 @@ pub enum Job<'a> {
     },
     /// What servers did wrong in the steps of a scenario.
     Lint {
-        /// The path of the scenario's image; where it is not given, the rules are printed.
-        image: Option<&'a str>,
-        /// The names of the rules that are looked at; none: all.
+        /// The path of the scenario's text or image; where it is not given, the rules are printed.
+        file: Option<&'a str>,
+        /// The names of the rules that are looked at; where there is none, all are.
         only: Vec<&'a str>,
-        /// The names of the rules that are not.
+        /// The names of the rules that are not looked at.
         except: Vec<&'a str>,
     },
 }

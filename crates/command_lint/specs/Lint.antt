@@ -1,13 +1,14 @@
--- What `lint FILE [--only RULE].. [--not RULE]..` comes to: the findings that are printed, and what is refused.
+-- What `lint FILE [--only RULE] .. [--not RULE] ..` comes to: the findings that are printed, and what is refused; and
+-- `lint --rules`, which names no file.
 --
 -- Two relations say what is known of the files: `holds path bytes`, the file at the path had these bytes when it was
 -- read; `fails path`, it could not be read.
-use Rattle.std.specs.Prelude.{⊤, ℕ, zero, suc, ◌≡◌, ◌⊎◌, List, [], ◌∷◌, ◌++◌, length, map, find, None, Some}
+use Rattle.std.specs.Prelude.{⊤, ℕ, zero, suc, ◌≡◌, ◌⊎◌, List, [], ◌∷◌, ◌++◌, length, map, find, Option, None, Some}
 use Rattle.std.specs.List.{flat_map}
 use Rattle.std.specs.String.{string_bytes}
 use Rattle.scenario_image.specs.Scenario.{Scenario}
 use Rattle.server_lint.specs.declared.rule.Rule.{Rule}
-use Rattle.server_lint.specs.Findings.{AreThose, IsFinding, all_rules, candidates}
+use Rattle.server_lint.specs.Findings.{AreThose, IsFinding, candidates}
 use Rattle.command_files.specs.Answers.{files_of}
 use Rattle.command_files.specs.Fault.{IsReadingFault}
 use Rattle.command_files.specs.Loading.{IsHeld}
@@ -53,13 +54,29 @@ pub record IsLinted (chosen : List Rule) (s : Scenario) (answer : Answer) : Type
   pub status_is : answer.status ≡ status_of found
   pub made_is : files_of answer.file ≡ []
 
--- the words name rules, and the scenario whose image or text the file is is linted by those that they choose
-pub record IsChosenLinted (holds : List ℕ → List ℕ → Type 0) (path : List ℕ) (only excluded : List (List ℕ))
-    (answer : Answer) : Type 0 where
-  pub known : find is_unknown (only ++ excluded) ≡ None
+-- the scenario whose image or text the file is is linted by these rules
+pub record IsFileLinted (holds : List ℕ → List ℕ → Type 0) (path : List ℕ) (chosen : List Rule) (answer : Answer)
+    : Type 0 where
   pub scenario : Scenario
   pub read : IsHeld holds path (λ bytes. IsScenarioOf bytes scenario)
-  pub linted : IsLinted (chosen_rules only excluded) scenario answer
+  pub linted : IsLinted chosen scenario answer
+
+-- a line for each of these rules
+pub record AreRulesTold (chosen : List Rule) (answer : Answer) : Type 0 where
+  pub text_is : string_bytes answer.text ≡ flat_map rule_line chosen
+  pub status_is : answer.status ≡ Done
+  pub made_is : files_of answer.file ≡ []
+
+-- what is answered with these rules: what breaks them, where a file is named; else they are told
+abbrev pub IsAnsweredBy : (List ℕ → List ℕ → Type 0) → Option (List ℕ) → List Rule → Answer → Type 0
+IsAnsweredBy holds None chosen answer = AreRulesTold chosen answer
+IsAnsweredBy holds (Some path) chosen answer = IsFileLinted holds path chosen answer
+
+-- the words name rules, and those that they choose are answered with
+pub record IsChosenAnswered (holds : List ℕ → List ℕ → Type 0) (path : Option (List ℕ))
+    (only excluded : List (List ℕ)) (answer : Answer) : Type 0 where
+  pub known : find is_unknown (only ++ excluded) ≡ None
+  pub answered : IsAnsweredBy holds path (chosen_rules only excluded) answer
 
 -- the first word that is the name of no rule is told; the file is not read
 pub record IsUnknownRule (only excluded : List (List ℕ)) (answer : Answer) : Type 0 where
@@ -69,26 +86,19 @@ pub record IsUnknownRule (only excluded : List (List ℕ)) (answer : Answer) : T
   pub status_is : answer.status ≡ Usage
   pub made_is : files_of answer.file ≡ []
 
-abbrev pub IsLintDone : (List ℕ → List ℕ → Type 0) → List ℕ → List (List ℕ) → List (List ℕ) → Answer → Type 0
+abbrev pub IsLintDone : (List ℕ → List ℕ → Type 0) → Option (List ℕ) → List (List ℕ) → List (List ℕ) → Answer → Type 0
 IsLintDone holds path only excluded answer =
-    IsUnknownRule only excluded answer ⊎ IsChosenLinted holds path only excluded answer
+    IsUnknownRule only excluded answer ⊎ IsChosenAnswered holds path only excluded answer
 
--- the file could not be read, or is neither an image nor a text
-abbrev pub IsUnread : (List ℕ → List ℕ → Type 0) → (List ℕ → Type 0) → List ℕ → Fault → Type 0
-IsUnread holds fails path fault =
+-- a file is named, and could not be read, or is neither an image nor a text
+abbrev pub IsUnread : (List ℕ → List ℕ → Type 0) → (List ℕ → Type 0) → Option (List ℕ) → Fault → Type 0
+IsUnread holds fails None fault = ⊥
+IsUnread holds fails (Some path) fault =
     IsReadingFault (fails path) fault ⊎ IsHeld holds path (λ bytes. IsNoScenario bytes fault)
 
 -- no memory was left; else the words name rules, and the file is to blame
-abbrev pub IsLintFault : (List ℕ → List ℕ → Type 0) → (List ℕ → Type 0) → List ℕ → List (List ℕ) → List (List ℕ)
-    → Fault → Type 0
+abbrev pub IsLintFault : (List ℕ → List ℕ → Type 0) → (List ℕ → Type 0) → Option (List ℕ) → List (List ℕ)
+    → List (List ℕ) → Fault → Type 0
 IsLintFault holds fails path only excluded faults.Memory = ⊤
 IsLintFault holds fails path only excluded fault =
     (find is_unknown (only ++ excluded) ≡ None) × IsUnread holds fails path fault
-
--- ---- `lint --rules`
-
--- a line for each rule
-pub record AreRulesTold (answer : Answer) : Type 0 where
-  pub text_is : string_bytes answer.text ≡ flat_map rule_line all_rules
-  pub status_is : answer.status ≡ Done
-  pub made_is : files_of answer.file ≡ []

@@ -7,4 +7,4 @@ mod lines;
 mod linting;
 mod rows;
 
-pub use linting::{lint, tell_rules};
+pub use linting::lint;

@@ -2,11 +2,10 @@
 ghost use Rattle.std.specs.Prelude.{◌≡◌, IfOk};
 ghost use Rattle.std.specs.List.{flat_map};
 ghost use Rattle.std.specs.String.{string_bytes};
-ghost use Rattle.server_lint.specs.Findings.{all_rules};
 ghost use Rattle.scenario_words.specs.Words.{ended_line};
 ghost use Rattle.command_lint.specs.Lines.{broken_words, count_line, line_in, line_of, placed_line, rule_line, rule_words, unknown_line};
 
-use server_lint::{Finding, RULES, Rule, Transmission, finding_text};
+use server_lint::{Finding, Rule, Transmission, finding_text};
 use std::alloc::{AllocError, Global};
 
 /// A line, with its line feed.
@@ -106,7 +105,7 @@ fn rule_line(alloc: Global, rule: Rule) -> Result<String, AllocError>
 }
 
 /// The lines of these rules.
-fn lines_of(alloc: Global, rules: &[Rule]) -> Result<String, AllocError>
+pub(crate) fn rule_lines(alloc: Global, rules: &[Rule]) -> Result<String, AllocError>
     ensures { IfOk result (λ text. string_bytes text ≡ flat_map rule_line rules.now) }
 {
     let mut text = String::new(alloc);
@@ -115,11 +114,4 @@ fn lines_of(alloc: Global, rules: &[Rule]) -> Result<String, AllocError>
         text.push_str(line.as_str())?;
     }
     Ok(text)
-}
-
-/// The lines of all rules.
-pub(crate) fn rule_lines(alloc: Global) -> Result<String, AllocError>
-    ensures { IfOk result (λ text. string_bytes text ≡ flat_map rule_line all_rules) }
-{
-    lines_of(alloc, &RULES)
 }

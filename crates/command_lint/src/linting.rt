@@ -1,7 +1,9 @@
 //! What the program answers to `lint`. Nothing is written or printed here.
-ghost use Rattle.std.specs.Prelude.{◌≡◌, ◌++◌, IfErr, IfOk, Some, map, option_map};
+ghost use Rattle.std.specs.Prelude.{◌≡◌, ◌⊎◌, ◌++◌, IfErr, IfOk, Some, map, option_map};
 ghost use Rattle.std.specs.String.{string_bytes};
-ghost use Rattle.command_lint.specs.Lint.{AreRulesTold, IsLintDone, IsLintFault, IsLinted, status_of};
+ghost use Rattle.command_files.specs.declared.fault.Fault.TheVariants.{Memory};
+ghost use Rattle.command_lint.specs.Lint.{AreRulesTold, IsFileLinted, IsLintDone, IsLintFault, IsLinted, IsUnread};
+ghost use Rattle.command_lint.specs.Lint.{status_of};
 
 use crate::choice::{chosen_rules, unknown_word};
 use crate::lines::{count_line, rule_lines, unknown_line};
@@ -40,35 +42,53 @@ fn lint_scenario<'a>(
     Ok(Answer::printed(status, text))
 }
 
-/// `lint FILE [--only RULE].. [--not RULE]..`: what servers did wrong in the rows of the scenario whose image
-/// or text the file is: a line for each finding, and one that counts them. The exit status is 3 where there is a finding. A word that is the name of no
-/// rule is told, with exit status 2.
-#[tactic(auto, using(crate::proofs::Linted::unknown_rule, crate::proofs::Linted::linted, crate::proofs::Linted::unread))]
-pub fn lint<'a, F: Files>(
+/// What breaks these rules in the rows of the scenario whose image or text the file is.
+fn lint_file<'a, F: Files>(
     alloc: Global,
     path: &'a str,
+    chosen: &[Rule],
+    files: &F,
+) -> Result<Answer<'a>, Refusal<'a>>
+    ensures done { IfOk result (IsFileLinted (F.holds files.now) path.entry.now chosen.now) }
+    ensures refused { IfErr result (λ r. (r.fault ≡ Memory)
+        ⊎ IsUnread (F.holds files.now) (F.fails files.now) (Some path.entry.now) r.fault) }
+{
+    let scenario = load_source(alloc, path, files)?;
+    Ok(lint_scenario(alloc, chosen, &scenario)?)
+}
+
+/// These rules, a line for each.
+fn tell_rules<'a>(alloc: Global, rules: &[Rule]) -> Result<Answer<'a>, AllocError>
+    ensures { IfOk result (AreRulesTold rules.now) }
+{
+    let text = rule_lines(alloc, rules)?;
+    Ok(Answer::printed(Status::Done, text))
+}
+
+/// `lint FILE [--only RULE] .. [--not RULE] ..`: what servers did wrong in the rows of the scenario whose image or text
+/// the file is: a line for each finding, and one that counts them; the status is 3 where there is one. `lint --rules ..`
+/// names no file: the rules, a line for each. Only those after `--only`, if there are such, and none of those after
+/// `--not`. A word that is the name of no rule is told, with status 2.
+#[tactic(auto, using(crate::proofs::Linted::unknown_rule, crate::proofs::Linted::told, crate::proofs::Linted::linted, crate::proofs::Linted::unread))]
+pub fn lint<'a, F: Files>(
+    alloc: Global,
+    path: Option<&'a str>,
     only: &[&'a str],
     excluded: &[&'a str],
     files: &F,
 ) -> Result<Answer<'a>, Refusal<'a>>
-    ensures done { IfOk result (IsLintDone (F.holds files.now) path.entry.now
+    ensures done { IfOk result (IsLintDone (F.holds files.now) (option_map (λ p. p.now) path.entry)
         (map (λ w. w.now) only.now) (map (λ w. w.now) excluded.now)) }
-    ensures refused { IfErr result (λ r. IsLintFault (F.holds files.now) (F.fails files.now) path.entry.now
-        (map (λ w. w.now) only.now) (map (λ w. w.now) excluded.now) r.fault) }
+    ensures refused { IfErr result (λ r. IsLintFault (F.holds files.now) (F.fails files.now)
+        (option_map (λ p. p.now) path.entry) (map (λ w. w.now) only.now) (map (λ w. w.now) excluded.now) r.fault) }
 {
     if let Some(word) = unknown_word(only, excluded) {
         let text = unknown_line(alloc, word)?;
         return Ok(Answer::printed(Status::Usage, text));
     }
     let chosen = chosen_rules(alloc, only, excluded)?;
-    let scenario = load_source(alloc, path, files)?;
-    Ok(lint_scenario(alloc, chosen.as_slice(), &scenario)?)
-}
-
-/// `lint --rules`: the rules, a line for each.
-pub fn tell_rules<'a>(alloc: Global) -> Result<Answer<'a>, Refusal<'a>>
-    ensures { IfOk result AreRulesTold }
-{
-    let text = rule_lines(alloc)?;
-    Ok(Answer::printed(Status::Done, text))
+    match path {
+        None => Ok(tell_rules(alloc, chosen.as_slice())?),
+        Some(path) => lint_file(alloc, path, chosen.as_slice(), files),
+    }
 }

@@ -2,6 +2,7 @@ use Rattle.std.proofs.Common.{ℕ, Bor, List, Option, map, option_map, refl, sub
 use Rattle.trace_text.specs.declared.selection.Selection.{Selection}
 use Rattle.command_files.specs.Loading.{RunPaths}
 use Rattle.command_join.specs.Join.{IsJoinDone, IsJoinFault}
+use Rattle.command_lint.specs.Lint.{IsLintDone, IsLintFault}
 use Rattle.command_play.specs.Play.{IsPlayDone}
 use Rattle.command_play.specs.declared.form.PlayForm.{PlayForm}
 use Rattle.command_test.specs.Jobs.{IsTestDone, IsTestFault, IsTitlesDone}
@@ -336,6 +337,39 @@ returns-in_err-answer-in-Join g c =
       idle = no_answer _ _ _ told;
       debugged = no_answer _ _ _ told;
       refused = refused_at_once _ _ _ _ _ _ _ _ _ told c.in-Join.is (about, refused) (refl, refl, refl);
+    }
+
+pub returns-in_ok-answer-in-Lint : goal.returns-in_ok-answer-in-Lint
+returns-in_ok-answer-in-Lint g c =
+    let file : Option (List ℕ) = option_map (λ p. p.now) c.in-Lint.file in
+    let named = subst (λ (l : List (Bor (List ℕ))). IsLintDone (g.F.Files.holds c.args.files.now) file
+    (map (λ w. w.now) l) (map (λ w. w.now) c.as_slice-in-Lint-2.result.now)
+    c.in_ok-answer-in-Lint.answer) c.as_slice-in-Lint.ensures.value c.in_ok-answer-in-Lint.ensures.done in
+    let done = subst (λ (l : List (Bor (List ℕ))). IsLintDone (g.F.Files.holds c.args.files.now) file
+    (map (λ w. w.now) c.in-Lint.only.items) (map (λ w. w.now) l)
+    c.in_ok-answer-in-Lint.answer) c.as_slice-in-Lint-2.ensures.value named in
+    record {
+      done = answered_at_once _ _ _ _ c.in-Lint.is done;
+      idle = (refl, refl, refl);
+      debugged = tt;
+      refused = tt;
+    }
+
+pub returns-in_err-answer-in-Lint : goal.returns-in_err-answer-in-Lint
+returns-in_err-answer-in-Lint g c =
+    let file : Option (List ℕ) = option_map (λ p. p.now) c.in-Lint.file in
+    let named = subst (λ (l : List (Bor (List ℕ))). IsLintFault (g.F.Files.holds c.args.files.now) (g.F.Files.fails
+    c.args.files.now) file (map (λ w. w.now) l) (map (λ w. w.now) c.as_slice-in-Lint-2.result.now)
+    c.in_err-answer-in-Lint.field-0.0.fault) c.as_slice-in-Lint.ensures.value c.in_err-answer-in-Lint.ensures.refused in
+    let refused = subst (λ (l : List (Bor (List ℕ))). IsLintFault (g.F.Files.holds c.args.files.now) (g.F.Files.fails
+    c.args.files.now) file (map (λ w. w.now) c.in-Lint.only.items) (map (λ w. w.now) l)
+    c.in_err-answer-in-Lint.field-0.0.fault) c.as_slice-in-Lint-2.ensures.value named in
+    let told = c.from_residual-in_err-answer-in-Lint.ensures.1 in
+    record {
+      done = no_answer _ _ _ told;
+      idle = no_answer _ _ _ told;
+      debugged = no_answer _ _ _ told;
+      refused = refused_at_once _ _ _ _ _ _ _ _ _ told c.in-Lint.is refused (refl, refl, refl);
     }
 
 pub returns-in-Debug : goal.returns-in-Debug
