@@ -1,3 +1,4 @@
 pub mod Broken
 pub mod Found
 pub mod Those
+pub mod Exactly

@@ -6,3 +6,4 @@ pub mod Rules
 pub mod Findings
 pub mod Inside
 pub mod Text
+pub mod Laws

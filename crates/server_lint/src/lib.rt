@@ -3,6 +3,7 @@
 
 mod breaking;
 mod finding;
+mod laws;
 mod pairs;
 mod rule;
 mod sender;
@@ -11,6 +12,7 @@ mod text;
 mod transmission;
 
 pub use finding::{Finding, find_broken};
+pub use laws::{all_are_findings, all_findings_are_there};
 pub use rule::{RULES, Rule};
 pub use sender::Sender;
 pub use text::finding_text;
