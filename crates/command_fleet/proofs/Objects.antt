@@ -7,6 +7,7 @@ use Rattle.serde_json.specs.Read.{max_depth}
 use Rattle.fleet_link.specs.declared.udp.Counts.{Counts}
 use Rattle.fleet_wire.specs.declared.happened.Happened.{Happened}
 use Rattle.fleet_lines.specs.declared.counted.Account.{Account}
+use Rattle.command_fleet.specs.declared.shortfall.Shortfall.{Shortfall}
 use Rattle.trace_json.specs.Writing.{Has64Bits, IsReadAgain, fields_tokens}
 use Rattle.trace_json.proofs.ReadAgain.{read_again}
 use Rattle.command_fleet.specs.InJson.{done_json, happened_fields, port_json, ready_json, second_json}
@@ -19,17 +20,17 @@ pub second_again : (second : ℕ) (counts : Counts) → Has64Bits (second_json s
     → IsReadAgain (second_json second counts)
 second_again second counts exact = read_again (second_json second counts) exact (second_depth second counts)
 
-done_depth : (seconds devices cut : ℕ) (counts : Counts) (happened : Option Happened)
-    → depth (done_json seconds devices (record { counts = counts; happened = happened }) cut) ≤ max_depth
+done_depth : (seconds devices : ℕ) (short : Shortfall) (counts : Counts) (happened : Option Happened)
+    → depth (done_json seconds devices (record { counts = counts; happened = happened }) short) ≤ max_depth
 unfolding done_json
-done_depth seconds devices cut counts None = omega arith
-done_depth seconds devices cut counts (Some happened) = omega arith
+done_depth seconds devices short counts None = omega arith
+done_depth seconds devices short counts (Some happened) = omega arith
 
-pub done_again : (seconds devices cut : ℕ) (account : Account) → Has64Bits (done_json seconds devices account cut)
-    → IsReadAgain (done_json seconds devices account cut)
-done_again seconds devices cut account exact =
-    read_again (done_json seconds devices account cut) exact
-    (done_depth seconds devices cut account.counts account.happened)
+pub done_again : (seconds devices : ℕ) (short : Shortfall) (account : Account)
+    → Has64Bits (done_json seconds devices account short) → IsReadAgain (done_json seconds devices account short)
+done_again seconds devices short account exact =
+    read_again (done_json seconds devices account short) exact
+    (done_depth seconds devices short account.counts account.happened)
 
 ready_depth : (devices : ℕ) (place : SocketAddr) → depth (ready_json devices place) ≤ max_depth
 unfolding ready_json

@@ -43,7 +43,8 @@ use Rattle.command_fleet.specs.Snapshots.{AreKept}
 use Rattle.command_fleet.specs.Fleet.{AreMissing, AreReady, IsBrokenOff, IsConcluded, IsEndless, IsFleetDone}
 use Rattle.command_fleet.specs.Fleet.{IsFleetFault, IsOpened, IsPlace, IsReadyTold, IsSaveFault, IsSavedAt, IsSavedIf}
 use Rattle.command_fleet.specs.Fleet.{IsServed, IsSessionCut, IsSessionDone, IsSessionFault, IsUnconcluded, IsUnfit}
-use Rattle.command_fleet.specs.Fleet.{IsHeldDone, IsHeldFault, IsShownIf, IsUnsaved, IsUnstarted, Session, cut_of}
+use Rattle.command_fleet.specs.declared.shortfall.Shortfall.{Shortfall}
+use Rattle.command_fleet.specs.Fleet.{IsHeldDone, IsHeldFault, IsShownIf, IsUnsaved, IsUnstarted, Session, shortfall_of}
 use Rattle.command_fleet.specs.Fleet.{free_ports, has_passed, line_of, opening_text, ready_line, status_of, telling_for}
 use Rattle.command_fleet.specs.Telling.{AreTold, IsCut, telling_of}
 use Rattle.command_fleet.proofs.Kept.{kept_first}
@@ -83,31 +84,31 @@ not_made refuses path at fault same h = inr (subst (λ p. IsWritingFault (refuse
 -- ---- its conclusion
 
 pub concluded : (before after : World) (asked : AskedFleet) (part : Scenario) (session : Session) (status : Status)
-    (cut : ℕ) → cut ≡ cut_of (option_map (λ p. p.now) asked.save) session.slots
-    → Appends before.streams.output after.streams.output (line_of asked.json cut session)
+    (short : Shortfall) → short ≡ shortfall_of (option_map (λ p. p.now) asked.save) session.slots
+    → Appends before.streams.output after.streams.output (line_of asked.json short session)
     → IsSavedIf before.made after.made (option_map (λ p. p.now) asked.save) part session.slots
     → status ≡ status_of asked.strict session.account.counts → IsConcluded before after asked part session status
-concluded before after asked part session status cut is printed saved ended = record {
+concluded before after asked part session status short is printed saved ended = record {
   printed = subst (λ n. Appends before.streams.output after.streams.output (line_of asked.json n session)) is printed;
   saved = saved;
   ended = ended;
 }
 
 pub line_unprinted : (files : FilesKnown) (faults : StreamFaults) (before after : Streams) (asked : AskedFleet)
-    (session : Session) (fault : Fault) (cut : ℕ)
-    → cut ≡ cut_of (option_map (λ p. p.now) asked.save) session.slots
-    → IsWritingFault (faults.output_refuses (line_of asked.json cut session)) fault
+    (session : Session) (fault : Fault) (short : Shortfall)
+    → short ≡ shortfall_of (option_map (λ p. p.now) asked.save) session.slots
+    → IsWritingFault (faults.output_refuses (line_of asked.json short session)) fault
     → IsUnconcluded files faults before after asked session fault
-line_unprinted files faults before after asked session fault cut is h =
+line_unprinted files faults before after asked session fault short is h =
     inl (subst (λ n. IsWritingFault (faults.output_refuses (line_of asked.json n session)) fault) is h)
 
 pub steps_unsaved : (files : FilesKnown) (faults : StreamFaults) (before after : Streams) (asked : AskedFleet)
-    (session : Session) (fault : Fault) (cut : ℕ)
-    → cut ≡ cut_of (option_map (λ p. p.now) asked.save) session.slots
-    → Appends before.output after.output (line_of asked.json cut session)
+    (session : Session) (fault : Fault) (short : Shortfall)
+    → short ≡ shortfall_of (option_map (λ p. p.now) asked.save) session.slots
+    → Appends before.output after.output (line_of asked.json short session)
     → IsUnsaved files.refuses (option_map (λ p. p.now) asked.save) fault
     → IsUnconcluded files faults before after asked session fault
-steps_unsaved files faults before after asked session fault cut is printed h =
+steps_unsaved files faults before after asked session fault short is printed h =
     inr (subst (λ n. Appends before.output after.output (line_of asked.json n session)) is printed, h)
 
 -- ---- there is no session

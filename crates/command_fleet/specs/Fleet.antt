@@ -1,7 +1,7 @@
 -- What `fleet FILE PORT ..` comes to: devices of a scenario are served for a session, whose seconds are told; then its
 -- line is printed, and then their steps are saved as a scenario.
 use Rattle.std.specs.Prelude.{⊤, ℕ, ◌≡◌, ◌+◌, ◌⊎◌, ◌≤◌, ◌==◌, ◌&&◌, Bool, true, false, not, List, [], ◌∷◌, ◌++◌, length}
-use Rattle.std.specs.Prelude.{nat_le, map, count_by, Option, None, Some, codes, option_map, if◌then◌else◌}
+use Rattle.std.specs.Prelude.{nat_le, map, count_by, is_some, Option, None, Some, codes, option_map, if◌then◌else◌}
 use Rattle.std.specs.Fmt.{decimal}
 use Rattle.std.specs.Io.KnownBytes.{Appends}
 use Rattle.std.specs.Net.Grammar.{IsIpText}
@@ -36,6 +36,7 @@ use Rattle.command_files.specs.declared.status.Status.{Status}
 use Rattle.command_files.specs.declared.status.Status.TheVariants as ends
 use Rattle.command_sources.specs.Sources.{IsNoScenario, IsScenarioOf}
 use Rattle.command_fleet.specs.declared.devices.Devices.{Devices}
+use Rattle.command_fleet.specs.declared.shortfall.Shortfall.{Shortfall}
 use Rattle.command_fleet.specs.declared.telling.Telling.{Telling}
 use Rattle.command_fleet.specs.Devices.{AreChosen, IsPart}
 use Rattle.command_fleet.specs.InJson.{done_json, port_json, ready_json}
@@ -182,30 +183,48 @@ wire_words (Some happened) = happened_words happened
 abbrev pub cut_words : ℕ → List ℕ
 cut_words cut = if cut == 0 then [] else codes " cut " ++ decimal cut
 
-abbrev pub counted_line : ℕ → ℕ → List ℕ → List ℕ → List ℕ → List ℕ
-counted_line seconds devices counted wire cut =
-    ended_line (codes "done seconds " ++ decimal seconds ++ codes " devices " ++ decimal devices ++ codes " "
-    ++ counted ++ wire ++ cut)
+-- ` ended N`, where a device ended before the session did
+abbrev pub ended_words : ℕ → List ℕ
+ended_words ended = if ended == 0 then [] else codes " ended " ++ decimal ended
 
--- `done seconds S devices N received N sent N dropped N lost N`, what a wire did, and how many rows are cut
-abbrev pub done_line : ℕ → ℕ → Account → ℕ → List ℕ
-done_line seconds devices account cut =
-    counted_line seconds devices (counts_words account.counts) (wire_words account.happened) (cut_words cut)
+abbrev pub shortfall_words : Shortfall → List ℕ
+shortfall_words shortfall = ended_words shortfall.ended ++ cut_words shortfall.cut
+
+abbrev pub counted_line : ℕ → ℕ → List ℕ → List ℕ → List ℕ → List ℕ
+counted_line seconds devices counted wire short =
+    ended_line (codes "done seconds " ++ decimal seconds ++ codes " devices " ++ decimal devices ++ codes " "
+    ++ counted ++ wire ++ short)
+
+-- `done seconds S devices N received N sent N dropped N lost N`, what a wire did, how many devices ended before, and
+-- how many rows are cut
+abbrev pub done_line : ℕ → ℕ → Account → Shortfall → List ℕ
+done_line seconds devices account shortfall =
+    counted_line seconds devices (counts_words account.counts) (wire_words account.happened)
+    (shortfall_words shortfall)
 
 -- how many rows of what is saved end before the session did
 abbrev pub cut_of : Option (List ℕ) → List Slot → ℕ
 cut_of None slots = 0
 cut_of (Some path) slots = count_by (λ (slot : Slot). not slot.recording.complete) slots
 
--- the line of a session of which n rows are cut, or its object
-abbrev pub line_of : Bool → ℕ → Session → List ℕ
-line_of false cut session = done_line session.second (length session.slots) session.account cut
-line_of true cut session = json_line (done_json session.second (length session.slots) session.account cut)
+-- how many devices ended before the session did: the port of one failed, or its clock was at its end
+abbrev pub ended_of : List Slot → ℕ
+ended_of slots = count_by (λ (slot : Slot). is_some slot.end) slots
+
+-- what did not last as long as the session
+abbrev pub shortfall_of : Option (List ℕ) → List Slot → Shortfall
+shortfall_of save slots = record { ended = ended_of slots; cut = cut_of save slots }
+
+-- the line of a session with this shortfall, or its object
+abbrev pub line_of : Bool → Shortfall → Session → List ℕ
+line_of false shortfall session = done_line session.second (length session.slots) session.account shortfall
+line_of true shortfall session =
+    json_line (done_json session.second (length session.slots) session.account shortfall)
 
 -- what is printed at the end: the line of the session, or its object if JSON is asked for
 abbrev pub end_text : AskedFleet → Session → List ℕ
 end_text asked session =
-    line_of asked.json (cut_of (option_map (λ p. p.now) asked.save) session.slots) session
+    line_of asked.json (shortfall_of (option_map (λ p. p.now) asked.save) session.slots) session
 
 -- status 3, with `--strict`, where a datagram was dropped or lost
 abbrev pub status_of : Bool → Counts → Status

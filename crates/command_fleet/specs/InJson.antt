@@ -8,6 +8,7 @@ use Rattle.trace_json.specs.Json.{Field, number_json, object_json}
 use Rattle.fleet_link.specs.declared.udp.Counts.{Counts}
 use Rattle.fleet_wire.specs.declared.happened.Happened.{Happened}
 use Rattle.fleet_lines.specs.declared.counted.Account.{Account}
+use Rattle.command_fleet.specs.declared.shortfall.Shortfall.{Shortfall}
 
 -- the ports of n devices are there, the first of them at this place
 unfoldable pub ready_json : ℕ → SocketAddr → Data
@@ -46,10 +47,10 @@ second_json second counts =
     object_json
     ((codes "event", string (codes "second")) ∷ (codes "second", number_json second) ∷ counts_fields counts)
 
--- the session is over, and n rows of what is saved are cut
-unfoldable pub done_json : ℕ → ℕ → Account → ℕ → Data
-done_json seconds devices account cut =
+-- the session is over, with this shortfall
+unfoldable pub done_json : ℕ → ℕ → Account → Shortfall → Data
+done_json seconds devices account shortfall =
     object_json
     ((codes "event", string (codes "done")) ∷ (codes "seconds", number_json seconds)
     ∷ (codes "devices", number_json devices) ∷ counts_fields account.counts ++ happened_fields account.happened
-    ++ (codes "cut", number_json cut) ∷ [])
+    ++ (codes "ended", number_json shortfall.ended) ∷ (codes "cut", number_json shortfall.cut) ∷ [])

@@ -11,6 +11,7 @@ ghost use Rattle.command_fleet.specs.Fleet.{IsUnsaved, counted_line, counts_word
 ghost use Rattle.command_fleet.specs.Fleet.{happened_words, line_of, status_of, wire_words};
 
 use crate::in_json::done_object;
+use crate::shortfall::{Shortfall, shortfall_of};
 use crate::telling::put;
 use command_files::files::Files;
 use command_files::{Fault, NewFile, Output, Refusal, Status, image_file, make};
@@ -63,40 +64,60 @@ fn cut_words(alloc: Global, cut: usize) -> Result<String, AllocError>
     format!(in alloc; " cut {cut}")
 }
 
+/// How many devices ended before the session did, if one did.
+fn ended_words(alloc: Global, ended: usize) -> Result<String, AllocError>
+    ensures { IfOk result (λ text. string_bytes text ≡ ended_words ended) }
+{
+    if ended == 0 {
+        return Ok(String::new(alloc));
+    }
+    format!(in alloc; " ended {ended}")
+}
+
+/// What did not last as long as the session, if anything did not.
+fn shortfall_words(alloc: Global, shortfall: Shortfall) -> Result<String, AllocError>
+    ensures { IfOk result (λ text. string_bytes text ≡ shortfall_words shortfall) }
+{
+    let mut words = ended_words(alloc, shortfall.ended)?;
+    let cut = cut_words(alloc, shortfall.cut)?;
+    words.push_str(cut.as_str())?;
+    Ok(words)
+}
+
 fn counted_line(
     alloc: Global,
     seconds: u64,
     devices: usize,
     counted: &str,
     wire: &str,
-    cut: &str,
+    short: &str,
 ) -> Result<String, AllocError>
-    ensures { IfOk result (λ text. string_bytes text ≡ counted_line seconds devices counted.now wire.now cut.now) }
+    ensures { IfOk result (λ text. string_bytes text ≡ counted_line seconds devices counted.now wire.now short.now) }
 {
-    format!(in alloc; "done seconds {seconds} devices {devices} {counted}{wire}{cut}\n")
+    format!(in alloc; "done seconds {seconds} devices {devices} {counted}{wire}{short}\n")
 }
 
 /// How long a session was, how many devices it had, how many datagrams went through their ports, how often a wire did
-/// what, and how many rows of what is saved are cut.
+/// what, and what did not last as long.
 pub fn done_line(
     alloc: Global,
     seconds: u64,
     devices: usize,
     account: Account,
-    cut: usize,
+    shortfall: Shortfall,
 ) -> Result<String, AllocError>
-    ensures { IfOk result (λ text. string_bytes text ≡ done_line seconds devices account cut) }
+    ensures { IfOk result (λ text. string_bytes text ≡ done_line seconds devices account shortfall) }
 {
     let counted = counts_words(alloc, account.counts)?;
     let wire = wire_words(alloc, account.happened)?;
-    let cut = cut_words(alloc, cut)?;
+    let short = shortfall_words(alloc, shortfall)?;
     counted_line(
         alloc,
         seconds,
         devices,
         counted.as_str(),
         wire.as_str(),
-        cut.as_str(),
+        short.as_str(),
     )
 }
 
@@ -140,20 +161,10 @@ pub fn conclude_session<'a, F: Files, O: Output>(
         (record { input = None; output = O.taken output.new; errors = None })
         asked.now (record { slots = fleet.slots.items; second = fleet.second; account = account }) r.fault) }
 {
-    let cut = cut_of(asked.save, &fleet);
-    print_session(alloc, asked.json, &fleet, account, cut, output)?;
+    let shortfall = shortfall_of(asked.save, &fleet);
+    print_session(alloc, asked.json, &fleet, account, shortfall, output)?;
     save_steps(alloc, asked.save, part, fleet, files)?;
     Ok(status_of(asked.strict, account.counts))
-}
-
-/// How many rows of what is saved end before the session did.
-fn cut_of(save: Option<&str>, fleet: &Fleet) -> usize
-    ensures { result ≡ cut_of (option_map (λ p. p.now) save.entry) fleet.now.slots.items }
-{
-    match save {
-        None => 0,
-        Some(_) => fleet.cut_rows(),
-    }
 }
 
 /// The line of a session, or its object, after which the devices are these.
@@ -162,15 +173,27 @@ fn session_line(
     json: bool,
     fleet: &Fleet,
     account: Account,
-    cut: usize,
+    shortfall: Shortfall,
 ) -> Result<String, AllocError>
-    ensures { IfOk result (λ text. string_bytes text ≡ line_of json cut
+    ensures { IfOk result (λ text. string_bytes text ≡ line_of json shortfall
         (record { slots = fleet.now.slots.items; second = fleet.now.second; account = account })) }
 {
     if json {
-        done_object(alloc, fleet.second(), fleet.devices().len(), account, cut)
+        done_object(
+            alloc,
+            fleet.second(),
+            fleet.devices().len(),
+            account,
+            shortfall,
+        )
     } else {
-        done_line(alloc, fleet.second(), fleet.devices().len(), account, cut)
+        done_line(
+            alloc,
+            fleet.second(),
+            fleet.devices().len(),
+            account,
+            shortfall,
+        )
     }
 }
 
@@ -179,18 +202,19 @@ fn print_session<'a, O: Output>(
     json: bool,
     fleet: &Fleet,
     account: Account,
-    cut: usize,
+    shortfall: Shortfall,
     output: &mut O,
 ) -> Result<(), Refusal<'a>>
     ensures printed { OnOk result (Appends (O.taken output.old) (O.taken output.new)
-        (line_of json cut
+        (line_of json shortfall
         (record { slots = fleet.now.slots.items; second = fleet.now.second; account = account }))) }
     ensures refused { IfErr result (λ r. IsWritingFault
         (O.refuses
-        (line_of json cut (record { slots = fleet.now.slots.items; second = fleet.now.second; account = account })))
+        (line_of json shortfall
+        (record { slots = fleet.now.slots.items; second = fleet.now.second; account = account })))
         r.fault) }
 {
-    let text = session_line(alloc, json, fleet, account, cut)?;
+    let text = session_line(alloc, json, fleet, account, shortfall)?;
     put(text.as_str(), "standard output", output)
 }
 

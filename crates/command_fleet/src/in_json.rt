@@ -8,6 +8,7 @@ ghost use Rattle.trace_json.specs.Writing.{Has64Bits, IsReadAgain, fields_tokens
 ghost use Rattle.command_fleet.specs.InJson.{counts_fields, done_json, happened_fields, port_json, ready_json};
 ghost use Rattle.command_fleet.specs.InJson.{second_json, wire_fields};
 
+use crate::shortfall::Shortfall;
 use fleet_lines::Account;
 use fleet_link::Counts;
 use fleet_wire::Happened;
@@ -82,18 +83,19 @@ pub fn second_line(alloc: Global, second: u64, counts: Counts) -> Result<String,
     Ok(text_of(bytes))
 }
 
-/// Writes that a session is over, and how many rows are cut.
+/// Writes that a session is over, and what did not last as long.
 #[tactic(auto, unfolding(crate::specs::InJson::done_json))]
 fn put_done(
     out: &mut Writer,
     seconds: u64,
     devices: usize,
     account: Account,
-    cut: usize,
+    shortfall: Shortfall,
 ) -> Result<(), AllocError>
-    ensures adds { OnOk result (out.new.tokens ≡ out.old.tokens ++ tokens_of (done_json seconds devices account cut)) }
+    ensures adds { OnOk result (out.new.tokens
+        ≡ out.old.tokens ++ tokens_of (done_json seconds devices account shortfall)) }
     ensures before { out.new.before ≡ out.old.before }
-    ensures exact { OnOk result (Has64Bits (done_json seconds devices account cut)) }
+    ensures exact { OnOk result (Has64Bits (done_json seconds devices account shortfall)) }
 {
     out.begin_object()?;
     put_string(out, "event", "done")?;
@@ -101,25 +103,26 @@ fn put_done(
     put_number(out, "devices", devices as u64)?;
     put_counts(out, account.counts)?;
     put_happened(out, account.happened)?;
-    put_number(out, "cut", cut as u64)?;
+    put_number(out, "ended", shortfall.ended as u64)?;
+    put_number(out, "cut", shortfall.cut as u64)?;
     out.end_object()?;
     Ok(())
 }
 
-/// The line of the end of a session, with how many rows are cut.
+/// The line of the end of a session, with what did not last as long.
 #[tactic(auto, using(crate::proofs::Objects::done_again))]
 pub fn done_object(
     alloc: Global,
     seconds: u64,
     devices: usize,
     account: Account,
-    cut: usize,
+    shortfall: Shortfall,
 ) -> Result<String, AllocError>
-    ensures line { IfOk result (λ t. string_bytes t ≡ json_line (done_json seconds devices account cut)) }
-    ensures read_again { OnOk result (IsReadAgain (done_json seconds devices account cut)) }
+    ensures line { IfOk result (λ t. string_bytes t ≡ json_line (done_json seconds devices account shortfall)) }
+    ensures read_again { OnOk result (IsReadAgain (done_json seconds devices account shortfall)) }
 {
     let mut writer = Writer::new(Vec::new(alloc));
-    put_done(&mut writer, seconds, devices, account, cut)?;
+    put_done(&mut writer, seconds, devices, account, shortfall)?;
     let bytes = end_line(writer)?;
     Ok(text_of(bytes))
 }

@@ -19,8 +19,9 @@ returns-clause-concluded g c =
       second = c.args.fleet.second;
       account = c.args.account;
     } in
-    concluded before after c.args.asked.now c.args.part.now session c.status_of.result c.cut_of-cut.result
-    c.cut_of-cut.ensures c.in_ok-print_session.ensures.printed c.in_ok-save_steps.ensures.saved c.status_of.ensures
+    concluded before after c.args.asked.now c.args.part.now session c.status_of.result c.shortfall_of-shortfall.result
+    c.shortfall_of-shortfall.ensures c.in_ok-print_session.ensures.printed c.in_ok-save_steps.ensures.saved
+    c.status_of.ensures
 
 pub returns-in_err-print_session-clause-refused : goal.returns-in_err-print_session-clause-refused
 returns-in_err-print_session-clause-refused g c =
@@ -46,7 +47,7 @@ returns-in_err-print_session-clause-refused g c =
       account = c.args.account;
     } in
     let h = line_unprinted files faults before after c.args.asked.now session c.in_err-print_session.field-0.0.fault
-    c.cut_of-cut.result c.cut_of-cut.ensures c.in_err-print_session.ensures.refused in
+    c.shortfall_of-shortfall.result c.shortfall_of-shortfall.ensures c.in_err-print_session.ensures.refused in
     search (rules, h)
 
 pub returns-in_err-save_steps-clause-refused : goal.returns-in_err-save_steps-clause-refused
@@ -73,6 +74,6 @@ returns-in_err-save_steps-clause-refused g c =
       account = c.args.account;
     } in
     let h = steps_unsaved files faults before after c.args.asked.now session c.in_err-save_steps.field-0.0.fault
-    c.cut_of-cut.result c.cut_of-cut.ensures c.in_ok-print_session.ensures.printed c.in_err-save_steps.ensures.refused
-    in
+    c.shortfall_of-shortfall.result c.shortfall_of-shortfall.ensures c.in_ok-print_session.ensures.printed
+    c.in_err-save_steps.ensures.refused in
     search (rules, h)
