@@ -12,12 +12,14 @@ use Rattle.command_lint.specs.Lines.{unknown_line}
 use Rattle.command_files.specs.declared.fault.Fault.{Fault}
 use Rattle.command_files.specs.declared.fault.Fault.TheVariants as faults
 use Rattle.command_sources.specs.Sources.{IsScenarioOf}
+use Rattle.command_lint.specs.declared.form.LintForm.{LintForm}
 use Rattle.command_lint.specs.Lint.{IsLintDone, IsLintFault, IsLinted, IsUnread}
 
-pub unknown_rule : (holds : List ℕ → List ℕ → Type 0) (path : List ℕ) (only excluded : List (List ℕ)) (answer : Answer)
+pub unknown_rule : (holds : List ℕ → List ℕ → Type 0) (path : List ℕ) (form : LintForm) (only excluded : List (List ℕ))
+    (answer : Answer)
     (word : List ℕ) → find is_unknown (only ++ excluded) ≡ Some word → string_bytes answer.text ≡ unknown_line word
-    → answer.status ≡ Usage → answer.file ≡ None → IsLintDone holds path only excluded answer
-unknown_rule holds path only excluded answer word first text status file =
+    → answer.status ≡ Usage → answer.file ≡ None → IsLintDone holds path form only excluded answer
+unknown_rule holds path form only excluded answer word first text status file =
     inl (record {
       word = word;
       first = first;
@@ -26,10 +28,11 @@ unknown_rule holds path only excluded answer word first text status file =
       made_is = ap files_of file;
     })
 
-pub linted : (holds : List ℕ → List ℕ → Type 0) (path : List ℕ) (only excluded : List (List ℕ)) (answer : Answer)
+pub linted : (holds : List ℕ → List ℕ → Type 0) (path : List ℕ) (form : LintForm) (only excluded : List (List ℕ))
+    (answer : Answer)
     (s : Scenario) → find is_unknown (only ++ excluded) ≡ None → IsHeld holds path (λ bytes. IsScenarioOf bytes s)
-    → IsLinted (chosen_rules only excluded) s answer → IsLintDone holds path only excluded answer
-linted holds path only excluded answer s known read so =
+    → IsLinted form (chosen_rules only excluded) s answer → IsLintDone holds path form only excluded answer
+linted holds path form only excluded answer s known read so =
     inr (record { known = known; scenario = s; read = read; linted = so })
 
 pub unread : (holds : List ℕ → List ℕ → Type 0) (fails : List ℕ → Type 0) (path : List ℕ)

@@ -1,4 +1,4 @@
--- What `lint FILE [--only RULE].. [--not RULE]..` comes to: the findings that are printed, and what is refused.
+-- What `lint FILE [--json] [--only RULE].. [--not RULE]..` comes to: the findings that are printed, and what is refused.
 --
 -- Two relations say what is known of the files: `holds path bytes`, the file at the path had these bytes when it was
 -- read; `fails path`, it could not be read.
@@ -20,6 +20,7 @@ use Rattle.command_files.specs.declared.status.Status.TheVariants.{Done, NotRun,
 use Rattle.command_lint.specs.Choice.{chosen_rules, is_unknown}
 use Rattle.command_lint.specs.History.{end_of, history_of}
 use Rattle.command_lint.specs.Lines.{count_line, found_line, rule_line, unknown_line}
+use Rattle.command_lint.specs.declared.form.LintForm.{LintForm}
 use Rattle.command_lint.specs.declared.rows.Found.{Found}
 
 -- one of the chosen rules is broken in the history of a device
@@ -46,20 +47,20 @@ status_of [] = Done
 status_of (f ∷ fs) = NotRun
 
 -- a line for each finding, and one that counts them
-pub record IsLinted (chosen : List Rule) (s : Scenario) (answer : Answer) : Type 0 where
+pub record IsLinted (form : LintForm) (chosen : List Rule) (s : Scenario) (answer : Answer) : Type 0 where
   pub found : List Found
   pub all : AreAllFound chosen s found
-  pub text_is : string_bytes answer.text ≡ flat_map (found_line s) found ++ count_line (length found)
+  pub text_is : string_bytes answer.text ≡ flat_map (found_line form s) found ++ count_line form (length found)
   pub status_is : answer.status ≡ status_of found
   pub made_is : files_of answer.file ≡ []
 
 -- the words name rules, and the scenario whose image or text the file is is linted by those that they choose
-pub record IsChosenLinted (holds : List ℕ → List ℕ → Type 0) (path : List ℕ) (only excluded : List (List ℕ))
-    (answer : Answer) : Type 0 where
+pub record IsChosenLinted (holds : List ℕ → List ℕ → Type 0) (path : List ℕ) (form : LintForm)
+    (only excluded : List (List ℕ)) (answer : Answer) : Type 0 where
   pub known : find is_unknown (only ++ excluded) ≡ None
   pub scenario : Scenario
   pub read : IsHeld holds path (λ bytes. IsScenarioOf bytes scenario)
-  pub linted : IsLinted (chosen_rules only excluded) scenario answer
+  pub linted : IsLinted form (chosen_rules only excluded) scenario answer
 
 -- the first word that is the name of no rule is told; the file is not read
 pub record IsUnknownRule (only excluded : List (List ℕ)) (answer : Answer) : Type 0 where
@@ -69,9 +70,10 @@ pub record IsUnknownRule (only excluded : List (List ℕ)) (answer : Answer) : T
   pub status_is : answer.status ≡ Usage
   pub made_is : files_of answer.file ≡ []
 
-abbrev pub IsLintDone : (List ℕ → List ℕ → Type 0) → List ℕ → List (List ℕ) → List (List ℕ) → Answer → Type 0
-IsLintDone holds path only excluded answer =
-    IsUnknownRule only excluded answer ⊎ IsChosenLinted holds path only excluded answer
+abbrev pub IsLintDone : (List ℕ → List ℕ → Type 0) → List ℕ → LintForm → List (List ℕ) → List (List ℕ) → Answer
+    → Type 0
+IsLintDone holds path form only excluded answer =
+    IsUnknownRule only excluded answer ⊎ IsChosenLinted holds path form only excluded answer
 
 -- the file could not be read, or is neither an image nor a text
 abbrev pub IsUnread : (List ℕ → List ℕ → Type 0) → (List ℕ → Type 0) → List ℕ → Fault → Type 0
