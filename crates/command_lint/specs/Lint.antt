@@ -1,4 +1,5 @@
--- What `lint FILE [--json] [--only RULE].. [--not RULE]..` comes to: the findings that are printed, and what is refused.
+-- What `lint FILE [--json] [--only RULE].. [--not RULE]..` comes to: the findings that are printed, and what is
+-- refused.
 --
 -- Two relations say what is known of the files: `holds path bytes`, the file at the path had these bytes when it was
 -- read; `fails path`, it could not be read.

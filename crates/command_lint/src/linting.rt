@@ -42,9 +42,9 @@ fn lint_scenario<'a>(
     Ok(Answer::printed(status, text))
 }
 
-/// `lint FILE [--json] [--only RULE].. [--not RULE]..`: what servers did wrong in the rows of the scenario whose image or
-/// text the file is: a line for each finding, and one that counts them. The exit status is 3 where there is a finding. A word
-/// that is the name of no rule is printed, with exit status 2, and the file is not read.
+/// `lint FILE [--json] [--only RULE].. [--not RULE]..`: what servers did wrong in the rows of the scenario whose image
+/// or text the file is: a line for each finding, and one that counts them. The exit status is 3 where there is a
+/// finding. A word that is the name of no rule is printed, with exit status 2, and the file is not read.
 #[tactic(auto, using(crate::proofs::Linted::unknown_rule, crate::proofs::Linted::linted, crate::proofs::Linted::unread))]
 pub fn lint<'a, F: Files>(
     alloc: Global,

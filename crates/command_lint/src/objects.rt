@@ -18,7 +18,8 @@ fn put_finding(
     t: &Transmission,
     words: &str,
 ) -> Result<(), AllocError>
-    ensures adds { OnOk result (out.new.tokens ≡ out.old.tokens ++ tokens_of (finding_json device rule t.now words.now)) }
+    ensures adds { OnOk result (out.new.tokens
+        ≡ out.old.tokens ++ tokens_of (finding_json device rule t.now words.now)) }
     ensures before { out.new.before ≡ out.old.before }
     ensures exact { OnOk result (Has64Bits (finding_json device rule t.now words.now)) }
 {
