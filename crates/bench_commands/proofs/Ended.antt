@@ -418,7 +418,7 @@ within_job holds faults (jobs.Pcap image trace output) before after h = absurd h
 within_job holds faults (jobs.Titles files only) before after h = absurd h
 within_job holds faults (jobs.Test files only form junit) before after h = absurd h
 within_job holds faults (jobs.Join output images) before after h = absurd h
-within_job holds faults (jobs.Lint file only except) before after h = absurd h
+within_job holds faults (jobs.Lint file only except json) before after h = absurd h
 
 within_cut : (holds : List ℕ → List ℕ → Type 0) (faults : StreamFaults) (job : Job) (before after : Streams)
     (fault : Fault) → IsCutJob holds faults job before after fault
@@ -437,7 +437,7 @@ within_cut holds faults (jobs.Pcap image trace output) before after fault h = ab
 within_cut holds faults (jobs.Titles files only) before after fault h = absurd h
 within_cut holds faults (jobs.Test files only form junit) before after fault h = absurd h
 within_cut holds faults (jobs.Join output images) before after fault h = absurd h
-within_cut holds faults (jobs.Lint file only except) before after fault h = absurd h
+within_cut holds faults (jobs.Lint file only except json) before after fault h = absurd h
 
 within_asked : (holds : List ℕ → List ℕ → Type 0) (faults : StreamFaults) (asked : Asked) (before after : Streams)
     → IsDebugged holds faults asked before after → WhereKnown (IsWithin most_bytes) before.input after.input

@@ -29,6 +29,8 @@ use Rattle.command_files.specs.Refusals.{IsTold}
 use Rattle.command_join.specs.Join.{IsJoinDone, IsJoinFault}
 use Rattle.command_json.specs.Told.{IsToldInJson}
 use Rattle.command_lint.specs.Lint.{IsLintDone, IsLintFault}
+use Rattle.command_lint.specs.declared.form.LintForm.{LintForm}
+use Rattle.command_lint.specs.declared.form.LintForm.TheVariants as lint_forms
 use Rattle.command_files.specs.Status.{text_status}
 use Rattle.command_play.specs.Play.{IsPlayDone, IsPlayFault}
 use Rattle.command_play.specs.declared.form.PlayForm.{PlayForm}
@@ -58,7 +60,7 @@ form_of asked_forms.Text = forms.Text
 form_of asked_forms.Reasons = forms.Reasons
 form_of asked_forms.JsonLines = forms.JsonLines
 
--- the same of the entries of a run, and of cases
+-- the same of the entries of a run, of cases, and of what is found
 abbrev pub play_form : AskedForm → PlayForm
 play_form asked_forms.Text = play_forms.Text
 play_form asked_forms.Reasons = play_forms.Reasons
@@ -68,6 +70,10 @@ abbrev pub report_form : CaseForm → ReportForm
 report_form case_forms.Text = report_forms.Text
 report_form case_forms.Tap = report_forms.Tap
 report_form case_forms.JsonLines = report_forms.JsonLines
+
+abbrev pub lint_form : Bool → LintForm
+lint_form false = lint_forms.Text
+lint_form true = lint_forms.JsonLines
 
 -- what `one` and `check` are answered with, in the form that is asked for
 abbrev pub IsOneAnswer : List ℕ → AskedForm → Answer → Type 0
@@ -106,8 +112,9 @@ IsDone holds (jobs.Test files only form junit) answer =
     (option_map (λ p. p.now) junit) answer
 IsDone holds (jobs.Join output images) answer =
     IsJoinDone holds output.now (map (λ p. p.now) images.items) answer
-IsDone holds (jobs.Lint file only except) answer =
-    IsLintDone holds (option_map (λ p. p.now) file) (map (λ w. w.now) only.items) (map (λ w. w.now) except.items) answer
+IsDone holds (jobs.Lint file only except json) answer =
+    IsLintDone holds (option_map (λ p. p.now) file) (lint_form json) (map (λ w. w.now) only.items)
+    (map (λ w. w.now) except.items) answer
 
 -- a job is refused for this fault
 abbrev pub IsRefusedJob : (List ℕ → List ℕ → Type 0) → (List ℕ → Type 0) → Job → Fault → Type 0
@@ -135,7 +142,7 @@ IsRefusedJob holds fails (jobs.Test files only form junit) fault =
     IsTestFault holds fails (map (λ p. p.now) files.items) (option_map (λ w. w.now) only) fault
 IsRefusedJob holds fails (jobs.Join output images) fault =
     (about : Option (List ℕ)) × IsJoinFault holds fails (map (λ p. p.now) images.items) about fault
-IsRefusedJob holds fails (jobs.Lint file only except) fault =
+IsRefusedJob holds fails (jobs.Lint file only except json) fault =
     IsLintFault holds fails (option_map (λ p. p.now) file) (map (λ w. w.now) only.items)
     (map (λ w. w.now) except.items) fault
 
@@ -337,6 +344,7 @@ abbrev pub job_wants_json : Job → Bool
 job_wants_json (jobs.One hex form) = is_json form
 job_wants_json (jobs.Play file device from to form) = is_json form
 job_wants_json (jobs.Check image trace json) = json
+job_wants_json (jobs.Lint file only except json) = json
 job_wants_json (jobs.Show image trace device from to form) = is_json form
 job_wants_json (jobs.Test files only form junit) = is_case_json form
 job_wants_json _ = false

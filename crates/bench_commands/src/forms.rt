@@ -1,9 +1,10 @@
 //! The forms that the words ask for.
 ghost use Rattle.std.specs.Prelude.{◌≡◌};
-ghost use Rattle.bench_commands.specs.Command.{form_of, is_case_json, is_json, job_wants_json, play_form};
+ghost use Rattle.bench_commands.specs.Command.{form_of, is_case_json, is_json, job_wants_json, lint_form, play_form};
 ghost use Rattle.bench_commands.specs.Command.{report_form, wants_json};
 
 use command_line::{Asked, CaseForm, Job, TraceForm as AskedForm};
+use command_lint::LintForm;
 use command_play::PlayForm;
 use command_test::ReportForm;
 use command_traces::TraceForm;
@@ -34,7 +35,7 @@ pub(crate) fn job_wants_json(job: &Job) -> bool
 {
     match job {
         Job::One { form, .. } | Job::Play { form, .. } | Job::Show { form, .. } => is_json(*form),
-        Job::Check { json, .. } => *json,
+        Job::Check { json, .. } | Job::Lint { json, .. } => *json,
         Job::Test { form, .. } => is_case_json(*form),
         Job::Say { .. }
         | Job::Spell { .. }
@@ -44,8 +45,7 @@ pub(crate) fn job_wants_json(job: &Job) -> bool
         | Job::Pcap { .. }
         | Job::Debug { .. }
         | Job::Titles { .. }
-        | Job::Join { .. }
-        | Job::Lint { .. } => false,
+        | Job::Join { .. } => false,
     }
 }
 
@@ -90,5 +90,16 @@ pub(crate) fn form_of(form: AskedForm) -> TraceForm
         AskedForm::Text => TraceForm::Text,
         AskedForm::Reasons => TraceForm::Reasons,
         AskedForm::JsonLines => TraceForm::JsonLines,
+    }
+}
+
+/// The form of what is found that is asked for.
+pub(crate) fn lint_form(json: bool) -> LintForm
+    ensures { result ≡ lint_form json }
+{
+    if json {
+        LintForm::JsonLines
+    } else {
+        LintForm::Text
     }
 }

@@ -6,7 +6,7 @@ ghost use Rattle.command_demo.specs.One.{IsOneFault};
 ghost use Rattle.command_files.specs.Loading.{IsCheckRefused};
 ghost use Rattle.command_files.specs.World.{IsIdle};
 
-use crate::forms::{form_of, play_form, report_form};
+use crate::forms::{form_of, lint_form, play_form, report_form};
 use command_debug::debug;
 use command_demo::{one, one_json, one_why};
 use command_files::files::Files;
@@ -194,8 +194,14 @@ pub(crate) fn answer_to<'a, R: Threads + Wait + Sync, F: Files, I: Input, O: Out
             let answer = join(alloc, path, images.as_slice(), files)?;
             Ok(Some(answer))
         }
-        Job::Lint { file, only, except } => {
-            let answer = lint(alloc, file, only.as_slice(), except.as_slice(), files)?;
+        Job::Lint {
+            file,
+            only,
+            except,
+            json,
+        } => {
+            let form = lint_form(json);
+            let answer = lint(alloc, file, form, only.as_slice(), except.as_slice(), files)?;
             Ok(Some(answer))
         }
     }

@@ -18,7 +18,7 @@ use Rattle.command_line.specs.declared.words.TraceForm.TheVariants as forms
 use Rattle.command_line.specs.declared.words.CaseForm.{CaseForm}
 use Rattle.command_line.specs.declared.words.CaseForm.TheVariants as case_forms
 use Rattle.command_line.specs.Words.{AsksFor, AsksForCaseForm, AsksForFleet, AsksForForm, AsksForLog, AsksForWire}
-use Rattle.command_line.specs.Words.{AsksToLive}
+use Rattle.command_line.specs.Words.{AsksToLive, MayBeJson}
 use Rattle.command_line.specs.Words.{IsReadAs, IsRefusedAs, MayAskFor, bench_app, is_set, refusals}
 use Rattle.command_line.specs.Inside.{IsTakenAs, LacksFleet, LacksJoin, LacksLint, LacksLive, LacksOne, LacksPlay}
 use Rattle.command_line.specs.Inside.{LacksRun, LacksSay, LacksShow, LacksTest, LacksWire, WantsTwoCaseForms, WantsTwoForms}
@@ -45,7 +45,7 @@ no_one rows (jobs.Debug image trace) none asks = search rules
 no_one rows (jobs.Titles files only) none asks = search rules
 no_one rows (jobs.Test files only form junit) none asks = search rules
 no_one rows (jobs.Join output images) none asks = search rules
-no_one rows (jobs.Lint file only except) none asks = search rules
+no_one rows (jobs.Lint file only except json) none asks = search rules
 
 pub no_spell : (rows : List Row) (job : Job) → all_of (codes "STATEMENT") rows ≡ None
     → AsksFor (codes "spell", rows) job → ⊥
@@ -63,7 +63,7 @@ no_spell rows (jobs.Debug image trace) none asks = search rules
 no_spell rows (jobs.Titles files only) none asks = search rules
 no_spell rows (jobs.Test files only form junit) none asks = search rules
 no_spell rows (jobs.Join output images) none asks = search rules
-no_spell rows (jobs.Lint file only except) none asks = search rules
+no_spell rows (jobs.Lint file only except json) none asks = search rules
 
 pub no_play : (rows : List Row) (job : Job) → LacksPlay rows → AsksFor (codes "play", rows) job → ⊥
 no_play rows (jobs.One hex form) none asks = search rules
@@ -81,7 +81,7 @@ no_play rows (jobs.Debug image trace) none asks = search rules
 no_play rows (jobs.Titles files only) none asks = search rules
 no_play rows (jobs.Test files only form junit) none asks = search rules
 no_play rows (jobs.Join output images) none asks = search rules
-no_play rows (jobs.Lint file only except) none asks = search rules
+no_play rows (jobs.Lint file only except json) none asks = search rules
 
 pub no_asm : (rows : List Row) (job : Job) → (first_of (codes "IN") rows ≡ None) ⊎ (first_of (codes "OUT") rows ≡ None)
     → AsksFor (codes "asm", rows) job → ⊥
@@ -100,7 +100,7 @@ no_asm rows (jobs.Debug image trace) none asks = search rules
 no_asm rows (jobs.Titles files only) none asks = search rules
 no_asm rows (jobs.Test files only form junit) none asks = search rules
 no_asm rows (jobs.Join output images) none asks = search rules
-no_asm rows (jobs.Lint file only except) none asks = search rules
+no_asm rows (jobs.Lint file only except json) none asks = search rules
 
 pub no_dis : (rows : List Row) (job : Job) → first_of (codes "IN") rows ≡ None → AsksFor (codes "dis", rows) job → ⊥
 no_dis rows (jobs.One hex form) none asks = search rules
@@ -117,7 +117,7 @@ no_dis rows (jobs.Debug image trace) none asks = search rules
 no_dis rows (jobs.Titles files only) none asks = search rules
 no_dis rows (jobs.Test files only form junit) none asks = search rules
 no_dis rows (jobs.Join output images) none asks = search rules
-no_dis rows (jobs.Lint file only except) none asks = search rules
+no_dis rows (jobs.Lint file only except json) none asks = search rules
 
 pub no_run : (rows : List Row) (job : Job) → LacksRun rows → AsksFor (codes "run", rows) job → ⊥
 no_run rows (jobs.One hex form) lacks asks = search rules
@@ -136,7 +136,7 @@ no_run rows (jobs.Debug image trace) lacks asks = search rules
 no_run rows (jobs.Titles files only) lacks asks = search rules
 no_run rows (jobs.Test files only form junit) lacks asks = search rules
 no_run rows (jobs.Join output images) lacks asks = search rules
-no_run rows (jobs.Lint file only except) lacks asks = search rules
+no_run rows (jobs.Lint file only except json) lacks asks = search rules
 
 pub no_check : (rows : List Row) (job : Job) → (first_of (codes "IMAGE") rows ≡ None)
     ⊎ (first_of (codes "TRACE") rows ≡ None) → AsksFor (codes "check", rows) job → ⊥
@@ -155,7 +155,7 @@ no_check rows (jobs.Debug image trace) none asks = search rules
 no_check rows (jobs.Titles files only) none asks = search rules
 no_check rows (jobs.Test files only form junit) none asks = search rules
 no_check rows (jobs.Join output images) none asks = search rules
-no_check rows (jobs.Lint file only except) none asks = search rules
+no_check rows (jobs.Lint file only except json) none asks = search rules
 
 pub no_show : (rows : List Row) (job : Job) → LacksShow rows → AsksFor (codes "show", rows) job → ⊥
 no_show rows (jobs.One hex form) lacks asks = search rules
@@ -174,7 +174,7 @@ no_show rows (jobs.Debug image trace) lacks asks = search rules
 no_show rows (jobs.Titles files only) lacks asks = search rules
 no_show rows (jobs.Test files only form junit) lacks asks = search rules
 no_show rows (jobs.Join output images) lacks asks = search rules
-no_show rows (jobs.Lint file only except) lacks asks = search rules
+no_show rows (jobs.Lint file only except json) lacks asks = search rules
 
 pub no_debug : (rows : List Row) (job : Job) → (first_of (codes "IMAGE") rows ≡ None)
     ⊎ (first_of (codes "TRACE") rows ≡ None) → AsksFor (codes "debug", rows) job → ⊥
@@ -193,7 +193,7 @@ no_debug rows (jobs.Debug image trace) (inr none) asks = search rules
 no_debug rows (jobs.Titles files only) none asks = search rules
 no_debug rows (jobs.Test files only form junit) none asks = search rules
 no_debug rows (jobs.Join output images) none asks = search rules
-no_debug rows (jobs.Lint file only except) none asks = search rules
+no_debug rows (jobs.Lint file only except json) none asks = search rules
 
 pub no_pcap : (rows : List Row) (job : Job) → (first_of (codes "IMAGE") rows ≡ None)
     ⊎ ((first_of (codes "TRACE") rows ≡ None) ⊎ (first_of (codes "OUT") rows ≡ None))
@@ -214,7 +214,7 @@ no_pcap rows (jobs.Debug image trace) none asks = search rules
 no_pcap rows (jobs.Titles files only) none asks = search rules
 no_pcap rows (jobs.Test files only form junit) none asks = search rules
 no_pcap rows (jobs.Join output images) none asks = search rules
-no_pcap rows (jobs.Lint file only except) none asks = search rules
+no_pcap rows (jobs.Lint file only except json) none asks = search rules
 
 -- words that exclude each other ask for no titles, and for no cases that are played
 one_case_form : (rows : List Row) (form : CaseForm) → WantsTwoCaseForms rows → AsksForCaseForm rows form → ⊥
@@ -253,7 +253,7 @@ no_test rows (jobs.Test files only form junit) (inr (inr both)) asks =
     let plays : is_set (codes "list") rows ≡ false = asks.1 in
     cc
 no_test rows (jobs.Join output images) lacks asks = search rules
-no_test rows (jobs.Lint file only except) lacks asks = search rules
+no_test rows (jobs.Lint file only except json) lacks asks = search rules
 
 pub no_join : (rows : List Row) (job : Job) → LacksJoin rows → AsksFor (codes "join", rows) job → ⊥
 no_join rows (jobs.One hex form) lacks asks = search rules
@@ -271,13 +271,19 @@ no_join rows (jobs.Titles files only) lacks asks = search rules
 no_join rows (jobs.Test files only form junit) lacks asks = search rules
 no_join rows (jobs.Join output images) (inl none) asks = search rules
 no_join rows (jobs.Join output images) (inr none) asks = cc
-no_join rows (jobs.Lint file only except) lacks asks = search rules
+no_join rows (jobs.Lint file only except json) lacks asks = search rules
 
 -- a file and `--rules` exclude each other, and one of them has to be there
 lint_alone : {X : Type 0} (f : X → Word) (listed : Bool) (word : Option Word) (file : Option X)
     → listed ≡ is_some word → word ≡ option_map f file → listed ≡ not (is_some file) → ⊥
 lint_alone f listed word None both is lists = search rules
 lint_alone f listed word (Some path) both is lists = search rules
+
+-- without a file there are no objects
+no_objects : {X : Type 0} (f : X → Word) (set : Bool) (word : Option Word) (file : Option X) (json : Bool)
+    → word ≡ None → set ≡ true → word ≡ option_map f file → set ≡ json → MayBeJson file json → ⊥
+no_objects f set word None json none objects is same alone = search rules
+no_objects f set word (Some path) json none objects is same alone = search rules
 
 pub no_lint : (rows : List Row) (job : Job) → LacksLint rows → AsksFor (codes "lint", rows) job → ⊥
 no_lint rows (jobs.One hex form) lacks asks = search rules
@@ -294,8 +300,11 @@ no_lint rows (jobs.Debug image trace) lacks asks = search rules
 no_lint rows (jobs.Titles files only) lacks asks = search rules
 no_lint rows (jobs.Test files only form junit) lacks asks = search rules
 no_lint rows (jobs.Join output images) lacks asks = search rules
-no_lint rows (jobs.Lint file only except) lacks asks =
-    lint_alone (λ p. p.now) (is_set (codes "rules") rows) (first_of (codes "FILE") rows) file lacks asks.1 asks.2
+no_lint rows (jobs.Lint file only except json) (inl both) asks =
+    lint_alone (λ p. p.now) (is_set (codes "rules") rows) (first_of (codes "FILE") rows) file both asks.1 asks.2
+no_lint rows (jobs.Lint file only except json) (inr (none, objects)) asks =
+    no_objects (λ p. p.now) (is_set (codes "json") rows) (first_of (codes "FILE") rows) file json none objects asks.1
+    asks.5 asks.6
 
 -- the words of a device on the network
 lacks_live : (rows : List Row) (live : Live) → LacksLive rows → AsksToLive (codes "live", rows) live → ⊥
@@ -320,7 +329,7 @@ live_alone rows (jobs.Debug image trace) asks = search rules
 live_alone rows (jobs.Titles files only) asks = search rules
 live_alone rows (jobs.Test files only form junit) asks = search rules
 live_alone rows (jobs.Join output images) asks = search rules
-live_alone rows (jobs.Lint file only except) asks = search rules
+live_alone rows (jobs.Lint file only except json) asks = search rules
 
 pub not_live : (rows : List Row) (wanted : Asked) → LacksLive rows → MayAskFor (codes "live", rows) wanted → ⊥
 not_live rows (asked.Job job) lacks asks = live_alone rows job asks
@@ -357,7 +366,7 @@ fleet_alone rows (jobs.Debug image trace) asks = search rules
 fleet_alone rows (jobs.Titles files only) asks = search rules
 fleet_alone rows (jobs.Test files only form junit) asks = search rules
 fleet_alone rows (jobs.Join output images) asks = search rules
-fleet_alone rows (jobs.Lint file only except) asks = search rules
+fleet_alone rows (jobs.Lint file only except json) asks = search rules
 
 pub not_fleet : (rows : List Row) (wanted : Asked) → LacksFleet rows → MayAskFor (codes "fleet", rows) wanted → ⊥
 not_fleet rows (asked.Job job) lacks asks = fleet_alone rows job asks
@@ -383,7 +392,7 @@ lacks_hex rows (jobs.Debug image trace) lacks asks = search rules
 lacks_hex rows (jobs.Titles files only) lacks asks = search rules
 lacks_hex rows (jobs.Test files only form junit) lacks asks = search rules
 lacks_hex rows (jobs.Join output images) lacks asks = search rules
-lacks_hex rows (jobs.Lint file only except) lacks asks = search rules
+lacks_hex rows (jobs.Lint file only except json) lacks asks = search rules
 
 lacks_log : (rows : List Row) (server : ℕ) → LacksSay rows → AsksForLog (codes "say", rows) server → ⊥
 lacks_log rows server (inl none) asks = search rules

@@ -172,10 +172,12 @@ join_app = with_rule (with_rule (new_app (codes "join")) (needed (codes "OUT")))
 abbrev pub with_rules : App → App
 with_rules a = with_rule (with_rule a (text_options (codes "only"))) (text_options (codes "not"))
 
--- `lint [FILE] [--only RULE] .. [--not RULE] .. [--rules]`
+-- `lint [FILE] [--only RULE] .. [--not RULE] .. [--rules] [--json]`
 abbrev pub lint_app : App
 lint_app =
-    with_rule (with_rules (with_rule (new_app (codes "lint")) (may_stand (codes "FILE")))) (flag (codes "rules"))
+    with_rule
+    (with_rule (with_rules (with_rule (new_app (codes "lint")) (may_stand (codes "FILE")))) (flag (codes "rules")))
+    (flag (codes "json"))
 
 -- `FILE .. [--only WORDS]`
 abbrev pub with_cases : App → App
@@ -229,9 +231,11 @@ LacksFleet rows =
 abbrev pub LacksJoin : List Row → Type 0
 LacksJoin rows = (first_of (codes "OUT") rows ≡ None) ⊎ (all_of (codes "IMAGE") rows ≡ None)
 
--- `lint` has neither a file nor `--rules`, or both
+-- `lint` has neither a file nor `--rules`, or both; or `--json` without a file
 abbrev pub LacksLint : List Row → Type 0
-LacksLint rows = is_set (codes "rules") rows ≡ is_some (first_of (codes "FILE") rows)
+LacksLint rows =
+    (is_set (codes "rules") rows ≡ is_some (first_of (codes "FILE") rows))
+    ⊎ ((first_of (codes "FILE") rows ≡ None) × (is_set (codes "json") rows ≡ true))
 
 -- `--list` stands beside `--tap`, `--json` or `--junit`, of which each wants cases that are played
 abbrev pub ListsAndPlays : List Row → Type 0

@@ -1,5 +1,5 @@
 -- The words of the command line: which `clap` takes, and what they then ask for.
-use Rattle.std.specs.Prelude.{◌≡◌, ◌≢◌, ◌↔◌, ◌⊎◌, ◌<◌, ◌^◌, ◌||◌, ℕ, pos, Bool, true, false, IsTrue, List, [], ◌∷◌}
+use Rattle.std.specs.Prelude.{⊤, ◌≡◌, ◌≢◌, ◌↔◌, ◌⊎◌, ◌<◌, ◌^◌, ◌||◌, ℕ, pos, Bool, true, false, IsTrue, List, [], ◌∷◌}
 use Rattle.std.specs.Prelude.{Option, None, Some, fold, is_some, map, not, option_map, unwrap_or, codes}
 use Rattle.std.specs.Str.{bytes_eq}
 use Rattle.std.specs.Str.Parse.{IsNumeral, digits_value, without_leading_plus}
@@ -128,9 +128,9 @@ commands =
     ∷ flag (codes "show") ∷ flag (codes "json") ∷ [])
     -- `join OUT IMAGE ..`
     ∷ command (codes "join") (needed (codes "OUT") ∷ several (codes "IMAGE") ∷ [])
-    -- `lint FILE [--only RULE] .. [--not RULE] ..`, `lint --rules [--only RULE] .. [--not RULE] ..`
+    -- `lint FILE [--only RULE] .. [--not RULE] .. [--json]`, `lint --rules [--only RULE] .. [--not RULE] ..`
     ∷ command (codes "lint") (may_stand (codes "FILE") ∷ text_options (codes "only") ∷ text_options (codes "not")
-    ∷ flag (codes "rules") ∷ [])
+    ∷ flag (codes "rules") ∷ flag (codes "json") ∷ [])
     -- `test FILE .. [--only WORDS] [--list] [--tap] [--json] [--junit FILE]`
     ∷ command (codes "test") (several (codes "FILE") ∷ text_option (codes "only") ∷ flag (codes "list")
     ∷ flag (codes "tap") ∷ flag (codes "json") ∷ text_option (codes "junit") ∷ []) ∷ []
@@ -194,6 +194,11 @@ AsksForCaseForm rows case_forms.Text = (is_set (codes "tap") rows ≡ false) × 
 AsksForCaseForm rows case_forms.Tap = (is_set (codes "tap") rows ≡ true) × (is_set (codes "json") rows ≡ false)
 AsksForCaseForm rows case_forms.JsonLines = (is_set (codes "tap") rows ≡ false) × (is_set (codes "json") rows ≡ true)
 
+-- objects are there of what is found in a file, and of nothing else
+abbrev pub MayBeJson : {X : Type 0} → Option X → Bool → Type 0
+MayBeJson None json = json ≡ false
+MayBeJson (Some file) json = ⊤
+
 -- a subcommand with its values asks for this
 abbrev pub AsksFor : Word × List Row → Job → Type 0
 AsksFor found (jobs.One hex form) =
@@ -240,11 +245,12 @@ AsksFor found (jobs.Join output images) =
     (found.0 ≡ codes "join") × IsText found (codes "OUT") output.now
     × AreTexts found (codes "IMAGE") (map (λ p. p.now) images.items)
 -- `--rules` stands in the place of a file
-AsksFor found (jobs.Lint file only except) =
+AsksFor found (jobs.Lint file only except json) =
     (found.0 ≡ codes "lint") × (first_of (codes "FILE") found.1 ≡ option_map (λ p. p.now) file)
     × (is_set (codes "rules") found.1 ≡ not (is_some file))
     × (unwrap_or (all_of (codes "only") found.1) [] ≡ map (λ w. w.now) only.items)
     × (unwrap_or (all_of (codes "not") found.1) [] ≡ map (λ w. w.now) except.items)
+    × (is_set (codes "json") found.1 ≡ json) × MayBeJson file json
 
 -- a subcommand with its values asks for this device on the network
 abbrev pub AsksToLive : Word × List Row → Live → Type 0

@@ -229,7 +229,8 @@ prints a line for each of them that breaks a rule, and at the end how many
   device D step K second S: RULE: WORDS (RFC 7252 section N)
   N findings
 The status is 3 if there is one. With `--only` these rules alone are looked at, with `--not` all but these.
-With `--rules` in the place of FILE prints the rules. Writes no file.
+With `--json` prints each finding as an object in JSON, in a line, and so the count. With `--rules` in the
+place of FILE prints the rules. Writes no file.
 
 Example:
   lwbench lint night.image --not repeated-too-soon";

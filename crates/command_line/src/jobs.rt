@@ -214,8 +214,14 @@ fn rules_job<'a>(
     ensures none { IfNone result (LacksLint (rows_of (found_of found.now))) }
 {
     let file = value_of(found, "FILE");
-    match (file, flag(found, "rules")) {
-        (Some(_), false) | (None, true) => Some(Job::Lint { file, only, except }),
+    let json = flag(found, "json");
+    match (file, flag(found, "rules"), json) {
+        (Some(_), false, _) | (None, true, false) => Some(Job::Lint {
+            file,
+            only,
+            except,
+            json,
+        }),
         _ => None,
     }
 }

@@ -194,6 +194,8 @@ pub enum Job<'a> {
         only: Vec<&'a str>,
         /// The names of the rules that are not looked at.
         except: Vec<&'a str>,
+        /// Whether what is found is printed as JSON Lines; not where the rules are printed.
+        json: bool,
     },
 }
 

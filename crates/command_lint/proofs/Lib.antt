@@ -3,3 +3,4 @@ pub mod Those
 pub mod Adding
 pub mod Words
 pub mod Linted
+pub mod Again

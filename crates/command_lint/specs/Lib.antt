@@ -1,4 +1,5 @@
 pub mod History
 pub mod Choice
+pub mod Objects
 pub mod Lines
 pub mod Lint

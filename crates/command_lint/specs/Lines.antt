@@ -3,12 +3,16 @@ use Rattle.std.specs.Prelude.{ℕ, List, [], ◌++◌, Option, None, Some, codes
 use Rattle.std.specs.Fmt.{decimal}
 use Rattle.scenario_image.specs.Scenario.{Scenario}
 use Rattle.scenario_words.specs.Words.{ended_line}
+use Rattle.trace_json.specs.Writing.{json_line}
 use Rattle.server_lint.specs.declared.finding.Finding.{Finding}
 use Rattle.server_lint.specs.declared.rule.Rule.{Rule}
 use Rattle.server_lint.specs.History.{Transmission}
 use Rattle.server_lint.specs.Names.{rule_name, section_of, summary_of}
 use Rattle.server_lint.specs.Text.{finding_text}
 use Rattle.command_lint.specs.History.{end_of, history_of}
+use Rattle.command_lint.specs.Objects.{count_json, finding_json}
+use Rattle.command_lint.specs.declared.form.LintForm.{LintForm}
+use Rattle.command_lint.specs.declared.form.LintForm.TheVariants.{Text, JsonLines}
 use Rattle.command_lint.specs.declared.rows.Found.{Found}
 
 -- `device D step K second S: WORDS`
@@ -22,27 +26,33 @@ abbrev pub broken_words : List ℕ → List ℕ → List ℕ → List ℕ
 broken_words name words section =
     name ++ codes ": " ++ words ++ codes " (RFC 7252 section " ++ section ++ codes ")"
 
+-- the line of a rule that a datagram breaks, with what is said of it: as text, or as an object
+abbrev pub line_with : LintForm → ℕ → Rule → Transmission → List ℕ → List ℕ
+line_with Text device rule t words =
+    placed_line device t.step t.second (broken_words (rule_name rule) words (section_of rule))
+line_with JsonLines device rule t words = json_line (finding_json device rule t words)
+
 -- the line of a rule that a datagram breaks which stands after these, in a history that ends in this second
-abbrev pub line_of : ℕ → Rule → List Transmission → Transmission → ℕ → List ℕ
-line_of device rule before t end =
-    placed_line device t.step t.second
-    (broken_words (rule_name rule) (finding_text rule before t end) (section_of rule))
+abbrev pub line_of : LintForm → ℕ → Rule → List Transmission → Transmission → ℕ → List ℕ
+line_of form device rule before t end = line_with form device rule t (finding_text rule before t end)
 
 -- the line of a finding in a history that ends in this second
-abbrev pub line_at : ℕ → List Transmission → ℕ → Finding → Option Transmission → List ℕ
-line_at device history end f None = []
-line_at device history end f (Some t) = line_of device f.rule (take f.place history) t end
+abbrev pub line_at : LintForm → ℕ → List Transmission → ℕ → Finding → Option Transmission → List ℕ
+line_at form device history end f None = []
+line_at form device history end f (Some t) = line_of form device f.rule (take f.place history) t end
 
-abbrev pub line_in : ℕ → List Transmission → ℕ → Finding → List ℕ
-line_in device history end f = line_at device history end f (slice_get history f.place)
+abbrev pub line_in : LintForm → ℕ → List Transmission → ℕ → Finding → List ℕ
+line_in form device history end f = line_at form device history end f (slice_get history f.place)
 
 -- the line of what was found of a device
-abbrev pub found_line : Scenario → Found → List ℕ
-found_line s found = line_in found.device (history_of s found.device) (end_of s found.device) found.finding
+abbrev pub found_line : LintForm → Scenario → Found → List ℕ
+found_line form s found =
+    line_in form found.device (history_of s found.device) (end_of s found.device) found.finding
 
--- `N findings`
-abbrev pub count_line : ℕ → List ℕ
-count_line n = ended_line (decimal n ++ codes " findings")
+-- `N findings`, or the object that says so
+abbrev pub count_line : LintForm → ℕ → List ℕ
+count_line Text n = ended_line (decimal n ++ codes " findings")
+count_line JsonLines n = json_line (count_json n)
 
 -- `RULE (RFC 7252 section N): a server WHAT`
 abbrev pub rule_words : List ℕ → List ℕ → List ℕ → List ℕ

@@ -1,5 +1,5 @@
--- What `lint FILE [--only RULE] .. [--not RULE] ..` comes to: the findings that are printed, and what is refused; and
--- `lint --rules`, which names no file.
+-- What `lint FILE [--only RULE] .. [--not RULE] .. [--json]` comes to: the findings that are printed, and what is
+-- refused; and `lint --rules`, which names no file.
 --
 -- Two relations say what is known of the files: `holds path bytes`, the file at the path had these bytes when it was
 -- read; `fails path`, it could not be read.
@@ -21,6 +21,7 @@ use Rattle.command_files.specs.declared.status.Status.TheVariants.{Done, NotRun,
 use Rattle.command_lint.specs.Choice.{chosen_rules, is_unknown}
 use Rattle.command_lint.specs.History.{end_of, history_of}
 use Rattle.command_lint.specs.Lines.{count_line, found_line, rule_line, unknown_line}
+use Rattle.command_lint.specs.declared.form.LintForm.{LintForm}
 use Rattle.command_lint.specs.declared.rows.Found.{Found}
 
 -- one of the chosen rules is broken in the history of a device
@@ -47,19 +48,19 @@ status_of [] = Done
 status_of (f ∷ fs) = NotRun
 
 -- a line for each finding, and one that counts them
-pub record IsLinted (chosen : List Rule) (s : Scenario) (answer : Answer) : Type 0 where
+pub record IsLinted (form : LintForm) (chosen : List Rule) (s : Scenario) (answer : Answer) : Type 0 where
   pub found : List Found
   pub all : AreAllFound chosen s found
-  pub text_is : string_bytes answer.text ≡ flat_map (found_line s) found ++ count_line (length found)
+  pub text_is : string_bytes answer.text ≡ flat_map (found_line form s) found ++ count_line form (length found)
   pub status_is : answer.status ≡ status_of found
   pub made_is : files_of answer.file ≡ []
 
 -- the scenario whose image or text the file is is linted by these rules
-pub record IsFileLinted (holds : List ℕ → List ℕ → Type 0) (path : List ℕ) (chosen : List Rule) (answer : Answer)
-    : Type 0 where
+pub record IsFileLinted (holds : List ℕ → List ℕ → Type 0) (path : List ℕ) (form : LintForm) (chosen : List Rule)
+    (answer : Answer) : Type 0 where
   pub scenario : Scenario
   pub read : IsHeld holds path (λ bytes. IsScenarioOf bytes scenario)
-  pub linted : IsLinted chosen scenario answer
+  pub linted : IsLinted form chosen scenario answer
 
 -- a line for each of these rules
 pub record AreRulesTold (chosen : List Rule) (answer : Answer) : Type 0 where
@@ -67,16 +68,16 @@ pub record AreRulesTold (chosen : List Rule) (answer : Answer) : Type 0 where
   pub status_is : answer.status ≡ Done
   pub made_is : files_of answer.file ≡ []
 
--- what is answered with these rules: what breaks them, where a file is named; else they are told
-abbrev pub IsAnsweredBy : (List ℕ → List ℕ → Type 0) → Option (List ℕ) → List Rule → Answer → Type 0
-IsAnsweredBy holds None chosen answer = AreRulesTold chosen answer
-IsAnsweredBy holds (Some path) chosen answer = IsFileLinted holds path chosen answer
+-- what is answered with these rules: what breaks them, where a file is named; else they are told, as text
+abbrev pub IsAnsweredBy : (List ℕ → List ℕ → Type 0) → Option (List ℕ) → LintForm → List Rule → Answer → Type 0
+IsAnsweredBy holds None form chosen answer = AreRulesTold chosen answer
+IsAnsweredBy holds (Some path) form chosen answer = IsFileLinted holds path form chosen answer
 
 -- the words name rules, and those that they choose are answered with
-pub record IsChosenAnswered (holds : List ℕ → List ℕ → Type 0) (path : Option (List ℕ))
+pub record IsChosenAnswered (holds : List ℕ → List ℕ → Type 0) (path : Option (List ℕ)) (form : LintForm)
     (only excluded : List (List ℕ)) (answer : Answer) : Type 0 where
   pub known : find is_unknown (only ++ excluded) ≡ None
-  pub answered : IsAnsweredBy holds path (chosen_rules only excluded) answer
+  pub answered : IsAnsweredBy holds path form (chosen_rules only excluded) answer
 
 -- the first word that is the name of no rule is told; the file is not read
 pub record IsUnknownRule (only excluded : List (List ℕ)) (answer : Answer) : Type 0 where
@@ -86,9 +87,10 @@ pub record IsUnknownRule (only excluded : List (List ℕ)) (answer : Answer) : T
   pub status_is : answer.status ≡ Usage
   pub made_is : files_of answer.file ≡ []
 
-abbrev pub IsLintDone : (List ℕ → List ℕ → Type 0) → Option (List ℕ) → List (List ℕ) → List (List ℕ) → Answer → Type 0
-IsLintDone holds path only excluded answer =
-    IsUnknownRule only excluded answer ⊎ IsChosenAnswered holds path only excluded answer
+abbrev pub IsLintDone : (List ℕ → List ℕ → Type 0) → Option (List ℕ) → LintForm → List (List ℕ) → List (List ℕ)
+    → Answer → Type 0
+IsLintDone holds path form only excluded answer =
+    IsUnknownRule only excluded answer ⊎ IsChosenAnswered holds path form only excluded answer
 
 -- a file is named, and could not be read, or is neither an image nor a text
 abbrev pub IsUnread : (List ℕ → List ℕ → Type 0) → (List ℕ → Type 0) → Option (List ℕ) → Fault → Type 0

@@ -2,9 +2,12 @@
 #![tactic(auto)]
 
 mod choice;
+mod form;
 mod history;
 mod lines;
 mod linting;
+mod objects;
 mod rows;
 
+pub use form::LintForm;
 pub use linting::lint;

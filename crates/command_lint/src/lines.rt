@@ -3,8 +3,10 @@ ghost use Rattle.std.specs.Prelude.{◌≡◌, IfOk};
 ghost use Rattle.std.specs.List.{flat_map};
 ghost use Rattle.std.specs.String.{string_bytes};
 ghost use Rattle.scenario_words.specs.Words.{ended_line};
-ghost use Rattle.command_lint.specs.Lines.{broken_words, count_line, line_in, line_of, placed_line, rule_line, rule_words, unknown_line};
+ghost use Rattle.command_lint.specs.Lines.{broken_words, count_line, line_in, line_with, placed_line, rule_line, rule_words, unknown_line};
 
+use crate::form::LintForm;
+use crate::objects::{count_object, finding_object};
 use server_lint::{Finding, Rule, Transmission, finding_text};
 use std::alloc::{AllocError, Global};
 
@@ -35,51 +37,63 @@ fn broken_words(alloc: Global, name: &str, words: &str, section: &str) -> Result
     format!(in alloc; "{name}: {words} (RFC 7252 section {section})")
 }
 
-/// The line of a rule that a datagram breaks which stands after these, in a history that ends in this second.
-fn line_of(
+/// The line of a rule that a datagram breaks, with what is said of it.
+fn line_with(
     alloc: Global,
+    form: LintForm,
     device: u16,
     rule: Rule,
-    before: &[Transmission],
     t: &Transmission,
-    end: u32,
+    words: &str,
 ) -> Result<String, AllocError>
-    ensures { IfOk result (λ text. string_bytes text ≡ line_of device rule before.now t.now end) }
+    ensures { IfOk result (λ text. string_bytes text ≡ line_with form device rule t.now words.now) }
 {
-    let text = finding_text(alloc, rule, before, t, end)?;
-    let words = broken_words(alloc, rule.name(), text.as_str(), rule.section())?;
-    placed_line(alloc, device, t.step(), t.second(), words.as_str())
+    match form {
+        LintForm::Text => {
+            let said = broken_words(alloc, rule.name(), words, rule.section())?;
+            placed_line(alloc, device, t.step(), t.second(), said.as_str())
+        }
+        LintForm::JsonLines => finding_object(alloc, device, rule, t, words),
+    }
 }
 
 /// The line of a finding in a history that ends in this second.
 pub(crate) fn line_in(
     alloc: Global,
+    form: LintForm,
     device: u16,
     history: &[Transmission],
     end: u32,
     finding: Finding,
 ) -> Result<String, AllocError>
-    ensures { IfOk result (λ text. string_bytes text ≡ line_in device history.now end finding) }
+    ensures { IfOk result (λ text. string_bytes text ≡ line_in form device history.now end finding) }
 {
     match history.get(finding.place) {
         None => Ok(String::new(alloc)),
-        Some(t) => line_of(
-            alloc,
-            device,
-            finding.rule,
-            &history[..finding.place],
-            t,
-            end,
-        ),
+        Some(t) => {
+            let before = &history[..finding.place];
+            let words = finding_text(alloc, finding.rule, before, t, end)?;
+            line_with(alloc, form, device, finding.rule, t, words.as_str())
+        }
     }
 }
 
-/// The line that counts findings.
-pub(crate) fn count_line(alloc: Global, count: usize) -> Result<String, AllocError>
-    ensures { IfOk result (λ text. string_bytes text ≡ count_line count) }
+/// The line that counts findings, as text.
+fn count_text(alloc: Global, count: usize) -> Result<String, AllocError>
+    ensures { IfOk result (λ text. string_bytes text ≡ count_line LintForm.Text count) }
 {
     let words = format!(in alloc; "{count} findings")?;
     ended_line(alloc, words.as_str())
+}
+
+/// The line that counts findings.
+pub(crate) fn count_line(alloc: Global, form: LintForm, count: usize) -> Result<String, AllocError>
+    ensures { IfOk result (λ text. string_bytes text ≡ count_line form count) }
+{
+    match form {
+        LintForm::Text => count_text(alloc, count),
+        LintForm::JsonLines => count_object(alloc, count),
+    }
 }
 
 /// The line of a word that is the name of no rule.

@@ -8,6 +8,7 @@ ghost use Rattle.command_lint.specs.Lines.{found_line, line_in};
 ghost use Rattle.command_lint.specs.Lint.{AreAllFound, IsFound, candidates_of};
 ghost use Rattle.command_lint.specs.declared.rows.Found.{Found as FoundData};
 
+use crate::form::LintForm;
 use crate::history::history_of;
 use crate::lines::line_in;
 use scenario_image::Scenario;
@@ -36,6 +37,7 @@ pub(crate) struct Findings {
 /// Adds a finding, and its line.
 fn add_finding(
     alloc: Global,
+    form: LintForm,
     findings: &mut Findings,
     device: u16,
     history: &[Transmission],
@@ -45,9 +47,9 @@ fn add_finding(
     ensures items { OnOk result (findings.new.items.items
         ≡ findings.old.items.items ++ record { device = device; finding = finding } ∷ []) }
     ensures text { OnOk result (string_bytes findings.new.text
-        ≡ string_bytes findings.old.text ++ line_in device history.now end finding) }
+        ≡ string_bytes findings.old.text ++ line_in form device history.now end finding) }
 {
-    let line = line_in(alloc, device, history, end, finding)?;
+    let line = line_in(alloc, form, device, history, end, finding)?;
     findings.text.push_str(line.as_str())?;
     findings.items.push(Found { device, finding })?;
     Ok(())
@@ -56,6 +58,7 @@ fn add_finding(
 /// Adds findings, and their lines.
 fn add_findings(
     alloc: Global,
+    form: LintForm,
     findings: &mut Findings,
     device: u16,
     history: &[Transmission],
@@ -65,10 +68,10 @@ fn add_findings(
     ensures items { OnOk result (findings.new.items.items
         ≡ findings.old.items.items ++ map (λ finding. record { device = device; finding = finding }) found.now) }
     ensures text { OnOk result (string_bytes findings.new.text
-        ≡ string_bytes findings.old.text ++ flat_map (line_in device history.now end) found.now) }
+        ≡ string_bytes findings.old.text ++ flat_map (line_in form device history.now end) found.now) }
 {
     for finding in found {
-        add_finding(alloc, findings, device, history, end, *finding)?;
+        add_finding(alloc, form, findings, device, history, end, *finding)?;
     }
     Ok(())
 }
@@ -76,6 +79,7 @@ fn add_findings(
 /// Adds what is found of a device.
 fn add_row(
     alloc: Global,
+    form: LintForm,
     findings: &mut Findings,
     chosen: &[Rule],
     scenario: &Scenario,
@@ -90,13 +94,14 @@ fn add_row(
         → AreThose (IsFound chosen.now scenario.now) (so_far ++ candidates_of scenario.now device)
         findings.new.items.items) }
     ensures text { OnOk result (string_bytes findings.old.text
-        ≡ flat_map (found_line scenario.now) findings.old.items.items
-        → string_bytes findings.new.text ≡ flat_map (found_line scenario.now) findings.new.items.items) }
+        ≡ flat_map (found_line form scenario.now) findings.old.items.items
+        → string_bytes findings.new.text ≡ flat_map (found_line form scenario.now) findings.new.items.items) }
 {
     let history = history_of(alloc, scenario, clocks, device)?;
     let found = find_broken(alloc, chosen, history.items.as_slice(), history.end)?;
     add_findings(
         alloc,
+        form,
         findings,
         device,
         history.items.as_slice(),
@@ -108,11 +113,12 @@ fn add_row(
 /// All that is found in a scenario.
 pub(crate) fn find_all(
     alloc: Global,
+    form: LintForm,
     chosen: &[Rule],
     scenario: &Scenario,
 ) -> Result<Findings, AllocError>
     ensures all { IfOk result (λ f. AreAllFound chosen.now scenario.now f.items.items) }
-    ensures text { IfOk result (λ f. string_bytes f.text ≡ flat_map (found_line scenario.now) f.items.items) }
+    ensures text { IfOk result (λ f. string_bytes f.text ≡ flat_map (found_line form scenario.now) f.items.items) }
 {
     let mut clocks = Clocks::new(alloc, scenario)?;
     let mut findings = Findings {
@@ -122,6 +128,7 @@ pub(crate) fn find_all(
     for device in 0..scenario.rows() {
         add_row(
             alloc,
+            form,
             &mut findings,
             chosen,
             scenario,

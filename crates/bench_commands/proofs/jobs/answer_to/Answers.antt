@@ -3,6 +3,7 @@ use Rattle.trace_text.specs.declared.selection.Selection.{Selection}
 use Rattle.command_files.specs.Loading.{RunPaths}
 use Rattle.command_join.specs.Join.{IsJoinDone, IsJoinFault}
 use Rattle.command_lint.specs.Lint.{IsLintDone, IsLintFault}
+use Rattle.command_lint.specs.declared.form.LintForm.{LintForm}
 use Rattle.command_play.specs.Play.{IsPlayDone}
 use Rattle.command_play.specs.declared.form.PlayForm.{PlayForm}
 use Rattle.command_test.specs.Jobs.{IsTestDone, IsTestFault, IsTitlesDone}
@@ -10,7 +11,7 @@ use Rattle.command_test.specs.declared.form.ReportForm.{ReportForm}
 use Rattle.command_traces.specs.Traces.{IsShowDone}
 use Rattle.command_traces.specs.declared.form.TraceForm.{TraceForm}
 use Rattle.command_words.specs.Spelling.{IsSpellDone, IsSpellFault}
-use Rattle.bench_commands.specs.Command.{report_form}
+use Rattle.bench_commands.specs.Command.{lint_form, report_form}
 use Rattle.bench_commands.proofs.AtOnce.{answered_at_once, no_answer, refused_at_once}
 use Rattle.bench_commands.proofs.jobs.answer_to.Goals as goal
 
@@ -342,11 +343,14 @@ returns-in_err-answer-in-Join g c =
 pub returns-in_ok-answer-in-Lint : goal.returns-in_ok-answer-in-Lint
 returns-in_ok-answer-in-Lint g c =
     let file : Option (List ℕ) = option_map (λ p. p.now) c.in-Lint.file in
+    let formed = subst (λ (f : LintForm). IsLintDone (g.F.Files.holds c.args.files.now) file f
+    (map (λ w. w.now) c.as_slice-in-Lint.result.now) (map (λ w. w.now) c.as_slice-in-Lint-2.result.now)
+    c.in_ok-answer-in-Lint.answer) c.lint_form-form.ensures c.in_ok-answer-in-Lint.ensures.done in
     let named = subst (λ (l : List (Bor (List ℕ))). IsLintDone (g.F.Files.holds c.args.files.now) file
-    (map (λ w. w.now) l) (map (λ w. w.now) c.as_slice-in-Lint-2.result.now)
-    c.in_ok-answer-in-Lint.answer) c.as_slice-in-Lint.ensures.value c.in_ok-answer-in-Lint.ensures.done in
+    (lint_form c.in-Lint.json) (map (λ w. w.now) l) (map (λ w. w.now) c.as_slice-in-Lint-2.result.now)
+    c.in_ok-answer-in-Lint.answer) c.as_slice-in-Lint.ensures.value formed in
     let done = subst (λ (l : List (Bor (List ℕ))). IsLintDone (g.F.Files.holds c.args.files.now) file
-    (map (λ w. w.now) c.in-Lint.only.items) (map (λ w. w.now) l)
+    (lint_form c.in-Lint.json) (map (λ w. w.now) c.in-Lint.only.items) (map (λ w. w.now) l)
     c.in_ok-answer-in-Lint.answer) c.as_slice-in-Lint-2.ensures.value named in
     record {
       done = answered_at_once _ _ _ _ c.in-Lint.is done;

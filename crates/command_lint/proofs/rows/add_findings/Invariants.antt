@@ -11,5 +11,5 @@ invariant-loop-finding l = record {
       ++ map (λ finding. record { device = l.device; finding = finding }) (take l.finding-index l.found);
   text : string_bytes l.findings.text
       ≡ string_bytes l.initial.findings.text
-      ++ flat_map (line_in l.device l.history l.end) (take l.finding-index l.found);
+      ++ flat_map (line_in l.form l.device l.history l.end) (take l.finding-index l.found);
 }

@@ -16,7 +16,7 @@ returns-clause-those c =
 
 pub returns-clause-text : goal.returns-clause-text
 returns-clause-text c =
-    row_told_ok c.add_findings.result c.args.scenario.now c.args.device c.as_slice-2.result.now
+    row_told_ok c.add_findings.result c.args.form c.args.scenario.now c.args.device c.as_slice-2.result.now
     c.in_ok-history.history.end c.as_slice-3.result.now c.args.findings.now.items.items
     c.add_findings.new.findings.items.items (string_bytes c.args.findings.now.text)
     (string_bytes c.add_findings.new.findings.text) (c.as_slice-2.ensures.value ∙ c.in_ok-history.ensures.items)

@@ -10,5 +10,5 @@ abbrev pub invariant-loop-device : goal.invariant-loop-device
 invariant-loop-device l = record {
   clocks : l.clocks ≡ l.scenario;
   those : AreThose (IsFound l.chosen l.scenario) (candidates_to l.scenario l.device) l.findings.items.items;
-  text : string_bytes l.findings.text ≡ flat_map (found_line l.scenario) l.findings.items.items;
+  text : string_bytes l.findings.text ≡ flat_map (found_line l.form l.scenario) l.findings.items.items;
 }
