@@ -1,5 +1,5 @@
 #!/usr/bin/env python3
-"""Measures `lwbench fleet`: what a request costs, how soon devices are ready, what they take of memory and at rest.
+"""Measures `lwbench fleet`: what requests and notifications cost, how soon devices are ready, what they take at rest.
 
     bench/fleet.py LWBENCH [DEVICES ..]
 
@@ -7,8 +7,9 @@ LWBENCH is the built program; DEVICES are how many devices, 1, 100, 1,000 and 10
 process of its own on this machine, reads the battery level of one device after another, 64 reads on their way at a
 time, 60,000 in all. Beside the fleet stand one device of `lwbench live`, and sockets in plain Rust that answer each
 datagram with its first bytes (bench/echo.rs, which rustc compiles). The processor time is that of the process with the
-devices, by /proc. README.md says what the columns are. It ends by itself, in some five minutes: most is the minute in
-which 10,000 devices get nothing.
+devices, by /proc. README.md says what the columns are. Then each device is observed, and its value changes each second
+(`--play --loop`), so that each sends a notification a second, for 20 seconds. It ends by itself, in some six minutes:
+most is the minute in which 10,000 devices get nothing.
 """
 import os
 import pathlib
@@ -20,13 +21,15 @@ import sys
 import tempfile
 import time
 
-REQUESTS, WINDOW, REST, PORT = 60_000, 64, 60, 20_000
+REQUESTS, WINDOW, REST, PORT, OBSERVED = 60_000, 64, 60, 20_000, 20
 CLASS = """scenario 1
 class
 account 1
 instance 3 0
 value /3/0/9 integer 100
 """
+# the value of a device is 1 in one second, and 2 in the next one
+CHANGES = "tick 1\nput /3/0/9 integer 1\ntick 1\nput /3/0/9 integer 2\n"
 TICKS = os.sysconf("SC_CLK_TCK")
 
 
@@ -61,10 +64,42 @@ def ask(devices, count):
     return time.monotonic() - began, waiting
 
 
+def observe(devices):
+    """Observes the value of each device, WINDOW requests on their way at a time; the socket that did so."""
+    peer = socket.socket(socket.AF_INET, socket.SOCK_DGRAM)
+    peer.setsockopt(socket.SOL_SOCKET, socket.SO_RCVBUF, 1 << 24)
+    peer.bind(("127.0.0.1", 0))
+    peer.settimeout(1)
+    for device in range(devices):
+        token = struct.pack(">H", device)
+        peer.sendto(b"\x42\x01\x00\x01" + token + b"\x60\x51\x33\x01\x30\x01\x39", ("127.0.0.1", PORT + device))
+        if device % WINDOW == WINDOW - 1:
+            time.sleep(0.001)
+    return peer
+
+
+def notified(process, devices):
+    """How many notifications came from the devices in OBSERVED seconds, and what the process took for each."""
+    peer = observe(devices)
+    time.sleep(2)
+    peer.setblocking(False)
+    count, until, before = 0, time.monotonic() + OBSERVED, processor_seconds(process)
+    while time.monotonic() < until:
+        try:
+            while peer.recv(2000):
+                count += 1
+        except BlockingIOError:
+            time.sleep(0.001)
+    each = (processor_seconds(process) - before) / max(count, 1)
+    print(f"| {devices} | {count / OBSERVED:,.0f} | {each * 1e6:.1f} µs |", flush=True)
+
+
 def started(words, line):
     """A process that says this on standard error once it listens, and the seconds until then."""
     began = time.monotonic()
-    process = subprocess.Popen(words, stdout=subprocess.DEVNULL, stderr=subprocess.PIPE)
+    # (a fleet ends when its standard input does)
+    how = {"stdin": subprocess.PIPE, "stdout": subprocess.DEVNULL, "stderr": subprocess.PIPE}
+    process = subprocess.Popen(words, **how)
     said = process.stderr.readline()
     if line not in said:
         sys.exit(f"{words}: {said!r}")
@@ -114,6 +149,16 @@ def main():
             time.sleep(REST if devices == sizes[-1] else 5)
             rest = (processor_seconds(process) - before) / (REST if devices == sizes[-1] else 5)
             rows.append((devices, ready, memory, rest))
+            process.kill()
+            process.wait()
+    print("\n| Devices | Notifications a second | Processor time a notification |\n|---|---|---|", flush=True)
+    with tempfile.TemporaryDirectory() as folder:
+        scenario = f"{folder}/devices"
+        pathlib.Path(scenario).write_text(CLASS + "device 0\n" + CHANGES, encoding="ascii")
+        for devices in sizes:
+            words = ["--copies", str(devices), "--play", "--loop"]
+            process, _ = started([lwbench, "fleet", scenario, str(PORT), *words], b"ready")
+            notified(process, devices)
             process.kill()
             process.wait()
     print("\n| Devices | Ready after | Memory of the process | Processor at rest |\n|---|---|---|---|")

@@ -207,9 +207,13 @@ abbrev pub cut_of : Option (List ℕ) → List Slot → ℕ
 cut_of None slots = 0
 cut_of (Some path) slots = count_by (λ (slot : Slot). not slot.recording.complete) slots
 
--- how many devices ended before the session did: the port of one failed, or its clock was at its end
+-- a device ended before the session did: its port failed, or its clock was at its end
+abbrev pub has_ended : Slot → Bool
+has_ended slot = is_some slot.end
+
+-- how many did
 abbrev pub ended_of : List Slot → ℕ
-ended_of slots = count_by (λ (slot : Slot). is_some slot.end) slots
+ended_of slots = count_by has_ended slots
 
 -- what did not last as long as the session
 abbrev pub shortfall_of : Option (List ℕ) → List Slot → Shortfall

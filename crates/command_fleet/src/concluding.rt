@@ -7,8 +7,8 @@ ghost use Rattle.scenario_image.specs.Image.{IsImageIn};
 ghost use Rattle.scenario_image.specs.Scenario.{Scenario as ScenarioData};
 ghost use Rattle.command_files.specs.Fault.{IsWritingFault};
 ghost use Rattle.command_fleet.specs.Fleet.{IsConcluded, IsSaveFault, IsSavedAt, IsSavedIf, IsUnconcluded, IsUnfit};
-ghost use Rattle.command_fleet.specs.Fleet.{IsUnsaved, counted_line, counts_words, cut_of, cut_words, done_line};
-ghost use Rattle.command_fleet.specs.Fleet.{happened_words, line_of, status_of, wire_words};
+ghost use Rattle.command_fleet.specs.Fleet.{IsUnsaved, counted_line, counts_words, cut_words, done_line, ended_words};
+ghost use Rattle.command_fleet.specs.Fleet.{happened_words, line_of, shortfall_words, status_of, wire_words};
 
 use crate::in_json::done_object;
 use crate::shortfall::{Shortfall, shortfall_of};

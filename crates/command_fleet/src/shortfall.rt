@@ -1,6 +1,6 @@
 //! What did not last as long as a session.
-ghost use Rattle.std.specs.Prelude.{◌≡◌, ◌≤◌, is_some, option_map, if◌then◌else◌};
-ghost use Rattle.command_fleet.specs.Fleet.{cut_of, ended_of, shortfall_of};
+ghost use Rattle.std.specs.Prelude.{◌≡◌, ◌≤◌, option_map, if◌then◌else◌};
+ghost use Rattle.command_fleet.specs.Fleet.{cut_of, ended_of, has_ended, shortfall_of};
 
 use fleet_link::{Fleet, Slot};
 
@@ -15,7 +15,7 @@ pub struct Shortfall {
 
 /// 1 where the device ended.
 fn end_of(slot: &Slot) -> usize
-    ensures one { result ≡ (if is_some slot.now.end then 1 else 0) }
+    ensures one { result ≡ (if has_ended slot.now then 1 else 0) }
     ensures few { result ≤ 1 }
 {
     if slot.end().is_some() { 1 } else { 0 }
@@ -26,8 +26,8 @@ fn ended_of(devices: &[Slot]) -> usize
     ensures { result ≡ ended_of devices.now }
 {
     let mut ended = 0usize;
-    for slot in devices {
-        ended += end_of(slot);
+    for place in 0..devices.len() {
+        ended += end_of(&devices[place]);
     }
     ended
 }

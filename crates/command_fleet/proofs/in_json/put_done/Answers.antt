@@ -9,6 +9,7 @@ unfolding done_json
 returns-clause-adds c =
     rw (
       c.in_ok-end_object.ensures.ok,
+      c.in_ok-put_number-4.ensures.adds,
       c.in_ok-put_number-3.ensures.adds,
       c.in_ok-put_happened.ensures.adds,
       c.in_ok-put_counts.ensures.adds,
@@ -16,5 +17,6 @@ returns-clause-adds c =
       c.in_ok-put_number.ensures.adds,
       c.in_ok-put_string.ensures.adds,
       c.in_ok-begin_object.ensures.ok,
-      fields_then (happened_fields c.args.account.happened) ((codes "cut", number_json c.args.cut) ∷ []),
+      fields_then (happened_fields c.args.account.happened)
+          ((codes "ended", number_json c.args.shortfall.ended) ∷ (codes "cut", number_json c.args.shortfall.cut) ∷ []),
     ) (simp append_assoc)
