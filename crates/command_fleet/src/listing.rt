@@ -18,12 +18,7 @@ pub fn listed_line(alloc: Global, device: usize, port: u16) -> Result<String, Al
 }
 
 /// Adds the line of a device.
-fn put_line(
-    alloc: Global,
-    out: &mut String,
-    device: usize,
-    port: u16,
-) -> Result<(), AllocError>
+fn put_line(alloc: Global, out: &mut String, device: usize, port: u16) -> Result<(), AllocError>
     ensures { OnOk result (string_bytes out.new ≡ string_bytes out.old ++ listed_line device port) }
 {
     let line = listed_line(alloc, device, port)?;
@@ -51,11 +46,7 @@ fn listed_text(alloc: Global, ports: &[u16]) -> Result<String, AllocError>
 }
 
 /// The file of devices at these ports, for the path.
-fn list_file<'a>(
-    alloc: Global,
-    path: &'a str,
-    ports: &[u16],
-) -> Result<NewFile<'a>, AllocError>
+fn list_file<'a>(alloc: Global, path: &'a str, ports: &[u16]) -> Result<NewFile<'a>, AllocError>
     ensures path { IfOk result (λ f. f.path.now ≡ path.entry.now) }
     ensures bytes { IfOk result (λ f. f.bytes ≡ listed_text 0 ports.now) }
 {

@@ -261,9 +261,8 @@ returns-in_err-go_on-clause-cut g c =
 pub returns-in-Some-clause-kept : goal.returns-in-Some-clause-kept
 returns-in-Some-clause-kept g c =
     let ports = g.P.Ports.told c.args.ports.now in
-    let kept = c.in_ok-go_on.ensures.kept ports (c.in_ok-fleet.ensures.fleet ports) c.in_ok-fleet.ensures.repeated in
-    (
+    let kept = c.in_ok-go_on.ensures.kept ports (c.in_ok-fleet.ensures.fleet ports) c.in_ok-fleet.ensures.repeated in (
       kept.0,
       subst (λ n. AreKept c.args.asked.now c.args.part.now ports kept.0 n (g.F.Files.made c.args.files.now)
-      (g.F.Files.made c.go_on.new.files)) (sym c.finish.ensures.second) kept.1,
+          (g.F.Files.made c.go_on.new.files)) (sym c.finish.ensures.second) kept.1,
     )
