@@ -278,9 +278,9 @@ shown_if true None told shown none all = absurd none
 shown_if true (Some began) told shown from all =
     ∥∥₁_map all (λ h e. subst (λ t. WhereTold (AreShownOf e shown) t (told e)) (from e) (h e))
 
-unfoldable pub served : (s : Scenario) (played repeat show : Bool) (seconds : Option ℕ) (quit : Bool) (wire : Option Wired)
-    (began : Option (ℕ → Option Traffic)) (notes : List Note) (shown : List Shown) (session : Session)
-    (before after : ℕ → Option Traffic)
+unfoldable pub served : (s : Scenario) (played repeat show : Bool) (seconds : Option ℕ) (quit : Bool)
+    (wire : Option Wired) (began : Option (ℕ → Option Traffic)) (notes : List Note) (shown : List Shown)
+    (session : Session) (before after : ℕ → Option Traffic)
     → IsFleet s played before session.slots session.second false after
     → AreAt session.slots (length session.slots) session.second
     → (has_passed seconds session.second ≡ true) ⊎ ((quit ≡ true) ⊎ IsEndless session.second)
