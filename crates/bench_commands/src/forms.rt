@@ -35,8 +35,7 @@ pub(crate) fn job_wants_json(job: &Job) -> bool
 {
     match job {
         Job::One { form, .. } | Job::Play { form, .. } | Job::Show { form, .. } => is_json(*form),
-        Job::Check { json, .. } => *json,
-        Job::Lint { json, .. } => *json,
+        Job::Check { json, .. } | Job::Lint { json, .. } => *json,
         Job::Test { form, .. } => is_case_json(*form),
         Job::Say { .. }
         | Job::Spell { .. }
