@@ -11,7 +11,7 @@ use Rattle.command_test.specs.Playing.{AreChosen, AreRight, case_of_file, choice
 use Rattle.command_test.specs.Reading.{AreRead}
 use Rattle.command_test.specs.Report.{count_differing, status_of, titles_text}
 use Rattle.command_test.specs.declared.case_file.CaseFile.{CaseFile}
-use Rattle.command_test.specs.declared.form.ReportForm.{ReportForm}
+use Rattle.test_reports.specs.declared.form.ReportForm.{ReportForm}
 use Rattle.command_test.specs.declared.judged.Judged.{Judged}
 use Rattle.command_test.specs.declared.test_case.TestCase.{TestCase}
 

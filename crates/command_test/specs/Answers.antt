@@ -11,8 +11,8 @@ use Rattle.command_test.specs.Playing.{AreChosen, ArePlayed}
 use Rattle.command_test.specs.Report.{count_differing, report, status_of, titles_text}
 use Rattle.command_test.specs.Tap.{tap_text}
 use Rattle.command_test.specs.declared.case_file.CaseFile.{CaseFile}
-use Rattle.command_test.specs.declared.form.ReportForm.{ReportForm}
-use Rattle.command_test.specs.declared.form.ReportForm.TheVariants as forms
+use Rattle.test_reports.specs.declared.form.ReportForm.{ReportForm}
+use Rattle.test_reports.specs.declared.form.ReportForm.TheVariants as forms
 use Rattle.command_test.specs.declared.judged.Judged.{Judged}
 use Rattle.command_test.specs.declared.test_case.TestCase.{TestCase}
 

@@ -16,7 +16,7 @@ use Rattle.message_words.specs.Text.{reading_text}
 use Rattle.case_play.specs.EntryWords.{output_words}
 use Rattle.case_play.specs.declared.came.Came.{Came}
 use Rattle.case_play.specs.declared.came.Came.TheVariants as came
-use Rattle.command_test.specs.Escaping.{in_quotes}
+use Rattle.test_reports.specs.Escaping.{in_quotes}
 use Rattle.command_test.specs.declared.came.Form.{Form}
 use Rattle.command_test.specs.declared.came.Form.TheVariants.{Lines, Items}
 

@@ -7,8 +7,9 @@ use Rattle.serde_json.specs.Data.{Data}
 use Rattle.trace_json.specs.Answers.{Differing, case_json, counts_json}
 use Rattle.trace_json.specs.Lines.{json_lines}
 use Rattle.trace_json.specs.Writing.{json_line}
+use Rattle.test_reports.specs.Report.{line_at}
 use Rattle.command_test.specs.Came.{came_items, refusal_words}
-use Rattle.command_test.specs.Report.{count_differing, line_at, refused_line}
+use Rattle.command_test.specs.Report.{count_differing, refused_line}
 use Rattle.command_test.specs.declared.judged.Judged.{Judged}
 use Rattle.command_test.specs.declared.test_case.TestCase.{TestCase}
 

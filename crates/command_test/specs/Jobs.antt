@@ -7,7 +7,7 @@ use Rattle.command_test.specs.Answers.{IsListOf, IsReportOf}
 use Rattle.command_test.specs.Playing.{choice}
 use Rattle.command_test.specs.Reading.{AreRead, IsFirstRefused}
 use Rattle.command_test.specs.declared.case_file.CaseFile.{CaseFile}
-use Rattle.command_test.specs.declared.form.ReportForm.{ReportForm}
+use Rattle.test_reports.specs.declared.form.ReportForm.{ReportForm}
 
 -- the files at these paths were read, and some of their cases are chosen
 pub record AreReadWith (holds : List ℕ → List ℕ → Type 0) (paths : List (List ℕ)) (only : Option (List ℕ))

@@ -1,6 +1,5 @@
 pub mod Answers
 pub mod Came
-pub mod Escaping
 pub mod Jobs
 pub mod Junit
 pub mod Playing

@@ -1,10 +1,10 @@
 -- What the program prints of cases that were played, and how it then ends.
 use Rattle.std.specs.Prelude.{ℕ, zero, suc, ◌+◌, Bool, true, false, List, [], ◌++◌, Option, None, Some, length}
-use Rattle.std.specs.Prelude.{codes, filter, slice_get}
+use Rattle.std.specs.Prelude.{codes, filter}
 use Rattle.std.specs.Fmt.{decimal}
 use Rattle.std.specs.List.{flat_map}
 use Rattle.scenario_words.specs.CauseWords.{cause_words}
-use Rattle.scenario_words.specs.Words.{ended_line, lines}
+use Rattle.scenario_words.specs.Words.{ended_line}
 use Rattle.scenario_words.specs.declared.cause.Cause.{Cause}
 use Rattle.case_text.specs.Checks.{line_of_case, title_of_case}
 use Rattle.case_play.specs.declared.came.Came.{Came}
@@ -12,20 +12,12 @@ use Rattle.case_play.specs.declared.verdict.Verdict.{Verdict}
 use Rattle.case_play.specs.declared.verdict.Verdict.TheVariants.{Passes, Differs, Refused}
 use Rattle.command_files.specs.declared.status.Status.{Status}
 use Rattle.command_files.specs.declared.status.Status.TheVariants.{Done, NotRun}
+use Rattle.test_reports.specs.Report.{count_line, heading, line_at, placed}
 use Rattle.command_test.specs.Came.{came_lines, said_line}
 use Rattle.command_test.specs.Stated.{sent_at}
 use Rattle.command_test.specs.declared.came.Form.TheVariants.{Lines}
 use Rattle.command_test.specs.declared.judged.Judged.{Judged}
 use Rattle.command_test.specs.declared.test_case.TestCase.{TestCase}
-
-abbrev pub or_empty : Option (List ℕ) → List ℕ
-or_empty None = []
-or_empty (Some line) = line
-
--- the line of a text that has this number, counted from 1; an empty one where there is none
-abbrev pub line_at : List ℕ → ℕ → List ℕ
-line_at text zero = []
-line_at text (suc place) = or_empty (slice_get (lines text) place)
 
 -- the titles of cases, a line for each
 abbrev pub titles_text : List TestCase → List ℕ
@@ -34,9 +26,8 @@ titles_text tests = flat_map (λ test. ended_line (title_of_case test.case.now))
 -- ---- a case that differs
 
 -- the title of a case; where the cases are those of several files, the path of its file before it
-abbrev pub heading : Bool → TestCase → List ℕ
-heading true test = test.path.now ++ codes ": " ++ title_of_case test.case.now
-heading false test = title_of_case test.case.now
+abbrev pub test_heading : Bool → TestCase → List ℕ
+test_heading several test = heading several test.path.now (title_of_case test.case.now)
 
 -- what a datagram says, if there is one
 abbrev pub said_of : Option (List ℕ) → List ℕ
@@ -46,13 +37,13 @@ said_of (Some bytes) = said_line bytes
 -- `TITLE, line N`, this line of the file, what the datagram says that it states, and what came
 abbrev pub differing : Bool → TestCase → ℕ → Came → List ℕ
 differing several test line came =
-    ended_line (heading several test ++ codes ", line " ++ decimal line) ++ ended_line (line_at test.text.now line)
+    test_heading several test ++ placed line (line_at test.text.now line)
     ++ said_of (sent_at test.case.now line) ++ came_lines Lines came
 
 -- `TITLE, line N: CAUSE`, and this line of the file
 abbrev pub refused : Bool → TestCase → ℕ → Cause → List ℕ
 refused several test line cause =
-    ended_line (heading several test ++ codes ", line " ++ decimal line ++ codes ": " ++ cause_words cause)
+    ended_line (test_heading several test ++ codes ", line " ++ decimal line ++ codes ": " ++ cause_words cause)
     ++ ended_line (line_at test.text.now line)
 
 -- the line of the file that is refused, which the verdict counts below the case's title
@@ -82,10 +73,6 @@ differs (Refused line cause) = true
 
 abbrev pub count_differing : List Judged → ℕ
 count_differing all = length (filter (λ j. differs j.verdict) all)
-
--- `C cases, D differ`
-abbrev pub count_line : ℕ → ℕ → List ℕ
-count_line cases differing = ended_line (decimal cases ++ codes " cases, " ++ decimal differing ++ codes " differ")
 
 -- what is printed of cases: those that differ, in their order, and how many there are
 abbrev pub report : Bool → List Judged → List ℕ

@@ -1,32 +1,20 @@
 -- What is printed with `--tap`: the Test Anything Protocol, version 14.
 use Rattle.std.specs.Prelude.{ℕ, ◌+◌, List, [], ◌∷◌, ◌++◌, length, codes}
-use Rattle.std.specs.Fmt.{decimal}
 use Rattle.scenario_words.specs.Words.{ended_line}
 use Rattle.case_text.specs.Checks.{title_of_case}
 use Rattle.case_play.specs.declared.verdict.Verdict.{Verdict}
 use Rattle.case_play.specs.declared.verdict.Verdict.TheVariants.{Passes, Differs, Refused}
+use Rattle.test_reports.specs.Report.{line_at}
+use Rattle.test_reports.specs.Tap.{block_end, block_start, place, plan, point_line}
 use Rattle.command_test.specs.Came.{answer_line, came_lines, refusal_words}
-use Rattle.command_test.specs.Escaping.{escaped_text, in_quotes}
-use Rattle.command_test.specs.Report.{line_at, refused_line}
+use Rattle.command_test.specs.Report.{refused_line}
 use Rattle.command_test.specs.declared.came.Form.TheVariants.{Items}
-use Rattle.command_test.specs.declared.escaping.Escape.TheVariants.{Title}
 use Rattle.command_test.specs.declared.judged.Judged.{Judged}
 use Rattle.command_test.specs.declared.test_case.TestCase.{TestCase}
 
--- `ok I - TITLE`, `not ok I - TITLE`
-unfoldable pub point_line : List ℕ → ℕ → List ℕ → List ℕ
-point_line word number title =
-    ended_line (word ++ codes " " ++ decimal number ++ codes " - " ++ escaped_text Title title)
-
--- the file of a case, a line of it, and what the line states
-unfoldable pub place : TestCase → ℕ → List ℕ
-place test line =
-    ended_line (codes "  file: " ++ in_quotes test.path.now) ++ ended_line (codes "  line: " ++ decimal line)
-    ++ ended_line (codes "  stated: " ++ in_quotes (line_at test.text.now line))
-
 -- the block in YAML of a case that differs, up to what came
 unfoldable pub block : TestCase → ℕ → List ℕ
-block test line = ended_line (codes "  ---") ++ place test line ++ ended_line (codes "  came:")
+block test line = block_start ++ place test.path.now line (line_at test.text.now line) ++ ended_line (codes "  came:")
 
 abbrev pub result_word : Verdict → List ℕ
 result_word Passes = codes "ok"
@@ -36,9 +24,9 @@ result_word (Refused line cause) = codes "not ok"
 -- the whole block, where the case differs
 abbrev pub block_by : TestCase → Verdict → List ℕ
 block_by test Passes = []
-block_by test (Differs line came) = block test line ++ came_lines Items came ++ ended_line (codes "  ...")
+block_by test (Differs line came) = block test line ++ came_lines Items came ++ block_end
 block_by test (Refused line cause) =
-    block test (refused_line test line) ++ answer_line Items (refusal_words line cause) ++ ended_line (codes "  ...")
+    block test (refused_line test line) ++ answer_line Items (refusal_words line cause) ++ block_end
 
 -- a test point
 abbrev pub point : ℕ → Judged → List ℕ
@@ -53,4 +41,4 @@ points number (judged ∷ others) = point number judged ++ points (number + 1) o
 
 -- the version, the plan, and a test point for each case
 abbrev pub tap_text : List Judged → List ℕ
-tap_text all = ended_line (codes "TAP version 14") ++ ended_line (codes "1.." ++ decimal (length all)) ++ points 1 all
+tap_text all = plan (length all) ++ points 1 all

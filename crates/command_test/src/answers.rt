@@ -8,7 +8,6 @@ ghost use Rattle.command_test.specs.Jobs.{IsTestDone, IsTestFault, IsTitlesDone}
 ghost use Rattle.command_test.specs.Playing.{AreChosen};
 
 use crate::case_file::CaseFile;
-use crate::form::ReportForm;
 use crate::in_json::json_report;
 use crate::judged::Judged;
 use crate::junit::junit_text;
@@ -22,6 +21,7 @@ use command_files::files::Files;
 use command_files::{Answer, Fault, NewFile, Refusal, Status, Why};
 use octets::Bytes;
 use std::alloc::{AllocError, Global};
+use test_reports::ReportForm;
 
 /// `test FILE .. --list`: the titles of the cases; with words, of those whose titles begin with them. It is a fault if
 /// there are none.

@@ -5,12 +5,12 @@ ghost use Rattle.std.specs.String.{string_bytes};
 ghost use Rattle.command_test.specs.Came.{all_output_lines, answer_line, came_lines, came_words, output_lines};
 ghost use Rattle.command_test.specs.Came.{said_below, said_line, text_lines};
 
-use crate::escaping::put_in_quotes;
 use crate::words::{came_words, output_words};
 use case_play::Came;
 use device_machine::Output;
 use message_words::datagram_text;
 use std::alloc::{AllocError, Global};
+use test_reports::put_in_quotes;
 
 /// How the lines of answers are written.
 #[derive(Clone, Copy)]

@@ -9,13 +9,13 @@ ghost use Rattle.command_test.specs.Report.{refused_line};
 
 use crate::items::{came_items, put_item};
 use crate::judged::Judged;
-use crate::lines::line_at;
 use crate::reporting::{count_differing, refused_line};
 use crate::test_case::TestCase;
 use crate::words::refusal_words;
 use case_play::{Came, Verdict};
 use scenario_words::Cause;
 use std::alloc::{AllocError, Global};
+use test_reports::line_at;
 use trace_json::{CaseDifference, CaseParts, case_line, counts_line};
 
 /// The number of a line, where it has 64 bits.

@@ -1,18 +1,21 @@
 //! The JUnit report of cases that were played.
-ghost use Rattle.std.specs.Prelude.{◌≡◌, ◌++◌, codes, filter, length, IfOk, OnOk};
-ghost use Rattle.std.specs.Fmt.{decimal};
+ghost use Rattle.std.specs.Prelude.{◌≡◌, ◌++◌, codes, filter, length, IfOk, OnOk, None, Some};
 ghost use Rattle.std.specs.String.{string_bytes};
-ghost use Rattle.command_test.specs.Junit.{attribute, cause_message, ending_by, fails_in_file, failure, failure_line, is_of_file};
-ghost use Rattle.command_test.specs.Junit.{junit_text, line_words, suite, suite_cases, suite_head, suites, testcase, text_attribute};
+ghost use Rattle.test_reports.specs.Junit.{testcase};
+ghost use Rattle.case_text.specs.Checks.{title_of_case};
+ghost use Rattle.command_test.specs.Junit.{cause_message, fails_in_file, is_of_file, judged_testcase, junit_text};
+ghost use Rattle.command_test.specs.Junit.{line_words, suite, suite_cases, suites};
 ghost use Rattle.command_test.specs.Report.{difference};
 
 use crate::case_file::CaseFile;
-use crate::escaping::{Escape, put_escaped};
 use crate::judged::Judged;
 use crate::reporting::{differs, put_difference, refused_line};
 use case_play::Verdict;
 use scenario_words::{Cause, cause_words};
 use std::alloc::{AllocError, Global};
+use test_reports::{
+    Failure, put_report_end, put_report_head, put_suite_end, put_suite_head, put_testcase,
+};
 
 /// The report of cases that were played: a test suite for each of the files. `several` says that there are several.
 pub fn junit_text(
@@ -23,10 +26,10 @@ pub fn junit_text(
 ) -> Result<String, AllocError>
     ensures { IfOk result (λ text. string_bytes text ≡ junit_text several files.now all.now) }
 {
-    let head = "<?xml version=\"1.0\" encoding=\"UTF-8\"?>\n<testsuites>\n";
-    let mut out = String::from_str(alloc, head)?;
+    let mut out = String::new(alloc);
+    put_report_head(&mut out)?;
     put_suites(alloc, &mut out, several, files, all)?;
-    out.push_str("</testsuites>\n")?;
+    put_report_end(&mut out)?;
     Ok(out)
 }
 
@@ -64,7 +67,7 @@ fn put_suite(
         count_failures(number, all),
     )?;
     put_suite_cases(alloc, out, several, number, all)?;
-    out.push_str("</testsuite>\n")
+    put_suite_end(out)
 }
 
 fn is_of_file(number: usize, judged: &Judged) -> bool
@@ -95,44 +98,6 @@ fn count_failures(number: usize, all: &[Judged]) -> usize
         .count()
 }
 
-#[tactic(auto, unfolding(crate::specs::Junit::text_attribute, crate::specs::Junit::attribute))]
-fn put_text_attribute(
-    alloc: Global,
-    out: &mut String,
-    name: &str,
-    text: &str,
-) -> Result<(), AllocError>
-    ensures { OnOk result (string_bytes out.new ≡ string_bytes out.old ++ text_attribute name.now text.now) }
-{
-    write!(out, " {name}=\"")?;
-    put_escaped(alloc, out, Escape::Attribute, text)?;
-    out.push('"')
-}
-
-#[tactic(auto, unfolding(crate::specs::Junit::attribute))]
-fn put_number_attribute(out: &mut String, name: &str, number: usize) -> Result<(), AllocError>
-    ensures { OnOk result (string_bytes out.new ≡ string_bytes out.old ++ attribute name.now (decimal number)) }
-{
-    write!(out, " {name}=\"{number}\"")
-}
-
-#[tactic(auto, unfolding(crate::specs::Junit::suite_head))]
-fn put_suite_head(
-    alloc: Global,
-    out: &mut String,
-    path: &str,
-    tests: usize,
-    failures: usize,
-) -> Result<(), AllocError>
-    ensures { OnOk result (string_bytes out.new ≡ string_bytes out.old ++ suite_head path.now tests failures) }
-{
-    out.push_str("<testsuite")?;
-    put_text_attribute(alloc, out, "name", path)?;
-    put_number_attribute(out, "tests", tests)?;
-    put_number_attribute(out, "failures", failures)?;
-    out.push_str(">\n")
-}
-
 #[tactic(auto, unfolding(crate::specs::Junit::suite_cases))]
 fn put_suite_cases(
     alloc: Global,
@@ -145,47 +110,40 @@ fn put_suite_cases(
 {
     for judged in all {
         if is_of_file(number, judged) {
-            put_testcase(alloc, out, several, judged)?;
+            put_judged(alloc, out, several, judged)?;
         }
     }
     Ok(())
 }
 
-#[tactic(auto, unfolding(crate::specs::Junit::testcase))]
-fn put_testcase(
+/// Writes a test case, which is a failure where it differs.
+fn put_judged(
     alloc: Global,
     out: &mut String,
     several: bool,
     judged: &Judged,
 ) -> Result<(), AllocError>
-    ensures { OnOk result (string_bytes out.new ≡ string_bytes out.old ++ testcase several judged.now) }
-{
-    out.push_str("<testcase")?;
-    put_text_attribute(alloc, out, "classname", judged.test.path)?;
-    put_text_attribute(alloc, out, "name", judged.test.case.title().as_str())?;
-    put_ending(alloc, out, several, judged)
-}
-
-fn put_ending(
-    alloc: Global,
-    out: &mut String,
-    several: bool,
-    judged: &Judged,
-) -> Result<(), AllocError>
-    ensures { OnOk result (string_bytes out.new ≡ string_bytes out.old
-        ++ ending_by several judged.now judged.now.verdict) }
+    ensures { OnOk result (string_bytes out.new ≡ string_bytes out.old ++ judged_testcase several judged.now) }
 {
     match &judged.verdict {
-        Verdict::Passes => out.push_str("/>\n"),
+        Verdict::Passes => put_passing(alloc, out, judged),
         Verdict::Differs { line, .. } => {
             let message = line_words(alloc, *line)?;
-            put_failure(alloc, out, several, judged, message.as_str())
+            put_failing(alloc, out, several, judged, message.as_str())
         }
         Verdict::Refused { line, cause } => {
             let message = cause_message(alloc, refused_line(&judged.test, *line), *cause)?;
-            put_failure(alloc, out, several, judged, message.as_str())
+            put_failing(alloc, out, several, judged, message.as_str())
         }
     }
+}
+
+fn put_passing(alloc: Global, out: &mut String, judged: &Judged) -> Result<(), AllocError>
+    ensures { OnOk result (string_bytes out.new ≡ string_bytes out.old
+        ++ testcase judged.now.test.path.now (title_of_case judged.now.test.case.now) None) }
+{
+    let title = judged.test.case.title().as_str();
+    put_testcase(alloc, out, judged.test.path, title, None)
 }
 
 fn line_words(alloc: Global, line: usize) -> Result<String, AllocError>
@@ -207,23 +165,6 @@ fn cause_message(alloc: Global, line: u128, cause: Cause) -> Result<String, Allo
     after_line(alloc, line, cause_words(cause))
 }
 
-/// Writes a failure, with what the report says of the case.
-#[tactic(auto, unfolding(crate::specs::Junit::failure_line))]
-fn put_failure_line(
-    alloc: Global,
-    out: &mut String,
-    message: &str,
-    text: &str,
-) -> Result<(), AllocError>
-    ensures { OnOk result (string_bytes out.new ≡ string_bytes out.old ++ failure_line message.now text.now) }
-{
-    out.push_str("<failure")?;
-    put_text_attribute(alloc, out, "message", message)?;
-    out.push('>')?;
-    put_escaped(alloc, out, Escape::Element, text)?;
-    out.push_str("</failure>\n")
-}
-
 /// What the report says of a case.
 fn difference_text(alloc: Global, several: bool, judged: &Judged) -> Result<String, AllocError>
     ensures { IfOk result (λ text. string_bytes text ≡ difference several judged.now) }
@@ -233,9 +174,8 @@ fn difference_text(alloc: Global, several: bool, judged: &Judged) -> Result<Stri
     Ok(text)
 }
 
-/// Writes the end of a test case that is a failure.
-#[tactic(auto, unfolding(crate::specs::Junit::failure))]
-fn put_failure(
+/// Writes a test case that fails, with what the report says of it.
+fn put_failing(
     alloc: Global,
     out: &mut String,
     several: bool,
@@ -243,10 +183,14 @@ fn put_failure(
     message: &str,
 ) -> Result<(), AllocError>
     ensures { OnOk result (string_bytes out.new ≡ string_bytes out.old
-        ++ failure message.now (difference several judged.now)) }
+        ++ testcase judged.now.test.path.now (title_of_case judged.now.test.case.now)
+        (Some (record { message = message.now; text = difference several judged.now }))) }
 {
     let text = difference_text(alloc, several, judged)?;
-    out.push_str(">\n")?;
-    put_failure_line(alloc, out, message, text.as_str())?;
-    out.push_str("</testcase>\n")
+    let failure = Failure {
+        message,
+        text: text.as_str(),
+    };
+    let title = judged.test.case.title().as_str();
+    put_testcase(alloc, out, judged.test.path, title, Some(failure))
 }

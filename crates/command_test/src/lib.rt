@@ -4,14 +4,11 @@
 mod answers;
 mod came;
 mod case_file;
-mod escaping;
-mod form;
 mod in_json;
 mod items;
 mod judged;
 mod junit;
 mod laws;
-mod lines;
 mod playing;
 mod reading;
 mod reporting;
@@ -23,7 +20,6 @@ mod words;
 
 pub use answers::{test, titles};
 pub use case_file::CaseFile;
-pub use form::ReportForm;
 pub use in_json::json_report;
 pub use judged::Judged;
 pub use junit::junit_text;

@@ -4,20 +4,20 @@ ghost use Rattle.std.specs.Fmt.{decimal};
 ghost use Rattle.std.specs.String.{string_bytes};
 ghost use Rattle.scenario_words.specs.CauseWords.{cause_words};
 ghost use Rattle.scenario_words.specs.Words.{ended_line};
-ghost use Rattle.command_test.specs.Report.{count_differing, count_line, difference, differences, differing, differs};
-ghost use Rattle.command_test.specs.Report.{heading, refused, refused_line, report, said_of, status_of};
+ghost use Rattle.command_test.specs.Report.{count_differing, difference, differences, differing, differs};
+ghost use Rattle.command_test.specs.Report.{refused, refused_line, report, said_of, status_of, test_heading};
 ghost use Rattle.command_test.specs.Report.{titles_text};
 ghost use Rattle.command_test.specs.Stated.{sent_at};
 
 use crate::came::{Form, put_came, put_said};
 use crate::judged::Judged;
-use crate::lines::line_at;
 use crate::sending::sent_at;
 use crate::test_case::TestCase;
 use case_play::{Came, Verdict};
 use command_files::Status;
 use scenario_words::{Cause, cause_words};
 use std::alloc::{AllocError, Global};
+use test_reports::{line_at, put_count_line, put_heading, put_placed};
 
 /// The titles of cases, a line for each.
 pub(crate) fn titles_text(alloc: Global, tests: &[TestCase]) -> Result<String, AllocError>
@@ -110,15 +110,10 @@ pub(crate) fn refused_line(test: &TestCase, line: usize) -> u128
 }
 
 /// Writes the title of a case; where the cases are those of several files, the path of its file before it.
-fn put_heading(out: &mut String, several: bool, test: &TestCase) -> Result<(), AllocError>
-    ensures { OnOk result (string_bytes out.new ≡ string_bytes out.old ++ heading several test.now) }
+fn put_test_heading(out: &mut String, several: bool, test: &TestCase) -> Result<(), AllocError>
+    ensures { OnOk result (string_bytes out.new ≡ string_bytes out.old ++ test_heading several test.now) }
 {
-    if several {
-        out.push_str(test.path)?;
-        out.push_str(": ")?;
-        return out.push_str(test.case.title().as_str());
-    }
-    out.push_str(test.case.title().as_str())
+    put_heading(out, several, test.path, test.case.title().as_str())
 }
 
 /// Writes what the datagram says that a line of a case states, if it states one.
@@ -131,14 +126,6 @@ fn put_sent(alloc: Global, out: &mut String, test: &TestCase, line: usize) -> Re
     }
 }
 
-/// Writes `, line N` after a title, and this line of the file.
-fn put_place(out: &mut String, number: usize, line: &str) -> Result<(), AllocError>
-    ensures { OnOk result (string_bytes out.new ≡ string_bytes out.old
-        ++ (ended_line (codes ", line " ++ decimal number) ++ ended_line line.now)) }
-{
-    write!(out, ", line {number}\n{line}\n")
-}
-
 fn put_differing(
     alloc: Global,
     out: &mut String,
@@ -149,8 +136,8 @@ fn put_differing(
 ) -> Result<(), AllocError>
     ensures { OnOk result (string_bytes out.new ≡ string_bytes out.old ++ differing several test.now line came.now) }
 {
-    put_heading(out, several, test)?;
-    put_place(out, line, line_at(test.text, line as u128))?;
+    put_test_heading(out, several, test)?;
+    put_placed(out, line, line_at(test.text, line as u128))?;
     put_sent(alloc, out, test, line)?;
     put_came(alloc, out, Form::Lines, came)
 }
@@ -173,13 +160,6 @@ fn put_refused(
 ) -> Result<(), AllocError>
     ensures { OnOk result (string_bytes out.new ≡ string_bytes out.old ++ refused several test.now line cause) }
 {
-    put_heading(out, several, test)?;
+    put_test_heading(out, several, test)?;
     put_cause(out, line, cause, line_at(test.text, line))
-}
-
-/// Writes the line that counts cases.
-fn put_count_line(out: &mut String, cases: usize, differing: usize) -> Result<(), AllocError>
-    ensures { OnOk result (string_bytes out.new ≡ string_bytes out.old ++ count_line cases differing) }
-{
-    write!(out, "{cases} cases, {differing} differ\n")
 }

@@ -1,38 +1,29 @@
 //! What came of cases in the form of the Test Anything Protocol, version 14.
-ghost use Rattle.std.specs.Prelude.{◌≡◌, ◌++◌, codes, length, IfOk, OnOk};
-ghost use Rattle.std.specs.Fmt.{decimal};
+ghost use Rattle.std.specs.Prelude.{◌≡◌, ◌++◌, IfOk, OnOk};
 ghost use Rattle.std.specs.String.{string_bytes};
-ghost use Rattle.scenario_words.specs.Words.{ended_line};
+ghost use Rattle.test_reports.specs.Tap.{block_end};
 ghost use Rattle.command_test.specs.Came.{answer_line, came_lines, refusal_words};
-ghost use Rattle.command_test.specs.Escaping.{in_quotes};
 ghost use Rattle.command_test.specs.Report.{refused_line};
-ghost use Rattle.command_test.specs.Tap.{block, block_by, place, point, point_line, points, result_word, tap_text};
+ghost use Rattle.command_test.specs.Tap.{block, block_by, point, points, result_word, tap_text};
 
 use crate::came::{Form, put_answer, put_came};
-use crate::escaping::{Escape, put_escaped, put_in_quotes};
 use crate::judged::Judged;
-use crate::lines::line_at;
 use crate::reporting::refused_line;
 use crate::test_case::TestCase;
 use crate::words::refusal_words;
 use case_play::{Came, Verdict};
 use scenario_words::Cause;
 use std::alloc::{AllocError, Global};
+use test_reports::{line_at, put_block_end, put_block_start, put_place, put_plan, put_point_line};
 
 /// What is printed of cases as TAP: the plan, and a test point for each, with a block in YAML where it differs.
 pub fn tap_text(alloc: Global, all: &[Judged]) -> Result<String, AllocError>
     ensures { IfOk result (λ text. string_bytes text ≡ tap_text all.now) }
 {
-    let mut out = plan(alloc, all.len())?;
+    let mut out = String::new(alloc);
+    put_plan(&mut out, all.len())?;
     put_points(alloc, &mut out, all)?;
     Ok(out)
-}
-
-fn plan(alloc: Global, count: usize) -> Result<String, AllocError>
-    ensures { IfOk result (λ text. string_bytes text
-        ≡ ended_line (codes "TAP version 14") ++ ended_line (codes "1.." ++ decimal count)) }
-{
-    format!(in alloc; "TAP version 14\n1..{count}\n")
 }
 
 fn put_points(alloc: Global, out: &mut String, all: &[Judged]) -> Result<(), AllocError>
@@ -82,55 +73,13 @@ fn put_block_by(
     }
 }
 
-#[tactic(auto, unfolding(crate::specs::Tap::point_line))]
-fn put_point_line(
-    alloc: Global,
-    out: &mut String,
-    word: &str,
-    number: usize,
-    title: &str,
-) -> Result<(), AllocError>
-    ensures { OnOk result (string_bytes out.new ≡ string_bytes out.old ++ point_line word.now number title.now) }
-{
-    write!(out, "{word} {number} - ")?;
-    put_escaped(alloc, out, Escape::Title, title)?;
-    out.push('\n')
-}
-
-/// Writes a line of a block: a name, and a text in quotes.
-fn put_entry(alloc: Global, out: &mut String, name: &str, text: &str) -> Result<(), AllocError>
-    ensures { OnOk result (string_bytes out.new ≡ string_bytes out.old
-        ++ ended_line (name.now ++ in_quotes text.now)) }
-{
-    out.push_str(name)?;
-    put_in_quotes(alloc, out, text)?;
-    out.push('\n')
-}
-
-fn put_line_number(out: &mut String, line: u128) -> Result<(), AllocError>
-    ensures { OnOk result (string_bytes out.new ≡ string_bytes out.old
-        ++ ended_line (codes "  line: " ++ decimal line)) }
-{
-    write!(out, "  line: {line}\n")
-}
-
-/// Writes where a case differs.
-#[tactic(auto, unfolding(crate::specs::Tap::place))]
-fn put_place(alloc: Global, out: &mut String, test: &TestCase, line: u128) -> Result<(), AllocError>
-    ensures { OnOk result (string_bytes out.new ≡ string_bytes out.old ++ place test.now line) }
-{
-    put_entry(alloc, out, "  file: ", test.path)?;
-    put_line_number(out, line)?;
-    put_entry(alloc, out, "  stated: ", line_at(test.text, line))
-}
-
 /// Writes a block up to the answers that came.
 #[tactic(auto, unfolding(crate::specs::Tap::block))]
 fn put_block(alloc: Global, out: &mut String, test: &TestCase, line: u128) -> Result<(), AllocError>
     ensures { OnOk result (string_bytes out.new ≡ string_bytes out.old ++ block test.now line) }
 {
-    out.push_str("  ---\n")?;
-    put_place(alloc, out, test, line)?;
+    put_block_start(out)?;
+    put_place(alloc, out, test.path, line, line_at(test.text, line))?;
     out.push_str("  came:\n")
 }
 
@@ -142,11 +91,11 @@ fn put_differing(
     came: &Came,
 ) -> Result<(), AllocError>
     ensures { OnOk result (string_bytes out.new ≡ string_bytes out.old
-        ++ (block test.now line ++ came_lines Form.Items came.now ++ ended_line (codes "  ..."))) }
+        ++ (block test.now line ++ came_lines Form.Items came.now ++ block_end)) }
 {
     put_block(alloc, out, test, line as u128)?;
     put_came(alloc, out, Form::Items, came)?;
-    out.push_str("  ...\n")
+    put_block_end(out)
 }
 
 fn put_refused(
@@ -158,10 +107,10 @@ fn put_refused(
 ) -> Result<(), AllocError>
     ensures { OnOk result (string_bytes out.new ≡ string_bytes out.old
         ++ (block test.now (refused_line test.now line) ++ answer_line Form.Items (refusal_words line cause)
-        ++ ended_line (codes "  ..."))) }
+        ++ block_end)) }
 {
     let words = refusal_words(alloc, line, cause)?;
     put_block(alloc, out, test, refused_line(test, line))?;
     put_answer(alloc, out, Form::Items, words.as_str())?;
-    out.push_str("  ...\n")
+    put_block_end(out)
 }

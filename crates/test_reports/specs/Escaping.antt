@@ -6,8 +6,8 @@ use Rattle.std.specs.List.{flat_map}
 use Rattle.std.specs.Str.{chars}
 use Rattle.scenario_words.specs.HexWord.{hex_byte}
 use Rattle.message_words.specs.Names.{name_in}
-use Rattle.command_test.specs.declared.escaping.Escape.{Escape}
-use Rattle.command_test.specs.declared.escaping.Escape.TheVariants.{Title, Quoted, Attribute, Element}
+use Rattle.test_reports.specs.declared.escaping.Escape.{Escape}
+use Rattle.test_reports.specs.declared.escaping.Escape.TheVariants.{Title, Quoted, Attribute, Element}
 
 -- what stands in place of a character that may not stand there: U+FFFD, the replacement character
 abbrev pub replacement : List ℕ

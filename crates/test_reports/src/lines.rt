@@ -1,11 +1,11 @@
 //! The lines of a text by their numbers.
 ghost use Rattle.std.specs.Prelude.{◌≡◌, option_map, slice_get};
 ghost use Rattle.scenario_words.specs.Words.{lines};
-ghost use Rattle.command_test.specs.Report.{line_at};
+ghost use Rattle.test_reports.specs.Report.{line_at};
 
 /// The line of this number, counted from 1; an empty one where there is none.
 #[tactic(auto, using(crate::proofs::LinesAt::none_before, crate::proofs::LinesAt::none_past, crate::proofs::LinesAt::there, crate::proofs::LinesAt::not_there))]
-pub(crate) fn line_at(text: &str, number: u128) -> &str
+pub fn line_at(text: &str, number: u128) -> &str
     ensures { result.now ≡ line_at text.now number }
 {
     if number == 0 {

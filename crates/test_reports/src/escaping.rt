@@ -2,8 +2,8 @@
 ghost use Rattle.std.specs.Prelude.{◌≡◌, ◌++◌, option_map, OnOk};
 ghost use Rattle.std.specs.String.{string_bytes};
 ghost use Rattle.message_words.specs.Names.{name_in};
-ghost use Rattle.command_test.specs.Escaping.{attribute_char, char_text, element_char, escaped_char, escaped_text};
-ghost use Rattle.command_test.specs.Escaping.{in_quotes, is_control, quoted_char, references, title_char};
+ghost use Rattle.test_reports.specs.Escaping.{attribute_char, char_text, element_char, escaped_char, escaped_text};
+ghost use Rattle.test_reports.specs.Escaping.{in_quotes, is_control, quoted_char, references, title_char};
 
 use scenario_words::hex_word;
 use std::alloc::{AllocError, Global};
@@ -117,7 +117,7 @@ fn put_escaped_char(
 
 /// Writes a text as it is written there.
 #[tactic(auto, unfolding(crate::specs::Escaping::escaped_text))]
-pub(crate) fn put_escaped(
+pub fn put_escaped(
     alloc: Global,
     out: &mut String,
     escape: Escape,
@@ -133,7 +133,7 @@ pub(crate) fn put_escaped(
 
 /// Writes a text in double quotes.
 #[tactic(auto, unfolding(crate::specs::Escaping::in_quotes))]
-pub(crate) fn put_in_quotes(alloc: Global, out: &mut String, text: &str) -> Result<(), AllocError>
+pub fn put_in_quotes(alloc: Global, out: &mut String, text: &str) -> Result<(), AllocError>
     ensures { OnOk result (string_bytes out.new ≡ string_bytes out.old ++ in_quotes text.now) }
 {
     out.push('"')?;

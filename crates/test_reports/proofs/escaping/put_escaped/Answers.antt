@@ -4,8 +4,8 @@ use Rattle.std.proofs.lemmas.Iterator.Consumers.{YieldsList-end}
 use Rattle.std.proofs.lemmas.List.{map-id}
 use Rattle.std.specs.List.{flat_map}
 use Rattle.std.specs.String.{string_bytes}
-use Rattle.command_test.specs.Escaping.{escaped_char, escaped_text}
-use Rattle.command_test.proofs.escaping.put_escaped.Goals as goal
+use Rattle.test_reports.specs.Escaping.{escaped_char, escaped_text}
+use Rattle.test_reports.proofs.escaping.put_escaped.Goals as goal
 
 pub returns : goal.returns
 unfolding escaped_text

@@ -6,7 +6,7 @@ use Rattle.std.proofs.lemmas.List.Sums.{count_by-le-length}
 use Rattle.std.proofs.lemmas.Option.{slice_get_past}
 use Rattle.std.specs.Prelude.{◌==◌}
 use Rattle.scenario_words.specs.Words.{lines}
-use Rattle.command_test.specs.Report.{line_at, or_empty}
+use Rattle.test_reports.specs.Report.{line_at, or_empty}
 
 -- there are no more lines than bytes and one
 most_lines : (file : List ℕ) → length (lines file) ≤ length file + 1

@@ -2,8 +2,8 @@
 use Rattle.std.proofs.Common.{◌≡◌, ◌++◌}
 use Rattle.std.specs.List.{flat_map}
 use Rattle.std.specs.String.{string_bytes}
-use Rattle.command_test.specs.Escaping.{escaped_char}
-use Rattle.command_test.proofs.escaping.put_escaped.Given as goal
+use Rattle.test_reports.specs.Escaping.{escaped_char}
+use Rattle.test_reports.proofs.escaping.put_escaped.Given as goal
 
 abbrev pub invariant-loop-symbol : goal.invariant-loop-symbol
 invariant-loop-symbol l =

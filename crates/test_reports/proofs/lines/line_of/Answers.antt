@@ -1,7 +1,7 @@
 use Rattle.std.proofs.Common.{lit<}
 use Rattle.std.proofs.lemmas.Iterator.Consumers.{nth_from_yields_List}
 use Rattle.std.proofs.lemmas.Iterator.Splits.{YieldsList-from_str_split}
-use Rattle.command_test.proofs.lines.line_of.Goals as goal
+use Rattle.test_reports.proofs.lines.line_of.Goals as goal
 
 pub returns : goal.returns
 returns c =

@@ -1,0 +1,4 @@
+pub mod Escaping
+pub mod Report
+pub mod Tap
+pub mod Junit
