@@ -1,5 +1,5 @@
 -- The lines of findings and of rules.
-use Rattle.std.specs.Prelude.{ℕ, List, [], ◌++◌, Option, None, Some, codes, slice_get, take}
+use Rattle.std.specs.Prelude.{ℕ, ◌+◌, List, [], ◌++◌, Option, None, Some, codes, slice_get, take, drop}
 use Rattle.std.specs.Fmt.{decimal}
 use Rattle.scenario_image.specs.Scenario.{Scenario}
 use Rattle.scenario_words.specs.Words.{ended_line}
@@ -7,7 +7,7 @@ use Rattle.trace_json.specs.Writing.{json_line}
 use Rattle.server_lint.specs.declared.finding.Finding.{Finding}
 use Rattle.server_lint.specs.declared.rule.Rule.{Rule}
 use Rattle.server_lint.specs.History.{Transmission}
-use Rattle.server_lint.specs.Names.{rule_name, section_of, summary_of}
+use Rattle.server_lint.specs.Names.{rule_name, section_of, standard_of, summary_of}
 use Rattle.server_lint.specs.Text.{finding_text}
 use Rattle.command_lint.specs.History.{end_of, history_of}
 use Rattle.command_lint.specs.Objects.{count_json, finding_json}
@@ -21,25 +21,31 @@ placed_line device step second words =
     ended_line (codes "device " ++ decimal device ++ codes " step " ++ decimal step ++ codes " second "
     ++ decimal second ++ codes ": " ++ words)
 
+-- `STANDARD section N`
+abbrev pub source_words : List ℕ → List ℕ → List ℕ
+source_words standard section = standard ++ codes " section " ++ section
+
 -- `RULE: WORDS (RFC 7252 section N)`
-abbrev pub broken_words : List ℕ → List ℕ → List ℕ → List ℕ
-broken_words name words section =
-    name ++ codes ": " ++ words ++ codes " (RFC 7252 section " ++ section ++ codes ")"
+abbrev pub broken_words : List ℕ → List ℕ → List ℕ → List ℕ → List ℕ
+broken_words name words standard section =
+    name ++ codes ": " ++ words ++ codes " (" ++ source_words standard section ++ codes ")"
 
 -- the line of a rule that a datagram breaks, with what is said of it: as text, or as an object
 abbrev pub line_with : LintForm → ℕ → Rule → Transmission → List ℕ → List ℕ
 line_with Text device rule t words =
-    placed_line device t.step t.second (broken_words (rule_name rule) words (section_of rule))
+    placed_line device t.step t.second
+    (broken_words (rule_name rule) words (standard_of rule) (section_of rule))
 line_with JsonLines device rule t words = json_line (finding_json device rule t words)
 
--- the line of a rule that a datagram breaks which stands after these, in a history that ends in this second
-abbrev pub line_of : LintForm → ℕ → Rule → List Transmission → Transmission → ℕ → List ℕ
-line_of form device rule before t end = line_with form device rule t (finding_text rule before t end)
+-- the line of a rule that a datagram breaks which stands between these, in a history that ends in this second
+abbrev pub line_of : LintForm → ℕ → Rule → List Transmission → Transmission → List Transmission → ℕ → List ℕ
+line_of form device rule before t after end = line_with form device rule t (finding_text rule before t after end)
 
 -- the line of a finding in a history that ends in this second
 abbrev pub line_at : LintForm → ℕ → List Transmission → ℕ → Finding → Option Transmission → List ℕ
 line_at form device history end f None = []
-line_at form device history end f (Some t) = line_of form device f.rule (take f.place history) t end
+line_at form device history end f (Some t) =
+    line_of form device f.rule (take f.place history) t (drop (f.place + 1) history) end
 
 abbrev pub line_in : LintForm → ℕ → List Transmission → ℕ → Finding → List ℕ
 line_in form device history end f = line_at form device history end f (slice_get history f.place)
@@ -55,11 +61,12 @@ count_line Text n = ended_line (decimal n ++ codes " findings")
 count_line JsonLines n = json_line (count_json n)
 
 -- `RULE (RFC 7252 section N): a server WHAT`
-abbrev pub rule_words : List ℕ → List ℕ → List ℕ → List ℕ
-rule_words name section summary = name ++ codes " (RFC 7252 section " ++ section ++ codes "): a server " ++ summary
+abbrev pub rule_words : List ℕ → List ℕ → List ℕ → List ℕ → List ℕ
+rule_words name standard section summary =
+    name ++ codes " (" ++ source_words standard section ++ codes "): a server " ++ summary
 
 abbrev pub rule_line : Rule → List ℕ
-rule_line rule = ended_line (rule_words (rule_name rule) (section_of rule) (summary_of rule))
+rule_line rule = ended_line (rule_words (rule_name rule) (standard_of rule) (section_of rule) (summary_of rule))
 
 -- a word that is the name of no rule
 abbrev pub unknown_line : List ℕ → List ℕ

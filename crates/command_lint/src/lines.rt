@@ -31,10 +31,16 @@ fn placed_line(
 }
 
 /// What is said of a rule that is broken.
-fn broken_words(alloc: Global, name: &str, words: &str, section: &str) -> Result<String, AllocError>
-    ensures { IfOk result (λ text. string_bytes text ≡ broken_words name.now words.now section.now) }
+fn broken_words(
+    alloc: Global,
+    name: &str,
+    words: &str,
+    standard: &str,
+    section: &str,
+) -> Result<String, AllocError>
+    ensures { IfOk result (λ text. string_bytes text ≡ broken_words name.now words.now standard.now section.now) }
 {
-    format!(in alloc; "{name}: {words} (RFC 7252 section {section})")
+    format!(in alloc; "{name}: {words} ({standard} section {section})")
 }
 
 /// The line of a rule that a datagram breaks, with what is said of it.
@@ -50,7 +56,7 @@ fn line_with(
 {
     match form {
         LintForm::Text => {
-            let said = broken_words(alloc, rule.name(), words, rule.section())?;
+            let said = broken_words(alloc, rule.name(), words, rule.standard(), rule.section())?;
             placed_line(alloc, device, t.step(), t.second(), said.as_str())
         }
         LintForm::JsonLines => finding_object(alloc, device, rule, t, words),
@@ -72,7 +78,8 @@ pub(crate) fn line_in(
         None => Ok(String::new(alloc)),
         Some(t) => {
             let before = &history[..finding.place];
-            let words = finding_text(alloc, finding.rule, before, t, end)?;
+            let after = &history[finding.place + 1..];
+            let words = finding_text(alloc, finding.rule, before, t, after, end)?;
             line_with(alloc, form, device, finding.rule, t, words.as_str())
         }
     }
@@ -105,16 +112,29 @@ pub(crate) fn unknown_line(alloc: Global, word: &str) -> Result<String, AllocErr
 }
 
 /// What is told of a rule.
-fn rule_words(alloc: Global, name: &str, section: &str, summary: &str) -> Result<String, AllocError>
-    ensures { IfOk result (λ text. string_bytes text ≡ rule_words name.now section.now summary.now) }
+fn rule_words(
+    alloc: Global,
+    name: &str,
+    standard: &str,
+    section: &str,
+    summary: &str,
+) -> Result<String, AllocError>
+    ensures { IfOk result (λ text. string_bytes text
+        ≡ rule_words name.now standard.now section.now summary.now) }
 {
-    format!(in alloc; "{name} (RFC 7252 section {section}): a server {summary}")
+    format!(in alloc; "{name} ({standard} section {section}): a server {summary}")
 }
 
 fn rule_line(alloc: Global, rule: Rule) -> Result<String, AllocError>
     ensures { IfOk result (λ text. string_bytes text ≡ rule_line rule) }
 {
-    let words = rule_words(alloc, rule.name(), rule.section(), rule.summary())?;
+    let words = rule_words(
+        alloc,
+        rule.name(),
+        rule.standard(),
+        rule.section(),
+        rule.summary(),
+    )?;
     ended_line(alloc, words.as_str())
 }
 

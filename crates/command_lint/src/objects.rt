@@ -2,12 +2,23 @@
 ghost use Rattle.std.specs.Prelude.{◌≡◌, ◌++◌, IfOk, OnOk};
 ghost use Rattle.std.specs.String.{string_bytes};
 ghost use Rattle.trace_json.specs.Writing.{Has64Bits, IsReadAgain, json_line, tokens_of};
-ghost use Rattle.command_lint.specs.Objects.{count_json, finding_json};
+ghost use Rattle.command_lint.specs.Objects.{count_json, finding_json, rule_tokens};
 
 use json::Writer;
 use server_lint::{Rule, Transmission};
 use std::alloc::{AllocError, Global};
 use trace_json::{end_line, put_number, put_string, text_of};
+
+/// Writes a rule: its name, its section, and the standard that has it.
+fn put_rule(out: &mut Writer, rule: Rule) -> Result<(), AllocError>
+    ensures adds { OnOk result (out.new.tokens ≡ out.old.tokens ++ rule_tokens rule) }
+    ensures before { out.new.before ≡ out.old.before }
+{
+    put_string(out, "rule", rule.name())?;
+    put_string(out, "section", rule.section())?;
+    put_string(out, "standard", rule.standard())?;
+    Ok(())
+}
 
 /// Writes a rule that a datagram of a device breaks, with what is said of it.
 #[tactic(auto, unfolding(crate::specs::Objects::finding_json))]
@@ -28,8 +39,7 @@ fn put_finding(
     put_number(out, "step", u64::from(t.step()))?;
     put_number(out, "second", u64::from(t.second()))?;
     put_number(out, "server", u64::from(t.server()))?;
-    put_string(out, "rule", rule.name())?;
-    put_string(out, "section", rule.section())?;
+    put_rule(out, rule)?;
     put_string(out, "words", words)?;
     out.end_object()?;
     Ok(())

@@ -7,7 +7,10 @@ use Rattle.server_lint.specs.declared.rule.Rule.{Rule}
 use Rattle.server_lint.specs.declared.rule.Rule.TheVariants.{NotAMessage, MessageIdReused, RepeatedTooSoon}
 use Rattle.server_lint.specs.declared.rule.Rule.TheVariants.{RepeatedTooOften, AnswersNothing}
 use Rattle.server_lint.specs.declared.rule.Rule.TheVariants.{NotificationNotAcknowledged, UnknownCriticalOption}
-use Rattle.server_lint.specs.declared.rule.Rule.TheVariants.{EmptyPathSegment}
+use Rattle.server_lint.specs.declared.rule.Rule.TheVariants.{EmptyPathSegment, ReplyNotEmpty, AcknowledgedLate}
+use Rattle.server_lint.specs.declared.rule.Rule.TheVariants.{RepeatedAfterReply, NumberNotShortest, TokenInUse}
+use Rattle.server_lint.specs.declared.rule.Rule.TheVariants.{RegisteredWhileFresh, ObservationNotTaken}
+use Rattle.server_lint.specs.declared.rule.Rule.TheVariants.{RequestRefused, RequestUnanswered, ObservationLeft}
 use Rattle.server_lint.specs.Findings.{AreThose, IsFinding, candidates, candidates_at}
 use Rattle.server_lint.specs.Laws.{AllAreFindings, AllFindingsAreThere}
 
@@ -65,6 +68,16 @@ among place AnswersNothing = (4, omega arith, refl)
 among place NotificationNotAcknowledged = (5, omega arith, refl)
 among place UnknownCriticalOption = (6, omega arith, refl)
 among place EmptyPathSegment = (7, omega arith, refl)
+among place ReplyNotEmpty = (8, omega arith, refl)
+among place AcknowledgedLate = (9, omega arith, refl)
+among place RepeatedAfterReply = (10, omega arith, refl)
+among place NumberNotShortest = (11, omega arith, refl)
+among place TokenInUse = (12, omega arith, refl)
+among place RegisteredWhileFresh = (13, omega arith, refl)
+among place ObservationNotTaken = (14, omega arith, refl)
+among place RequestRefused = (15, omega arith, refl)
+among place RequestUnanswered = (16, omega arith, refl)
+among place ObservationLeft = (17, omega arith, refl)
 
 split : (n place : ℕ) → place < suc n → (place < n) ⊎ (place ≡ n)
 split zero zero below = inr refl

@@ -1,4 +1,5 @@
 pub mod Broken
 pub mod Found
 pub mod Those
+pub mod Then
 pub mod Exactly

@@ -6,7 +6,10 @@ use Rattle.server_lint.specs.declared.rule.Rule.{Rule}
 use Rattle.server_lint.specs.declared.rule.Rule.TheVariants.{NotAMessage, MessageIdReused, RepeatedTooSoon}
 use Rattle.server_lint.specs.declared.rule.Rule.TheVariants.{RepeatedTooOften, AnswersNothing}
 use Rattle.server_lint.specs.declared.rule.Rule.TheVariants.{NotificationNotAcknowledged, UnknownCriticalOption}
-use Rattle.server_lint.specs.declared.rule.Rule.TheVariants.{EmptyPathSegment}
+use Rattle.server_lint.specs.declared.rule.Rule.TheVariants.{EmptyPathSegment, ReplyNotEmpty, AcknowledgedLate}
+use Rattle.server_lint.specs.declared.rule.Rule.TheVariants.{RepeatedAfterReply, NumberNotShortest, TokenInUse}
+use Rattle.server_lint.specs.declared.rule.Rule.TheVariants.{RegisteredWhileFresh, ObservationNotTaken}
+use Rattle.server_lint.specs.declared.rule.Rule.TheVariants.{RequestRefused, RequestUnanswered, ObservationLeft}
 use Rattle.server_lint.specs.History.{Transmission}
 use Rattle.server_lint.specs.Rules.{IsBroken, Place}
 
@@ -14,7 +17,9 @@ use Rattle.server_lint.specs.Rules.{IsBroken, Place}
 abbrev pub all_rules : List Rule
 all_rules =
     NotAMessage ∷ MessageIdReused ∷ RepeatedTooSoon ∷ RepeatedTooOften ∷ AnswersNothing
-    ∷ NotificationNotAcknowledged ∷ UnknownCriticalOption ∷ EmptyPathSegment ∷ []
+    ∷ NotificationNotAcknowledged ∷ UnknownCriticalOption ∷ EmptyPathSegment ∷ ReplyNotEmpty ∷ AcknowledgedLate
+    ∷ RepeatedAfterReply ∷ NumberNotShortest ∷ TokenInUse ∷ RegisteredWhileFresh ∷ ObservationNotTaken
+    ∷ RequestRefused ∷ RequestUnanswered ∷ ObservationLeft ∷ []
 
 -- the datagram at a place, counted from 0, among the others of a history that ends in this second
 abbrev pub place_of : List Transmission → ℕ → ℕ → Transmission → Place

@@ -1,6 +1,7 @@
 pub mod History
 pub mod Pairs
 pub mod Single
+pub mod Observing
 pub mod Names
 pub mod Rules
 pub mod Findings

@@ -7,7 +7,7 @@ use Rattle.coap_codec.specs.Message.{Message}
 use Rattle.server_lint.specs.declared.sender.Sender.{Sender}
 use Rattle.server_lint.specs.declared.sender.Sender.TheVariants.{Server, Device}
 use Rattle.server_lint.specs.History.{Transmission, message_of, seconds_since}
-use Rattle.server_lint.specs.Single.{has_own_id, is_from_server}
+use Rattle.server_lint.specs.Single.{has_own_id, is_from_server, is_reset}
 
 -- for how many seconds a message ID is not used again: EXCHANGE_LIFETIME of a confirmable message, NON_LIFETIME of
 -- another (RFC 7252 sections 4.4 and 4.8.2); the others have none of their own
@@ -70,3 +70,28 @@ answers earlier t =
     && (is_from_server t
     && (earlier.server == t.server
     && has_id_answered (seconds_since earlier t) (message_of earlier) (message_of t)))
+
+-- for how many seconds a message ID is not used again after this one
+abbrev pub lifetime_of : Option Message → ℕ
+lifetime_of None = 0
+lifetime_of (Some m) = id_lifetime m.kind
+
+-- it is the earlier one again, whose lifetime has not elapsed (RFC 7252 section 4.5)
+abbrev pub is_repeat : Transmission → Transmission → Bool
+is_repeat earlier t = is_again_within (lifetime_of (message_of t)) earlier t
+
+-- an acknowledgement or a reset with the message ID of the earlier one
+abbrev pub replies_by_id : Option Message → Option Message → Bool
+replies_by_id None m = false
+replies_by_id (Some earlier) None = false
+replies_by_id (Some earlier) (Some m) = not (has_own_id m.kind) && earlier.mid == m.mid
+
+-- the device acknowledges or resets what the server sent (RFC 7252 section 4.2)
+abbrev pub replies : Transmission → Transmission → Bool
+replies earlier t =
+    not (is_from_server t)
+    && (earlier.server == t.server && replies_by_id (message_of earlier) (message_of t))
+
+-- a server resets what the device sent (RFC 7252 sections 4.2 and 4.3)
+abbrev pub resets : Transmission → Transmission → Bool
+resets earlier t = is_reset (message_of t) && answers earlier t

@@ -1,10 +1,13 @@
-//! What a server did wrong in the history of a device, by rules of RFC 7252.
+//! What a server did wrong in the history of a device, by rules of RFC 7252 and RFC 7641.
 #![tactic(auto)]
 
 mod breaking;
+mod earlier;
 mod finding;
 mod laws;
+mod observing;
 mod pairs;
+mod path;
 mod rule;
 mod sender;
 mod single;

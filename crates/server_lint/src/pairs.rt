@@ -3,10 +3,11 @@ ghost use Rattle.std.specs.Prelude.{◌≡◌, ◌==◌};
 ghost use Rattle.std.specs.Cmp.Lexicographic.{pointwise};
 ghost use Rattle.server_lint.specs.History.{message_of, seconds_since};
 ghost use Rattle.server_lint.specs.Pairs.{answers, has_id_answered, has_live_id, has_same_bytes, id_lifetime};
-ghost use Rattle.server_lint.specs.Pairs.{is_again_within, is_same_sender, may_answer, reuses_id};
+ghost use Rattle.server_lint.specs.Pairs.{is_again_within, is_repeat, is_same_sender, lifetime_of, may_answer};
+ghost use Rattle.server_lint.specs.Pairs.{replies, replies_by_id, resets, reuses_id};
 
 use crate::sender::Sender;
-use crate::single::{has_own_id, is_from_server};
+use crate::single::{has_own_id, is_from_server, is_reset};
 use crate::transmission::Transmission;
 use coap_codec::Kind;
 
@@ -106,4 +107,48 @@ pub(crate) fn answers(earlier: &Transmission, t: &Transmission) -> bool
 {
     !is_from_server(earlier)
         && (is_from_server(t) && (earlier.server() == t.server() && has_id_answered(earlier, t)))
+}
+
+/// For how many seconds its message ID is not used again.
+fn lifetime_of(t: &Transmission) -> u32
+    ensures { result ≡ lifetime_of (message_of t.now) }
+{
+    match t.message() {
+        None => 0,
+        Some(message) => id_lifetime(message.kind()),
+    }
+}
+
+/// Whether it is the earlier one again, whose lifetime has not elapsed.
+pub(crate) fn is_repeat(earlier: &Transmission, t: &Transmission) -> bool
+    ensures { result ≡ is_repeat earlier.now t.now }
+{
+    is_again_within(lifetime_of(t), earlier, t)
+}
+
+/// Whether it is an acknowledgement or a reset with the message ID of the earlier one.
+fn replies_by_id(earlier: &Transmission, t: &Transmission) -> bool
+    ensures { result ≡ replies_by_id (message_of earlier.now) (message_of t.now) }
+{
+    let Some(before) = earlier.message() else {
+        return false;
+    };
+    let Some(message) = t.message() else {
+        return false;
+    };
+    !has_own_id(message.kind()) && before.mid() == message.mid()
+}
+
+/// Whether the device acknowledges or resets in it what the server sent in the earlier one.
+pub(crate) fn replies(earlier: &Transmission, t: &Transmission) -> bool
+    ensures { result ≡ replies earlier.now t.now }
+{
+    !is_from_server(t) && (earlier.server() == t.server() && replies_by_id(earlier, t))
+}
+
+/// Whether a server resets in it what the device sent in the earlier one.
+pub(crate) fn resets(earlier: &Transmission, t: &Transmission) -> bool
+    ensures { result ≡ resets earlier.now t.now }
+{
+    is_reset(t) && answers(earlier, t)
 }

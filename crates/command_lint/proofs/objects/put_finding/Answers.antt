@@ -7,16 +7,13 @@ unfolding finding_json
 returns-clause-adds c =
     rw (
       c.in_ok-end_object.ensures.ok,
-      c.in_ok-put_string-3.ensures.adds,
-      c.in_ok-put_string-2.ensures.adds,
       c.in_ok-put_string.ensures.adds,
+      c.in_ok-put_rule.ensures.adds,
       c.in_ok-put_number-4.ensures.adds,
       c.in_ok-put_number-3.ensures.adds,
       c.in_ok-put_number-2.ensures.adds,
       c.in_ok-put_number.ensures.adds,
       c.in_ok-begin_object.ensures.ok,
-      c.section.ensures,
-      c.name.ensures,
       c.from-4.ensures,
       c.server.ensures,
       c.from-3.ensures,

@@ -1,0 +1,11 @@
+use Rattle.std.proofs.Common.{◌≡◌, length}
+use Rattle.server_lint.specs.Inside.{any_then, is_reset_later}
+use Rattle.server_lint.proofs.observing.has_reset.Given as goal
+
+-- what is still to come has the same
+abbrev pub invariant-loop-rest : goal.invariant-loop-rest
+invariant-loop-rest l = any_then (is_reset_later l.registration) l.rest
+    ≡ any_then (is_reset_later l.registration) l.after
+
+abbrev pub decreases-loop-rest : goal.decreases-loop-rest
+decreases-loop-rest l = length l.rest
