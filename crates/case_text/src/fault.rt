@@ -12,6 +12,8 @@ pub enum Why {
     NotAQuestion(Cause),
     /// What stands after `!` is not an event.
     NotAnEvent(Cause),
+    /// What stands after `<=` is not an expectation.
+    NotAnExpectation(Cause),
     /// `*` without a number from 1 to 100,000 and a line.
     NotACount,
     /// What stands where bytes have to stand is not bytes in pieces.

@@ -47,6 +47,7 @@ case_word why.NotText = codes "no text"
 case_word (why.NotAnAnswer cause) = codes "no such answer"
 case_word (why.NotAQuestion cause) = codes "no such question"
 case_word (why.NotAnEvent cause) = codes "no such event"
+case_word (why.NotAnExpectation cause) = codes "no such expectation"
 case_word why.NotACount = codes "`*` wants a number up to 100,000 and a line"
 case_word (why.NotBytes cause) = codes "no such bytes"
 case_word why.NoSuchLine = codes "no such line"
@@ -60,11 +61,12 @@ case_word why.NoAnswerBelow = codes "no answer stands below this"
 case_word why.NoCase = codes "no case"
 case_word why.Memory = codes "memory"
 
--- the cause for which the words of an answer, a question, an event or bytes are refused
+-- the cause for which the words of an answer, a question, an event, an expectation or bytes are refused
 abbrev pub case_cause : Why → Option Cause
 case_cause (why.NotAnAnswer cause) = Some cause
 case_cause (why.NotAQuestion cause) = Some cause
 case_cause (why.NotAnEvent cause) = Some cause
+case_cause (why.NotAnExpectation cause) = Some cause
 case_cause (why.NotBytes cause) = Some cause
 case_cause why.NotText = None
 case_cause why.NotACount = None

@@ -189,6 +189,7 @@ pub fn case_word(why: Why) -> &'static str
         Why::NotAnAnswer(_) => "no such answer",
         Why::NotAQuestion(_) => "no such question",
         Why::NotAnEvent(_) => "no such event",
+        Why::NotAnExpectation(_) => "no such expectation",
         Why::NotACount => "`*` wants a number up to 100,000 and a line",
         Why::NotBytes(_) => "no such bytes",
         Why::NoSuchLine => "no such line",
@@ -204,7 +205,7 @@ pub fn case_word(why: Why) -> &'static str
     }
 }
 
-/// The cause for which the words of an answer, a question, an event or bytes are refused.
+/// The cause for which the words of an answer, a question, an event, an expectation or bytes are refused.
 pub fn case_cause(why: Why) -> Option<Cause>
     ensures { result ≡ case_cause why }
 {
@@ -212,6 +213,7 @@ pub fn case_cause(why: Why) -> Option<Cause>
         Why::NotAnAnswer(cause)
         | Why::NotAQuestion(cause)
         | Why::NotAnEvent(cause)
+        | Why::NotAnExpectation(cause)
         | Why::NotBytes(cause) => Some(cause),
         Why::NotText
         | Why::NotACount

@@ -1,0 +1,5 @@
+pub mod Faults
+pub mod Files
+pub mod Built
+pub mod Refused
+pub mod Again

@@ -1,0 +1,91 @@
+//! Files of expectations, which are all read before a case is judged.
+ghost use Rattle.std.specs.Prelude.{◌≡◌, ◌∷◌, ◌++◌, [], Ok, Some, IfErr, IfOk, OnOk, map, option_map};
+ghost use Rattle.expectations.specs.ExpectedCases.{expected_cases_in};
+ghost use Rattle.command_expect.specs.Reading.{AreRead, IsExpectedFile, IsFileRefused, IsRefusalOf, IsTextFault};
+
+use crate::expected_file::ExpectedFile;
+use command_files::files::Files;
+use command_files::{Fault, Refusal, Why, read_file};
+use expectations::{ExpectedCase, read_expectations};
+use lwm2m_values::Text;
+use std::alloc::{AllocError, Global};
+
+/// The text of a file.
+#[tactic(auto, using(crate::proofs::Faults::reading, crate::proofs::Faults::no_text))]
+fn read_text<'a, F: Files>(alloc: Global, path: &'a str, files: &F) -> Result<Text, Refusal<'a>>
+    ensures held { IfOk result (F.holds files.now path.entry.now) }
+    ensures refused { IfErr result (λ r. IsFileRefused (F.holds files.now) (F.fails files.now) path.entry.now
+        r.fault) }
+    ensures names_path { IfErr result (λ r. option_map (λ p. p.now) r.about ≡ Some path.entry.now) }
+{
+    let bytes = read_file(alloc, path, files)?;
+    match String::from_utf8(bytes) {
+        Ok(text) => Ok(Text::from_string(text)),
+        Err(_) => Err(Refusal {
+            fault: Fault::Read,
+            about: Some(path),
+            why: Why::Known("not valid UTF-8"),
+        }),
+    }
+}
+
+/// The cases of a text. A fault names the path of its file.
+#[tactic(auto, using(crate::proofs::Faults::wrong_cases))]
+fn cases_of<'a>(alloc: Global, path: &'a str, text: &str) -> Result<Vec<ExpectedCase>, Refusal<'a>>
+    ensures found { IfOk result (λ v. expected_cases_in text.now ≡ Ok v.items) }
+    ensures refused { IfErr result (λ r. IsTextFault text.now r.fault) }
+    ensures names_path { IfErr result (λ r. option_map (λ p. p.now) r.about ≡ Some path.entry.now) }
+{
+    match read_expectations(alloc, text.as_bytes()) {
+        Ok(cases) => Ok(cases),
+        Err(fault) => Err(Refusal {
+            fault: Fault::from(fault),
+            about: Some(path),
+            why: Why::Named,
+        }),
+    }
+}
+
+/// A file with its cases.
+#[tactic(auto, using(crate::proofs::Faults::wrong, crate::proofs::Files::expected_file))]
+fn read_expected_file<'a, F: Files>(
+    alloc: Global,
+    path: &'a str,
+    files: &F,
+) -> Result<ExpectedFile<'a>, Refusal<'a>>
+    ensures path { IfOk result (λ file. file.path.now ≡ path.entry.now) }
+    ensures found { IfOk result (IsExpectedFile (F.holds files.now)) }
+    ensures refused { IfErr result (λ r. IsFileRefused (F.holds files.now) (F.fails files.now) path.entry.now
+        r.fault) }
+    ensures names_path { IfErr result (λ r. option_map (λ p. p.now) r.about ≡ Some path.entry.now) }
+{
+    let text = read_text(alloc, path, files)?;
+    let cases = cases_of(alloc, path, text.as_str())?;
+    Ok(ExpectedFile { path, text, cases })
+}
+
+fn add<'a>(all: &mut Vec<ExpectedFile<'a>>, file: ExpectedFile<'a>) -> Result<(), AllocError>
+    ensures { OnOk result (all.new.items ≡ all.old.items ++ file.entry ∷ []) }
+{
+    all.push(file)?;
+    Ok(())
+}
+
+/// The files at these paths, each with its cases; or the first that is refused, by its path.
+#[tactic(auto, using(crate::proofs::Files::none_yet, crate::proofs::Files::all_read))]
+pub fn read_expected<'a, F: Files>(
+    alloc: Global,
+    paths: &[&'a str],
+    files: &F,
+) -> Result<Vec<ExpectedFile<'a>>, Refusal<'a>>
+    ensures read { IfOk result (λ v. AreRead (F.holds files.now) (map (λ p. p.now) paths.now) v.items) }
+    ensures refused { IfErr result (λ r. IsRefusalOf (F.holds files.now) (F.fails files.now)
+        (map (λ p. p.now) paths.now) (option_map (λ p. p.now) r.about) r.fault) }
+{
+    let mut all = Vec::new(alloc);
+    for path in paths {
+        let file = read_expected_file(alloc, *path, files)?;
+        add(&mut all, file)?;
+    }
+    Ok(all)
+}

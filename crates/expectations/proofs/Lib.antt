@@ -1,0 +1,4 @@
+pub mod Grouped
+pub mod Laid
+pub mod Places
+pub mod Settled

@@ -1,0 +1,10 @@
+pub mod Arrivals
+pub mod Expecting
+pub mod ExpectationWords
+pub mod ExpectedCases
+pub mod ExpectedLines
+pub mod Inside
+pub mod Laws
+pub mod Laying
+pub mod Open
+pub mod Settling
