@@ -1,9 +1,9 @@
-"""Messages of CoAP (RFC 7252 section 3) as tools/register and tools/register-check send and read them."""
+"""Messages of CoAP (RFC 7252 section 3) as the tools beside this file send and read them."""
 import struct
 
 CON, NON, ACK, RST = range(4)
 GET, POST, PUT, DELETE = range(1, 5)
-LOCATION_PATH, URI_PATH, CONTENT_FORMAT, URI_QUERY = 8, 11, 12, 15
+OBSERVE, LOCATION_PATH, URI_PATH, CONTENT_FORMAT, URI_QUERY, ACCEPT = 6, 8, 11, 12, 15, 17
 LINK_FORMAT = 40
 
 
