@@ -1,15 +1,16 @@
 #!/usr/bin/env python3
-"""Draws bench/*.svg, the pictures of README.md, from the measured figures of bench/*.csv.
+"""Draws bench/*.svg, the pictures of README.md, from the measured figures of bench/figures.json.
 
     bench/plots.py            writes them
     bench/plots.py --check    writes nothing; status 1 where a picture is not that of its figures
 
-A file of figures begins with lines `# ` that say what was measured, when and on which machine: the foot of the picture.
-Then come the names of the columns, and the figures as the scripts print them; a `-` is none. PICTURES has a function
-for each file, which chooses what is drawn. Sizes go by factors, so the axis across is always logarithmic; plots of one
-picture whose axes up have the same name have the same scale. Python's standard library is all that it needs.
+The figures of a measurement have lines that say what was measured, when and on which machine, which is the foot of the
+picture; the names of the columns; and the rows, as the scripts print them, with null where there is no figure. PICTURES
+has a function for each picture, which chooses what is drawn. Sizes go by factors, so the axis across is always
+logarithmic; plots of one picture whose axes up have the same name have the same scale. A picture whose figures are not
+there is not drawn. Python's standard library is all that it needs.
 """
-import csv
+import json
 import math
 import pathlib
 import sys
@@ -74,16 +75,16 @@ class List:
 
 
 class Figure(float):
-    """A number, and how the file spells it."""
+    """A number, and how a picture spells it: with the digits of the file."""
 
     def __new__(cls, text):
-        figure = super().__new__(cls, text.replace(",", ""))
-        figure.text = text
+        figure = super().__new__(cls, text)
+        figure.text = f"{int(text):,}" if text.isdigit() else text
         return figure
 
 
 def curve(rows, across, up):
-    return [(Figure(it[across]), Figure(it[up])) for it in rows if "-" not in (it[across], it[up])]
+    return [(it[across], it[up]) for it in rows if None not in (it[across], it[up])]
 
 
 def where(rows, **wanted):
@@ -95,25 +96,60 @@ CREWS = {"one": 1, "two": 2, "four": 4, "all": 64}
 
 def by_workers(rows, batch, column):
     """The points of the runs with batches of so many steps, by how many workers they have."""
-    its = [(it["Run"].partition(" "), Figure(it[column])) for it in rows]
+    its = [(it["Run"].partition(" "), it[column]) for it in rows]
     return [(CREWS[run[0]], value) for run, value in its if run[2] == batch]
 
 
 def workers(rows):
     plots = []
-    for steps, devices in (("mixed", "4096"), ("mixed", "16384"), ("ticks", "4096")):
+    for steps, devices in (("mixed", 4096), ("mixed", 16384), ("ticks", 4096)):
         its = where(rows, Steps=steps, Devices=devices)
         curves = {f"batch {it}": by_workers(its, it, "Steps/s") for it in ("64", "16", "1")}
-        alone = Figure(where(its, Run="serial")[0]["Steps/s"])
+        alone = where(its, Run="serial")[0]["Steps/s"]
         curves["serial"] = [(1, alone), (64, alone)]
         curves = {name: [(x, y / 1e6) for x, y in points] for name, points in curves.items()}
-        plots.append(Plot(f"{steps}, {Figure(devices):,g} devices", "workers", "million steps a second", curves))
+        plots.append(Plot(f"{steps}, {devices:,} devices", "workers", "million steps a second", curves))
     return "Runs by workers beside the serial run", 3, 460, plots
 
 
+def beside(rows):
+    """The same runs by other programs, whose rows have the name of the program."""
+    plots = []
+    for batch in (16, 64):
+        names = dict.fromkeys(it["Program"] for it in rows)
+        curves = {it: curve(where(rows, Program=it, Batch=batch), "Workers", "Steps/s") for it in names}
+        curves = {name: [(x, y / 1e6) for x, y in points] for name, points in curves.items()}
+        plots.append(Plot(f"Batches of {batch}", "workers", "million steps a second", curves))
+    return "Runs by workers beside plain and tuned Rust", 2, 460, plots
+
+
+def crews(rows):
+    plots = []
+    for entries in dict.fromkeys(it["Entries"] for it in rows):
+        its = where(rows, Entries=entries)
+        columns = {"processes": "Processes", "batch 16": "Batch 16", "wanted": "Wanted", "batch 64": "Batch 64"}
+        curves = {name: [(1, 1), *curve(its, "Workers", it)] for name, it in columns.items() if its[0][it] is not None}
+        plots.append(Plot(f"Entries {entries}", "workers", "times the steps of one", curves))
+    return "More workers, and as many serial runs at once", 3, 430, plots
+
+
+def steps(rows):
+    """Steps of several kinds, of 4,096 devices or of one with 4,096 steps."""
+    kinds = {"mixed": (4096, 100), "reads": (1, 4096), "ticks": (4096, 100), "posts": (4096, 100)}
+    its = [where(rows, Steps=name, Devices=devices, Each=each)[0] for name, (devices, each) in kinds.items()]
+
+    def bars(column):
+        return [(it["Steps"], it[column], it[column].text) for it in its]
+
+    across = "µs of processor time a step"
+    return "The serial run, and check of its trace, by kinds of steps", 2, 240, [
+        List("Serial run", across, bars("A step µs")), List("Check", across, bars("A step of check µs"))
+    ]
+
+
 def serial(rows):
-    by_devices, by_steps = where(rows, Steps="mixed", Each="100"), where(rows, Steps="mixed", Devices="1024")
-    by_steps = sorted(by_steps, key=lambda it: Figure(it["Each"]))
+    by_devices, by_steps = where(rows, Steps="mixed", Each=100), where(rows, Steps="mixed", Devices=1024)
+    by_steps = sorted(by_steps, key=lambda it: it["Each"])
     columns = {"check": "A step of check µs", "serial": "A step µs"}
 
     def plot(title, across, its, column):
@@ -142,31 +178,38 @@ def waiting(rows):
 
 def backoff(rows):
     plots = []
-    for batch in ("16", "1"):
-        its = [it for it in rows if it["Workers, batch"].endswith(f", {batch}")]
+    for batch in (16, 1):
+        its = where(rows, Batch=batch)
         for before, title in (("", "above all else"), ("Beside proofs: ", "beside proofs")):
             curves = {}
             for name in ("looks", "then sleeps", "snooze"):
                 column = f"{before}{name} ms" if before else f"{name.capitalize()} ms"
-                curves[name] = [(Figure(it["Workers, batch"].split(", ")[0]), Figure(it[column])) for it in its]
+                curves[name] = curve(its, "Workers", column)
             plots.append(Plot(f"Batches of {batch}, {title}", "workers", "ms by the clock", curves))
     return "Ways to wait for the lock", 2, 560, plots
 
 
 def debugger(rows):
-    bars = [(it["Command"], Figure(it["Each ms"]), it["Each ms"]) for it in rows]
+    bars = [(it["Command"], it["Each ms"], it["Each ms"].text) for it in rows]
     return "Commands of the debugger, over 409,600 entries", 1, 490, [
         List("", "ms of processor time each (logarithmic)", sorted(bars, key=lambda it: it[1]), is_log=True)
     ]
 
 
 def seconds(rows):
-    silent, notified = ([it for it in rows if (it["Notifications"] == "0") == is_silent] for is_silent in (True, False))
+    silent, noisy = ([it for it in rows if (it["Notifications"] == 0) == is_silent] for is_silent in (True, False))
     return "Seconds of devices that are observed", 2, 450, [
         Plot("Nothing is sent: 32 observations", "seconds of a tick", "µs of processor time a tick",
              {"tick": curve(silent, "Seconds", "A tick µs")}, has_numbers=True),
         Plot("Notifications, in ticks of a day", "notifications", "ms of processor time (logarithmic)",
-             {"all": curve(notified, "Notifications", "All ms")}, is_log=True, has_numbers=True),
+             {"all": curve(noisy, "Notifications", "All ms")}, is_log=True, has_numbers=True),
+    ]
+
+
+def notified(rows):
+    bars = [(it["Steps"], it["A step µs"], it["A step µs"].text) for it in rows]
+    return "Steps of devices that are observed, beside mixed ones", 1, 220, [
+        List("", "µs of processor time a step", bars)
     ]
 
 
@@ -191,6 +234,16 @@ def fleet(rows):
     ]
 
 
+def fleet_notified(rows):
+    much, cost = "Notifications a second", "Processor time a notification µs"
+    return "A fleet whose values change each second", 2, 430, [
+        Plot("What the client gets", "devices", "notifications a second (logarithmic)",
+             {"fleet": curve(rows, "Devices", much)}, is_log=True, has_numbers=True),
+        Plot("What the devices spend", "devices", "µs of processor time a notification",
+             {"fleet": curve(rows, "Devices", cost)}, has_numbers=True),
+    ]
+
+
 def fleet_rest(rows):
     return "A fleet that gets nothing", 2, 430, [
         Plot("Until all ports are there", "devices", "ms (logarithmic)",
@@ -202,24 +255,28 @@ def fleet_rest(rows):
 
 def show(rows):
     def bars(column):
-        return [(it["Command"], Figure(it[column]) if it[column][0].isdigit() else None, it[column]) for it in rows]
+        its = [(it["Command"], it[column]) for it in rows]
+        return [(name, it, it.text) if isinstance(it, Figure) else (name, None, it) for name, it in its]
 
     return "What prints a trace of 409,600 entries", 2, 270, [
         List("Processor time", "seconds", bars("Seconds")), List("What it writes", "MB", bars("It writes MB"))
     ]
 
 
+# The function of each picture; its figures have the same name, or that which stands with it.
 PICTURES = {
-    "workers": workers, "serial": serial, "waiting": waiting, "backoff": backoff, "debugger": debugger,
-    "seconds": seconds, "live": live, "fleet": fleet, "fleet-rest": fleet_rest, "show": show,
+    "workers": workers, "beside": beside, "crews": crews, "serial": serial, "steps": (steps, "serial"),
+    "waiting": waiting, "backoff": backoff, "debugger": debugger, "seconds": seconds, "notified": notified,
+    "live": live, "fleet": fleet, "fleet-notified": fleet_notified, "fleet-rest": fleet_rest, "show": show,
 }
 
 
-def read(name):
-    """What was measured, when and where; and the figures."""
-    lines = (HERE / f"{name}.csv").read_text(encoding="utf-8").splitlines()
-    notes = [it[2:] for it in lines if it.startswith("# ")]
-    return " ".join(notes), [*csv.DictReader(lines[len(notes):])]
+def read():
+    """Of each measurement what was measured, when and where, and its rows, each a figure or a text by its column."""
+    text = (HERE / "figures.json").read_text(encoding="utf-8")
+    found = json.loads(text, parse_int=Figure, parse_float=Figure)
+    return {name: (" ".join(it["measured"]), [dict(zip(it["columns"], row)) for row in it["rows"]])
+            for name, it in found.items()}
 
 
 def even_step(top):
@@ -367,10 +424,9 @@ def scales(plots):
     return [scale(values[it.axis], it.is_log, it.has_numbers) for it in plots]
 
 
-def picture(name):
+def picture(draw, note, rows):
     """The text of a picture."""
-    note, rows = read(name)
-    head, count, height, plots = PICTURES[name](rows)
+    head, count, height, plots = draw(rows)
     foot = textwrap.wrap(note, LETTERS)
     whole = height + 6 + FOOT * len(foot)
     yield f'<svg xmlns="http://www.w3.org/2000/svg" viewBox="0 0 {WIDTH} {whole}" width="{WIDTH}" height="{whole}">'
@@ -389,13 +445,17 @@ def picture(name):
 
 
 def main():
-    wanted = {HERE / f"{name}.svg": "".join(f"{it}\n" for it in picture(name)) for name in PICTURES}
+    figures, wanted = read(), {}
+    for name, it in PICTURES.items():
+        draw, of = it if isinstance(it, tuple) else (it, name)
+        if of in figures:
+            wanted[HERE / f"{name}.svg"] = "".join(f"{line}\n" for line in picture(draw, *figures[of]))
     if sys.argv[1:] != ["--check"]:
         for path, text in wanted.items():
             path.write_text(text, encoding="utf-8")
         return
     stale = [it.name for it, text in wanted.items() if not it.is_file() or it.read_text(encoding="utf-8") != text]
-    unknown = [it.name for it in sorted(HERE.glob("*.csv")) + sorted(HERE.glob("*.svg")) if it.stem not in PICTURES]
+    unknown = [it.name for it in sorted(HERE.glob("*.svg")) if it not in wanted]
     for name in stale:
         print(f"bench/{name}: not as bench/plots.py draws it now")
     for name in unknown:
