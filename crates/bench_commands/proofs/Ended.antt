@@ -417,6 +417,7 @@ within_job holds faults (jobs.Show image trace device from to form) before after
 within_job holds faults (jobs.Pcap image trace output) before after h = absurd h
 within_job holds faults (jobs.Titles files only) before after h = absurd h
 within_job holds faults (jobs.Test files only form junit) before after h = absurd h
+within_job holds faults (jobs.Expect files image device only form junit) before after h = absurd h
 within_job holds faults (jobs.Join output images) before after h = absurd h
 within_job holds faults (jobs.Lint file only except json) before after h = absurd h
 
@@ -436,6 +437,7 @@ within_cut holds faults (jobs.Show image trace device from to form) before after
 within_cut holds faults (jobs.Pcap image trace output) before after fault h = absurd h
 within_cut holds faults (jobs.Titles files only) before after fault h = absurd h
 within_cut holds faults (jobs.Test files only form junit) before after fault h = absurd h
+within_cut holds faults (jobs.Expect files image device only form junit) before after fault h = absurd h
 within_cut holds faults (jobs.Join output images) before after fault h = absurd h
 within_cut holds faults (jobs.Lint file only except json) before after fault h = absurd h
 

@@ -1,6 +1,7 @@
 pub mod AtOnce
 pub mod Ended
-pub mod Fleets
 pub mod Seen
+pub mod Served
 pub mod Started
 pub mod Unread
+pub mod Verdicts

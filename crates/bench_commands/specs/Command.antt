@@ -23,7 +23,9 @@ use Rattle.command_files.specs.Loading.{IsCheckRefused, IsImageFault, RunPaths}
 use Rattle.command_demo.specs.InJson.{IsOneJsonDone}
 use Rattle.command_demo.specs.One.{IsOneDone, IsOneFault}
 use Rattle.command_demo.specs.Why.{IsOneWhyDone}
+use Rattle.command_expect.specs.Expect.{IsExpectDone, IsExpectFault}
 use Rattle.command_fleet.specs.Fleet.{IsFleetDone, IsFleetFault}
+use Rattle.command_fleet.specs.declared.concluding.Held.{Held}
 use Rattle.command_live.specs.Live.{IsLiveDone, IsLiveFault}
 use Rattle.command_files.specs.Refusals.{IsTold}
 use Rattle.command_join.specs.Join.{IsJoinDone, IsJoinFault}
@@ -37,14 +39,17 @@ use Rattle.command_play.specs.declared.form.PlayForm.{PlayForm}
 use Rattle.command_play.specs.declared.form.PlayForm.TheVariants as play_forms
 use Rattle.command_texts.specs.Texts.{IsTextFault}
 use Rattle.command_test.specs.Jobs.{IsTestDone, IsTestFault, IsTitlesDone}
-use Rattle.command_test.specs.declared.form.ReportForm.{ReportForm}
-use Rattle.command_test.specs.declared.form.ReportForm.TheVariants as report_forms
+use Rattle.test_reports.specs.declared.form.ReportForm.{ReportForm}
+use Rattle.test_reports.specs.declared.form.ReportForm.TheVariants as report_forms
 use Rattle.command_traces.specs.Traces.{IsPcapDone, IsPcapRefused, IsShowDone, IsShowRefused}
 use Rattle.command_traces.specs.declared.form.TraceForm.{TraceForm}
 use Rattle.command_traces.specs.declared.form.TraceForm.TheVariants as forms
 use Rattle.command_words.specs.Inputs.{IsInputRefused, IsInputSaid}
 use Rattle.command_words.specs.Saying.{IsSayDone, IsSayFault}
 use Rattle.command_words.specs.Spelling.{IsSpellDone, IsSpellFault}
+use Rattle.command_expect.specs.Reading.{AreRead}
+use Rattle.command_expect.specs.declared.expected_file.ExpectedFile.{ExpectedFile}
+use Rattle.bench_commands.specs.Judged.{IsGoalRefused, IsJudged, IsUnjudged, goal_paths}
 use Rattle.command_files.specs.World.{FilesKnown, IsAside, StreamFaults, Streams, World}
 use Rattle.command_files.specs.declared.answer.Answer.{Answer}
 use Rattle.command_files.specs.declared.fault.Fault.{Fault}
@@ -110,6 +115,9 @@ IsDone holds (jobs.Titles files only) answer =
 IsDone holds (jobs.Test files only form junit) answer =
     IsTestDone holds (map (λ p. p.now) files.items) (option_map (λ w. w.now) only) (report_form form)
     (option_map (λ p. p.now) junit) answer
+IsDone holds (jobs.Expect files image device only form junit) answer =
+    IsExpectDone holds (map (λ p. p.now) files.items) image.now device (option_map (λ w. w.now) only) (report_form form)
+    (option_map (λ p. p.now) junit) answer
 IsDone holds (jobs.Join output images) answer =
     IsJoinDone holds output.now (map (λ p. p.now) images.items) answer
 IsDone holds (jobs.Lint file only except json) answer =
@@ -140,6 +148,8 @@ IsRefusedJob holds fails (jobs.Titles files only) fault =
     IsTestFault holds fails (map (λ p. p.now) files.items) (option_map (λ w. w.now) only) fault
 IsRefusedJob holds fails (jobs.Test files only form junit) fault =
     IsTestFault holds fails (map (λ p. p.now) files.items) (option_map (λ w. w.now) only) fault
+IsRefusedJob holds fails (jobs.Expect files image device only form junit) fault =
+    IsExpectFault holds fails (map (λ p. p.now) files.items) image.now device (option_map (λ w. w.now) only) fault
 IsRefusedJob holds fails (jobs.Join output images) fault =
     (about : Option (List ℕ)) × IsJoinFault holds fails (map (λ p. p.now) images.items) about fault
 IsRefusedJob holds fails (jobs.Lint file only except json) fault =
@@ -256,20 +266,40 @@ pub record IsLiveLost (files : FilesKnown) (faults : StreamFaults) (before after
   pub read : IsReadAs words (asked.Live live)
   pub lost : IsLiveFault files faults before.streams after.streams live fault
 
--- the words ask for devices on UDP, whose session was concluded; standard error was a terminal, or was not
+-- the words ask for devices on UDP, whose session was concluded, and then judged, if there is something that servers
+-- have to send; standard error was a terminal, or was not
 pub record AreServed (files : FilesKnown) (before after : World) (terminal : Bool) (words : List (List ℕ))
     (status : Status) : Type 0 where
   pub fleet : AskedFleet
   pub read : IsReadAs words (asked.Fleet fleet)
-  pub done : IsFleetDone files before after fleet terminal status
+  pub goal : List ExpectedFile
+  pub goal_is : AreRead files.holds (goal_paths fleet) goal
+  -- the files and the streams when the session was concluded, and what is left of it
+  pub between : World
+  pub held : Held
+  pub done : IsFleetDone files before between fleet terminal held
+  pub judged : IsJudged goal fleet held.saved between after held.status status
 
--- the words ask for devices on UDP, and this fault kept them from a session or from its conclusion; the files that were
--- made are those of the session up to then
+-- a session was concluded, and not judged
+pub record IsSessionUnjudged (files : FilesKnown) (faults : StreamFaults) (before after : World) (fleet : AskedFleet)
+    (terminal : Bool) (fault : Fault) : Type 0 where
+  pub goal : List ExpectedFile
+  pub goal_is : AreRead files.holds (goal_paths fleet) goal
+  pub between : World
+  pub held : Held
+  pub done : IsFleetDone files before between fleet terminal held
+  pub why : IsUnjudged files faults goal fleet held.saved between after fault
+
+-- the words ask for devices on UDP, and this fault kept them from a session, from its conclusion or from its verdict;
+-- the files that were made are those of the session up to then
 pub record IsFleetLost (files : FilesKnown) (faults : StreamFaults) (before after : World) (terminal : Bool)
     (words : List (List ℕ)) (fault : Fault) : Type 0 where
   pub fleet : AskedFleet
   pub read : IsReadAs words (asked.Fleet fleet)
-  pub lost : IsFleetFault files faults before after fleet terminal fault
+  pub lost :
+      IsGoalRefused files before after fleet fault
+      ⊎ (IsFleetFault files faults before after fleet terminal fault
+      ⊎ IsSessionUnjudged files faults before after fleet terminal fault)
 
 -- the words ask for what a log says, which standard input has; all of it was read, and that was printed
 pub record IsLogAnswered (before after : World) (words : List (List ℕ)) (status : Status) : Type 0 where
@@ -347,6 +377,7 @@ job_wants_json (jobs.Check image trace json) = json
 job_wants_json (jobs.Lint file only except json) = json
 job_wants_json (jobs.Show image trace device from to form) = is_json form
 job_wants_json (jobs.Test files only form junit) = is_case_json form
+job_wants_json (jobs.Expect files image device only form junit) = is_case_json form
 job_wants_json _ = false
 
 abbrev pub wants_json : Asked → Bool

@@ -3,10 +3,10 @@ ghost use Rattle.std.specs.Prelude.{ℕ, Bool, IfErr, IfOk, List, None};
 ghost use Rattle.bench_commands.specs.Command.{IsAnswered, IsFinished, IsLogAnswered, IsLogLost, IsLost, IsUnfinished};
 ghost use Rattle.command_line.specs.Words.{IsReadAs};
 
+use crate::fleets::answer_fleet;
 use crate::jobs::answer_to;
 use command_files::files::Files;
 use command_files::{Answer, Input, Output, Refusal, Status, deliver};
-use command_fleet::fleet;
 use command_line::{Asked, Job};
 use command_live::live;
 use command_words::say_input;
@@ -213,7 +213,7 @@ pub(crate) fn answer_words<
 {
     match wanted {
         Asked::Live(asked) => live(rt, alloc, asked, files, output),
-        Asked::Fleet(asked) => fleet(rt, alloc, asked, terminal, files, output, errors),
+        Asked::Fleet(asked) => answer_fleet(rt, alloc, asked, terminal, files, output, errors),
         Asked::Log { server } => answer_log(alloc, server, files, input, output),
         Asked::Job(job) => answer_job(rt, alloc, job, files, input, output, errors),
         Asked::Text { text, is_mistake } => answer_text(text, is_mistake, files, output),

@@ -6,8 +6,8 @@ ghost use Rattle.bench_commands.specs.Command.{report_form, wants_json};
 use command_line::{Asked, CaseForm, Job, TraceForm as AskedForm};
 use command_lint::LintForm;
 use command_play::PlayForm;
-use command_test::ReportForm;
 use command_traces::TraceForm;
+use test_reports::ReportForm;
 
 /// Whether a trace or outputs are asked for in JSON.
 pub(crate) fn is_json(form: AskedForm) -> bool
@@ -36,7 +36,7 @@ pub(crate) fn job_wants_json(job: &Job) -> bool
     match job {
         Job::One { form, .. } | Job::Play { form, .. } | Job::Show { form, .. } => is_json(*form),
         Job::Check { json, .. } | Job::Lint { json, .. } => *json,
-        Job::Test { form, .. } => is_case_json(*form),
+        Job::Test { form, .. } | Job::Expect { form, .. } => is_case_json(*form),
         Job::Say { .. }
         | Job::Spell { .. }
         | Job::Asm { .. }

@@ -9,6 +9,7 @@ ghost use Rattle.command_files.specs.World.{IsIdle};
 use crate::forms::{form_of, lint_form, play_form, report_form};
 use command_debug::debug;
 use command_demo::{one, one_json, one_why};
+use command_expect::expect;
 use command_files::files::Files;
 use command_files::{Answer, Input, Output, Refusal};
 use command_join::join;
@@ -185,6 +186,27 @@ pub(crate) fn answer_to<'a, R: Threads + Wait + Sync, F: Files, I: Input, O: Out
         } => {
             let form = report_form(form);
             let answer = test(alloc, paths.as_slice(), only, form, junit, files)?;
+            Ok(Some(answer))
+        }
+        Job::Expect {
+            files: paths,
+            image,
+            device,
+            only,
+            form,
+            junit,
+        } => {
+            let form = report_form(form);
+            let answer = expect(
+                alloc,
+                paths.as_slice(),
+                image,
+                device,
+                only,
+                form,
+                junit,
+                files,
+            )?;
             Ok(Some(answer))
         }
         Job::Join {

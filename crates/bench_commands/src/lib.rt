@@ -20,6 +20,7 @@
 #![tactic(auto)]
 
 mod asked;
+mod fleets;
 mod forms;
 mod jobs;
 mod program;

@@ -31,8 +31,8 @@ use Rattle.command_files.specs.World.{FilesKnown, StreamFaults, Streams, World}
 use Rattle.command_files.specs.declared.fault.Fault.{Fault}
 use Rattle.command_files.specs.declared.fault.Fault.TheVariants as faults
 use Rattle.command_files.specs.declared.refusal.Refusal.{Refusal}
-use Rattle.command_files.specs.declared.status.Status.{Status}
 use Rattle.command_sources.specs.Sources.{IsNoScenario, IsScenarioOf}
+use Rattle.command_fleet.specs.declared.concluding.Held.{Held}
 use Rattle.command_fleet.specs.declared.devices.Devices.{Devices}
 use Rattle.command_fleet.specs.declared.telling.Telling.{Telling}
 use Rattle.command_fleet.specs.Devices.{AreChosen, IsPart}
@@ -42,7 +42,7 @@ use Rattle.command_fleet.specs.Servers.{AreServers, IsServersFault}
 use Rattle.command_fleet.specs.Snapshots.{AreKept}
 use Rattle.command_fleet.specs.Fleet.{AreMissing, AreReady, IsBrokenOff, IsConcluded, IsEndless, IsFleetDone}
 use Rattle.command_fleet.specs.Fleet.{IsFleetFault, IsOpened, IsPlace, IsReadyTold, IsSaveFault, IsSavedAt, IsSavedIf}
-use Rattle.command_fleet.specs.Fleet.{IsServed, IsSessionCut, IsSessionDone, IsSessionFault, IsUnconcluded, IsUnfit}
+use Rattle.command_fleet.specs.Fleet.{IsScenarioIf, IsServed, IsSessionCut, IsSessionDone, IsSessionFault, IsUnconcluded, IsUnfit}
 use Rattle.command_fleet.specs.declared.shortfall.Shortfall.{Shortfall}
 use Rattle.command_fleet.specs.Fleet.{IsHeldDone, IsHeldFault, IsShownIf, IsUnsaved, IsUnstarted, Session, shortfall_of}
 use Rattle.command_fleet.specs.Fleet.{free_ports, has_passed, line_of, opening_text, ready_line, status_of, telling_for}
@@ -83,14 +83,16 @@ not_made refuses path at fault same h = inr (subst (λ p. IsWritingFault (refuse
 
 -- ---- its conclusion
 
-pub concluded : (before after : World) (asked : AskedFleet) (part : Scenario) (session : Session) (status : Status)
+pub concluded : (before after : World) (asked : AskedFleet) (part : Scenario) (session : Session) (held : Held)
     (short : Shortfall) → short ≡ shortfall_of (option_map (λ p. p.now) asked.save) session.slots
     → Appends before.streams.output after.streams.output (line_of asked.json short session)
     → IsSavedIf before.made after.made (option_map (λ p. p.now) asked.save) part session.slots
-    → status ≡ status_of asked.strict session.account.counts → IsConcluded before after asked part session status
-concluded before after asked part session status short is printed saved ended = record {
+    → IsScenarioIf (option_map (λ p. p.now) asked.save) part session.slots held.saved
+    → held.status ≡ status_of asked.strict session.account.counts → IsConcluded before after asked part session held
+concluded before after asked part session held short is printed saved left ended = record {
   printed = subst (λ n. Appends before.streams.output after.streams.output (line_of asked.json n session)) is printed;
   saved = saved;
+  left = left;
   ended = ended;
 }
 
@@ -379,7 +381,7 @@ without_errors streams = record { input = None; output = streams.output; errors 
 
 pub done_if : (before after : World) (asked : AskedFleet) (terminal : Bool) (part : Scenario) (place : SocketAddr)
     (ports : List ℕ) (quit : Bool) (wire : Option Wired) (notes : List Note) (shown : List Shown) (session : Session)
-    (telling : Telling) (first last : World) (r : Result Status Refusal) → IsOpened asked part place ports before first
+    (telling : Telling) (first last : World) (r : Result Held Refusal) → IsOpened asked part place ports before first
     → IsWireBy asked.wire (length part.rows) wire
     → (were : IsServed part asked.play asked.repeat asked.show asked.seconds quit wire notes shown session)
     → telling ≡ telling_for asked terminal part
@@ -391,7 +393,7 @@ pub done_if : (before after : World) (asked : AskedFleet) (terminal : Bool) (par
     → IfOk r (IsSessionDone before after asked terminal part place ports quit)
 done_if before after asked terminal part place ports quit wire notes shown session telling first last (Err e) opened
     wired were is told kept quiet done = tt
-done_if before after asked terminal part place ports quit wire notes shown session telling first last (Ok status) opened
+done_if before after asked terminal part place ports quit wire notes shown session telling first last (Ok held) opened
     wired were is told kept quiet done =
     record {
       first = first;
@@ -406,7 +408,12 @@ done_if before after asked terminal part place ports quit wire notes shown sessi
       told = subst (λ t. AreTold t notes shown session.second first.streams last.streams) is told;
       kept_last = kept.0;
       kept = kept.1;
-      concluded = record { printed = done.printed; saved = done.saved; ended = done.ended };
+      concluded = record {
+        printed = done.printed;
+        saved = done.saved;
+        left = done.left;
+        ended = done.ended;
+      };
       quiet = quiet;
     }
 
@@ -427,7 +434,7 @@ cut_if files streams before after asked terminal part place ports telling first 
 pub lost_if : (files : FilesKnown) (streams : StreamFaults) (before after : World) (asked : AskedFleet)
     (terminal : Bool) (part : Scenario) (place : SocketAddr) (ports : List ℕ) (quit : Bool) (wire : Option Wired)
     (notes : List Note) (shown : List Shown) (session : Session) (telling : Telling) (first last : World)
-    (r : Result Status Refusal) → IsOpened asked part place ports before first
+    (r : Result Held Refusal) → IsOpened asked part place ports before first
     → IsWireBy asked.wire (length part.rows) wire
     → (were : IsServed part asked.play asked.repeat asked.show asked.seconds quit wire notes shown session)
     → telling ≡ telling_for asked terminal part
@@ -438,7 +445,7 @@ pub lost_if : (files : FilesKnown) (streams : StreamFaults) (before after : Worl
     session e.fault)
     → IfErr r (λ e. IsSessionFault files streams before after asked terminal part place ports quit e.fault)
 lost_if files streams before after asked terminal part place ports quit wire notes shown session telling first last
-    (Ok status) opened wired were is told kept none quiet why = tt
+    (Ok held) opened wired were is told kept none quiet why = tt
 lost_if files streams before after asked terminal part place ports quit wire notes shown session telling first last
     (Err e) opened wired were is told kept none quiet why =
     inr (inr (record {
@@ -514,19 +521,19 @@ wire_on wire rows devices plan fixed made is as_planned as_many same planned =
     (planned.0, subst (IsPlanBy wire) (sym plan_is) planned.1, count)
 
 pub held_done : (before after : World) (asked : AskedFleet) (terminal : Bool) (part : Scenario) (place : SocketAddr)
-    (ports bound : List ℕ) (quit : Bool) (r : Result Status Refusal) → bound ≡ ports
+    (ports bound : List ℕ) (quit : Bool) (r : Result Held Refusal) → bound ≡ ports
     → IfOk r (IsSessionDone before after asked terminal part place bound quit)
     → IfOk r (IsHeldDone before after asked terminal part place ports)
 held_done before after asked terminal part place ports bound quit (Err e) are done = tt
-held_done before after asked terminal part place ports bound quit (Ok status) are done =
-    (quit, subst (λ ps. IsSessionDone before after asked terminal part place ps quit status) are done)
+held_done before after asked terminal part place ports bound quit (Ok held) are done =
+    (quit, subst (λ ps. IsSessionDone before after asked terminal part place ps quit held) are done)
 
 pub held_broken : (files : FilesKnown) (streams : StreamFaults) (before after : World) (asked : AskedFleet)
     (terminal : Bool) (part : Scenario) (place : SocketAddr) (ports bound : List ℕ) (quit : Bool)
-    (r : Result Status Refusal) → bound ≡ ports
+    (r : Result Held Refusal) → bound ≡ ports
     → IfErr r (λ e. IsSessionFault files streams before after asked terminal part place bound quit e.fault)
     → IfErr r (λ e. IsHeldFault files streams before after asked terminal part place ports e.fault)
-held_broken files streams before after asked terminal part place ports bound quit (Ok status) are why = tt
+held_broken files streams before after asked terminal part place ports bound quit (Ok held) are why = tt
 held_broken files streams before after asked terminal part place ports bound quit (Err e) are why =
     inr (
       quit,
@@ -536,18 +543,18 @@ held_broken files streams before after asked terminal part place ports bound qui
 -- ---- the command
 
 pub fleet_done : (files : FilesKnown) (before after : World) (asked : AskedFleet) (terminal : Bool) (part : Scenario)
-    (place : SocketAddr) (ports : List ℕ) (r : Result Status Refusal) → AreReady files asked part place
+    (place : SocketAddr) (ports : List ℕ) (r : Result Held Refusal) → AreReady files asked part place
     → length ports ≡ length part.rows → IfOk r (IsHeldDone before after asked terminal part place ports)
     → IfOk r (IsFleetDone files before after asked terminal)
 fleet_done files before after asked terminal part place ports (Err e) there each done = tt
-fleet_done files before after asked terminal part place ports (Ok status) there each done =
+fleet_done files before after asked terminal part place ports (Ok held) there each done =
     record { part = part; place = place; ready = there; ports = ports; each = each; done = done }
 
 pub fleet_broken : (files : FilesKnown) (streams : StreamFaults) (before after : World) (asked : AskedFleet)
-    (terminal : Bool) (part : Scenario) (place : SocketAddr) (ports : List ℕ) (r : Result Status Refusal)
+    (terminal : Bool) (part : Scenario) (place : SocketAddr) (ports : List ℕ) (r : Result Held Refusal)
     → AreReady files asked part place → length ports ≡ length part.rows
     → IfErr r (λ e. IsHeldFault files streams before after asked terminal part place ports e.fault)
     → IfErr r (λ e. IsFleetFault files streams before after asked terminal e.fault)
-fleet_broken files streams before after asked terminal part place ports (Ok status) there each why = tt
+fleet_broken files streams before after asked terminal part place ports (Ok held) there each why = tt
 fleet_broken files streams before after asked terminal part place ports (Err e) there each why =
     inr (record { part = part; place = place; ready = there; ports = ports; each = each; why = why })

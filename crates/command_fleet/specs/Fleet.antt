@@ -35,6 +35,7 @@ use Rattle.command_files.specs.declared.fault.Fault.TheVariants as faults
 use Rattle.command_files.specs.declared.status.Status.{Status}
 use Rattle.command_files.specs.declared.status.Status.TheVariants as ends
 use Rattle.command_sources.specs.Sources.{IsNoScenario, IsScenarioOf}
+use Rattle.command_fleet.specs.declared.concluding.Held.{Held}
 use Rattle.command_fleet.specs.declared.devices.Devices.{Devices}
 use Rattle.command_fleet.specs.declared.shortfall.Shortfall.{Shortfall}
 use Rattle.command_fleet.specs.declared.telling.Telling.{Telling}
@@ -251,6 +252,11 @@ abbrev pub IsSavedIf : Option (List Made) → Option (List Made) → Option (Lis
 IsSavedIf before after None part slots = after ≡ before
 IsSavedIf before after (Some path) part slots = IsSavedAt before after path part slots
 
+-- the scenario of the devices' steps is there, where there is a path
+abbrev pub IsScenarioIf : Option (List ℕ) → Scenario → List Slot → Option Scenario → Type 0
+IsScenarioIf None part slots saved = saved ≡ None
+IsScenarioIf (Some path) part slots saved = (s : Scenario) × (saved ≡ Some s) × IsSaved part slots s
+
 -- no memory was left for the image, or a step cannot be one of a scenario
 abbrev pub IsUnfit : Fault → Type 0
 IsUnfit faults.Memory = ⊤
@@ -271,12 +277,14 @@ IsUnkept refuses path fault = IsUnsaved refuses (option_map snapshot_path path) 
 
 -- ---- its conclusion
 
--- the session's line was printed, and the steps were saved, if they are to be; and the status tells of losses
+-- the session's line was printed, and the steps were saved, if they are to be; the scenario that was saved is left, and
+-- the status, which tells of losses
 pub record IsConcluded (before after : World) (asked : AskedFleet) (part : Scenario) (session : Session)
-    (status : Status) : Type 0 where
+    (held : Held) : Type 0 where
   pub printed : Appends before.streams.output after.streams.output (end_text asked session)
   pub saved : IsSavedIf before.made after.made (option_map (λ p. p.now) asked.save) part session.slots
-  pub ended : status ≡ status_of asked.strict session.account.counts
+  pub left : IsScenarioIf (option_map (λ p. p.now) asked.save) part session.slots held.saved
+  pub ended : held.status ≡ status_of asked.strict session.account.counts
 
 -- the session's line was not printed; or it was, and then the steps were not saved
 abbrev pub IsUnconcluded : FilesKnown → StreamFaults → Streams → Streams → AskedFleet → Session → Fault → Type 0
@@ -295,7 +303,7 @@ telling_for asked terminal part = telling_of asked.json terminal (length part.ro
 -- was told, with what the wire did and the datagrams that are shown, and snapshots were made; and then the session was
 -- concluded, of which standard error heard nothing
 pub record IsSessionDone (before after : World) (asked : AskedFleet) (terminal : Bool) (part : Scenario)
-    (place : SocketAddr) (ports : List ℕ) (quit : Bool) (status : Status) : Type 0 where
+    (place : SocketAddr) (ports : List ℕ) (quit : Bool) (held : Held) : Type 0 where
   pub first : World
   pub opened : IsOpened asked part place ports before first
   pub wire : Option Wired
@@ -309,7 +317,7 @@ pub record IsSessionDone (before after : World) (asked : AskedFleet) (terminal :
   -- the second of the last snapshot
   pub kept_last : ℕ
   pub kept : AreKept asked part served.before kept_last session.second first.made last.made
-  pub concluded : IsConcluded last after asked part session status
+  pub concluded : IsConcluded last after asked part session held
   pub quiet : after.streams.errors ≡ last.streams.errors
 
 -- standard error did not take the line that the devices are there; or it did, and standard output did not take what it
@@ -398,9 +406,9 @@ IsSessionFault files streams before after asked terminal part place ports quit f
     ⊎ IsSessionLost files streams before after asked terminal part place ports quit fault)
 
 -- the same, of a session that was asked to end, or was not
-abbrev pub IsHeldDone : World → World → AskedFleet → Bool → Scenario → SocketAddr → List ℕ → Status → Type 0
-IsHeldDone before after asked terminal part place ports status =
-    (quit : Bool) × IsSessionDone before after asked terminal part place ports quit status
+abbrev pub IsHeldDone : World → World → AskedFleet → Bool → Scenario → SocketAddr → List ℕ → Held → Type 0
+IsHeldDone before after asked terminal part place ports held =
+    (quit : Bool) × IsSessionDone before after asked terminal part place ports quit held
 
 -- there was no memory for a session, and no file was made; or it has a fault
 abbrev pub IsHeldFault : FilesKnown → StreamFaults → World → World → AskedFleet → Bool → Scenario → SocketAddr → List ℕ
@@ -411,15 +419,15 @@ IsHeldFault files streams before after asked terminal part place ports fault =
 
 -- ---- the command
 
--- the devices are there, each at a port of its own, and have a session, which standard input asked to end, or did not
+-- the devices are there, each at a port of its own, and have a session, which was asked to end, or was not
 pub record IsFleetDone (files : FilesKnown) (before after : World) (asked : AskedFleet) (terminal : Bool)
-    (status : Status) : Type 0 where
+    (held : Held) : Type 0 where
   pub part : Scenario
   pub place : SocketAddr
   pub ready : AreReady files asked part place
   pub ports : List ℕ
   pub each : length ports ≡ length part.rows
-  pub done : IsHeldDone before after asked terminal part place ports status
+  pub done : IsHeldDone before after asked terminal part place ports held
 
 -- the scenario has no such devices; or it has, and the address is none, a server is wrong, their ports could not be had
 -- or a word for datagrams says no choice; or no memory was left

@@ -4,6 +4,7 @@ pub mod InJson
 pub mod Inside
 pub mod Listing
 pub mod Servers
+pub mod Settling
 pub mod Snapshots
 pub mod Telling
 pub mod Wires

@@ -1,5 +1,7 @@
 //! What may ask a session to end: standard input, whose end does so, or a line that is `q`.
 
+use expectations::ExpectedCase;
+use fleet_link::Fleet;
 use mio::unix::SourceFd;
 use mio::{Events, Interest, Poll, Token};
 use std::alloc::{AllocError, Global};
@@ -15,8 +17,9 @@ pub trait Quit {
     /// Whether it has asked so.
     ghost asked: { Self → Bool };
 
-    /// Whether it has asked the session to end by now. It does not wait.
-    fn asks(&mut self) -> bool
+    /// Whether it has asked the session to end by now, whose devices are these, and in which servers have to send what
+    /// is expected. It does not wait.
+    fn asks(&mut self, fleet: &Fleet, goal: &[ExpectedCase]) -> bool
         ensures { result ≡ asked self.new };
 }
 
@@ -146,7 +149,7 @@ fn after(line: Line, bytes: &[u8]) -> (Line, bool) {
 impl<B: BufRead + Drop> Quit for StandardInput<B> {
     ghost asked = { λ input. input.asked };
 
-    fn asks(&mut self) -> bool {
+    fn asks(&mut self, _fleet: &Fleet, _goal: &[ExpectedCase]) -> bool {
         if self.asked || self.over {
             return self.asked;
         }

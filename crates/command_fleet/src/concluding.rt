@@ -4,10 +4,9 @@ ghost use Rattle.std.specs.Io.KnownBytes.{Appends};
 ghost use Rattle.std.specs.String.{string_bytes};
 ghost use Rattle.fleet_link.specs.Saved.{IsSaved};
 ghost use Rattle.scenario_image.specs.Image.{IsImageIn};
-ghost use Rattle.scenario_image.specs.Scenario.{Scenario as ScenarioData};
 ghost use Rattle.command_files.specs.Fault.{IsWritingFault};
-ghost use Rattle.command_fleet.specs.Fleet.{IsConcluded, IsSaveFault, IsSavedAt, IsSavedIf, IsUnconcluded, IsUnfit};
-ghost use Rattle.command_fleet.specs.Fleet.{IsUnsaved, counted_line, counts_words, cut_words, done_line, ended_words};
+ghost use Rattle.command_fleet.specs.Fleet.{IsConcluded, IsSaveFault, IsSavedAt, IsSavedIf, IsScenarioIf};
+ghost use Rattle.command_fleet.specs.Fleet.{IsUnconcluded, IsUnfit, IsUnsaved, counted_line, counts_words, cut_words, done_line, ended_words};
 ghost use Rattle.command_fleet.specs.Fleet.{happened_words, line_of, shortfall_words, status_of, wire_words};
 
 use crate::in_json::done_object;
@@ -132,6 +131,15 @@ fn status_of(strict: bool, counts: Counts) -> Status
     }
 }
 
+/// What is left of a session that was concluded.
+#[derive(Drop)]
+pub struct Held {
+    /// How the program ends by it.
+    pub status: Status,
+    /// The scenario of the devices' steps, if it was saved.
+    pub saved: Option<Scenario>,
+}
+
 /// Prints the line of a session, or its object, and then saves the devices' steps, if there is a path.
 pub fn conclude_session<'a, F: Files, O: Output>(
     alloc: Global,
@@ -141,7 +149,7 @@ pub fn conclude_session<'a, F: Files, O: Output>(
     account: Account,
     files: &mut F,
     output: &mut O,
-) -> Result<Status, Refusal<'a>>
+) -> Result<Held, Refusal<'a>>
     ensures concluded { IfOk result (IsConcluded
         (record {
           made = F.made files.old;
@@ -163,8 +171,9 @@ pub fn conclude_session<'a, F: Files, O: Output>(
 {
     let shortfall = shortfall_of(asked.save, &fleet);
     print_session(alloc, asked.json, &fleet, account, shortfall, output)?;
-    save_steps(alloc, asked.save, part, fleet, files)?;
-    Ok(status_of(asked.strict, account.counts))
+    let saved = save_steps(alloc, asked.save, part, fleet, files)?;
+    let status = status_of(asked.strict, account.counts);
+    Ok(Held { status, saved })
 }
 
 /// The line of a session, or its object, after which the devices are these.
@@ -218,26 +227,27 @@ fn print_session<'a, O: Output>(
     put(text.as_str(), "standard output", output)
 }
 
-/// Saves the devices' steps as a scenario, if there is a path.
+/// Saves the devices' steps as a scenario, if there is a path. Returns this scenario.
 fn save_steps<'a, F: Files>(
     alloc: Global,
     save: Option<&'a str>,
     part: &Scenario,
     fleet: Fleet,
     files: &mut F,
-) -> Result<(), Refusal<'a>>
+) -> Result<Option<Scenario>, Refusal<'a>>
+    ensures scenario { IfOk result (IsScenarioIf (option_map (λ p. p.now) save.entry) part.now fleet.slots.items) }
     ensures saved { OnOk result (IsSavedIf (F.made files.old) (F.made files.new) (option_map (λ p. p.now) save.entry)
         part.now fleet.slots.items) }
     ensures kept { OnErr result (F.made files.new ≡ F.made files.old) }
     ensures refused { IfErr result (λ r. IsUnsaved F.refuses (option_map (λ p. p.now) save.entry) r.fault) }
 {
     match save {
-        None => Ok(()),
-        Some(path) => save_at(alloc, path, part, fleet, files),
+        None => Ok(None),
+        Some(path) => Ok(Some(save_at(alloc, path, part, fleet, files)?)),
     }
 }
 
-/// Saves the devices' steps as a scenario.
+/// Saves the devices' steps as a scenario, and returns it.
 #[tactic(auto, using(crate::proofs::Sessions::saved_at, crate::proofs::Sessions::not_fit, crate::proofs::Sessions::not_made))]
 fn save_at<'a, F: Files>(
     alloc: Global,
@@ -245,31 +255,36 @@ fn save_at<'a, F: Files>(
     part: &Scenario,
     fleet: Fleet,
     files: &mut F,
-) -> Result<(), Refusal<'a>>
+) -> Result<Scenario, Refusal<'a>>
+    ensures scenario { IfOk result (IsSaved part.now fleet.slots.items) }
     ensures saved { OnOk result (IsSavedAt (F.made files.old) (F.made files.new) path.entry.now part.now
         fleet.slots.items) }
     ensures kept { OnErr result (F.made files.new ≡ F.made files.old) }
     ensures refused { IfErr result (λ r. IsSaveFault F.refuses path.entry.now r.fault) }
 {
-    let file = session_file(alloc, path, part, fleet)?;
-    make(&Some(file), files)
+    let (file, scenario) = session_file(alloc, path, part, fleet)?;
+    make(&Some(file), files)?;
+    Ok(scenario)
 }
 
-/// The image of the devices' steps, for the path.
+/// The image of the devices' steps, for the path, and their scenario.
 #[tactic(auto, using(crate::proofs::Sessions::unfit_memory, crate::proofs::Sessions::unfit_step))]
 fn session_file<'a>(
     alloc: Global,
     path: &'a str,
     part: &Scenario,
     fleet: Fleet,
-) -> Result<NewFile<'a>, Fault>
-    ensures path { IfOk result (λ f. f.path.now ≡ path.entry.now) }
-    ensures image { IfOk result (λ f. (s : ScenarioData) × IsSaved part.now fleet.slots.items s
-        × IsImageIn 2 f.bytes s) }
+) -> Result<(NewFile<'a>, Scenario), Fault>
+    ensures path { IfOk result (λ r. r.0.path.now ≡ path.entry.now) }
+    ensures image { IfOk result (λ r. IsImageIn 2 r.0.bytes r.1) }
+    ensures scenario { IfOk result (λ r. IsSaved part.now fleet.slots.items r.1) }
     ensures refused { IfErr result IsUnfit }
 {
     match fleet.into_scenario(alloc, part) {
-        Ok(scenario) => Ok(image_file(alloc, &scenario, path)?),
+        Ok(scenario) => {
+            let file = image_file(alloc, &scenario, path)?;
+            Ok((file, scenario))
+        }
         Err(fault) => Err(Fault::from(fault)),
     }
 }

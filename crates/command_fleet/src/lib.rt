@@ -12,13 +12,14 @@ mod rows;
 mod servers;
 mod serving;
 mod session;
+mod settling;
 mod shortfall;
 mod snapshots;
 mod telling;
 mod wires;
 
 pub use asking::Quit;
-pub use concluding::{conclude_session, done_line};
+pub use concluding::{Held, conclude_session, done_line};
 pub use devices::{Devices, chosen_devices, part_of};
 pub use in_json::{done_object, port_object, ready_object, second_line};
 pub use listing::listed_line;

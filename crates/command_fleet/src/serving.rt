@@ -19,6 +19,7 @@ use crate::telling::{Telling, tell_second, tell_traffic};
 use command_files::files::Files;
 use command_files::{Fault, Output, Refusal};
 use command_line::AskedFleet;
+use expectations::ExpectedCase;
 use fleet_lines::{Account, Counted};
 use fleet_link::{Fleet, FleetFault};
 use live_link::Seconds;
@@ -168,6 +169,7 @@ fn go_on<'a, P: Counted, C: Seconds, Q: Quit, F: Files, O: Output, E: Output>(
     ports: &mut P,
     clock: &mut C,
     quit: &mut Q,
+    goal: &[ExpectedCase],
     turns: u64,
     files: &mut F,
     output: &mut O,
@@ -217,7 +219,7 @@ fn go_on<'a, P: Counted, C: Seconds, Q: Quit, F: Files, O: Output, E: Output>(
         if has_passed(asked.seconds, fleet.second()) {
             return Ok(());
         }
-        if quit.asks() {
+        if quit.asks(fleet, goal) {
             return Ok(());
         }
         turn(alloc, telling, fleet, ports, clock, output, errors)?;
@@ -239,6 +241,7 @@ pub fn serve_part<'a, P: Counted, C: Seconds, Q: Quit, F: Files, O: Output, E: O
     ports: &mut P,
     clock: &mut C,
     quit: &mut Q,
+    goal: &[ExpectedCase],
     files: &mut F,
     output: &mut O,
     errors: &mut E,
@@ -285,6 +288,7 @@ pub fn serve_part<'a, P: Counted, C: Seconds, Q: Quit, F: Files, O: Output, E: O
         ports,
         clock,
         quit,
+        goal,
         u64::MAX,
         files,
         output,

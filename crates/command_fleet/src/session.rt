@@ -8,19 +8,21 @@ ghost use Rattle.command_fleet.specs.Inside.{IsShownFrom};
 ghost use Rattle.command_fleet.specs.Wires.{IsPlanned, IsWireBy};
 
 use crate::asking::{Quit, StandardInput};
-use crate::concluding::conclude_session;
+use crate::concluding::{Held, conclude_session};
 use crate::devices::{chosen_devices, part_of};
 use crate::listing::list_ports;
 use crate::places::{place_of, ports_at, tell_ready};
 use crate::placing::{copy_ports, free_ports};
 use crate::servers::servers_of;
 use crate::serving::serve_part;
+use crate::settling::UntilSettled;
 use crate::telling::{print_ready, telling_of};
 use crate::wires::plan_if;
 use command_files::files::Files;
-use command_files::{Fault, Output, Refusal, Status, Why};
+use command_files::{Fault, Output, Refusal, Why};
 use command_line::AskedFleet;
 use command_sources::load_source;
+use expectations::ExpectedCase;
 use fleet_lines::{Counted, ShownPorts};
 use fleet_link::UdpPorts;
 use fleet_wire::{Plan, WiredPorts};
@@ -37,23 +39,24 @@ use std::rt::Clock;
 /// says so goes to standard error, and where the system chose them a line for each is printed. Each second that comes
 /// is told as a line on standard error, if that is a terminal. What the wire does with a datagram is printed as a line,
 /// and, if that is asked for, so is each datagram that a device receives or sends. The session ends after the seconds
-/// that are asked for, if they are, or when standard input asks for it. Then exactly the line of the session is
-/// printed. If JSON is asked for, exactly objects are printed in the place of these lines: that the ports are there,
-/// each of them that the system chose, each second, what goes through the ports, and the end. Then, if there is a path,
-/// the image, in version 2, of the scenario whose rows have the devices' steps is made there; and each minute before it
-/// one of their steps so far, beside the path. No other file is made, and at a fault just those that came before it.
-/// The status tells of datagrams that were dropped or lost, if that is asked for. Of what standard input has nothing is
-/// said.
+/// that are asked for, if they are, or when standard input asks for it, or once what servers have to send (`goal`) is
+/// settled, if there is something. Then exactly the line of the session is printed. If JSON is asked for, exactly
+/// objects are printed in the place of these lines: that the ports are there, each of them that the system chose, each
+/// second, what goes through the ports, and the end. Then, if there is a path, the image, in version 2, of the scenario
+/// whose rows have the devices' steps is made there; and each minute before it one of their steps so far, beside the
+/// path. No other file is made, and at a fault just those that came before it. The status tells of datagrams that were
+/// dropped or lost, if that is asked for. Of what standard input has nothing is said.
 #[tactic(auto, using(crate::proofs::Sessions::source_refused, crate::proofs::Sessions::devices_missing, crate::proofs::Sessions::part_refused, crate::proofs::Sessions::place_refused, crate::proofs::Sessions::plan_refused, crate::proofs::Sessions::servers_refused, crate::proofs::Sessions::ports_refused))]
 pub fn fleet<'a, R: Net + Clock + Input, F: Files, O: Output, E: Output>(
     rt: &R,
     alloc: Global,
     asked: AskedFleet<'a>,
+    goal: &[ExpectedCase],
     terminal: bool,
     files: &mut F,
     output: &mut O,
     errors: &mut E,
-) -> Result<Status, Refusal<'a>>
+) -> Result<Held, Refusal<'a>>
     ensures done { IfOk result (IsFleetDone
         (record { holds = F.holds files.old; fails = F.fails files.old; refuses = F.refuses })
         (record {
@@ -92,7 +95,7 @@ pub fn fleet<'a, R: Net + Clock + Input, F: Files, O: Output, E: Output>(
     let servers = servers_of(alloc, &scenario, asked.servers.as_slice())?;
     let ports = ports_at(rt, alloc, &part, place, servers)?;
     hold_on(
-        rt, alloc, &asked, terminal, &part, place, ports, plan, files, output, errors,
+        rt, alloc, &asked, goal, terminal, &part, place, ports, plan, files, output, errors,
     )
 }
 
@@ -101,6 +104,7 @@ fn hold_on<'a, R: Net + Clock + Input, F: Files, O: Output, E: Output>(
     rt: &R,
     alloc: Global,
     asked: &AskedFleet<'a>,
+    goal: &[ExpectedCase],
     terminal: bool,
     part: &Scenario,
     place: SocketAddr,
@@ -109,7 +113,7 @@ fn hold_on<'a, R: Net + Clock + Input, F: Files, O: Output, E: Output>(
     files: &mut F,
     output: &mut O,
     errors: &mut E,
-) -> Result<Status, Refusal<'a>>
+) -> Result<Held, Refusal<'a>>
     requires new { (e : ℕ) → told_over_udp ports e ≡ Some no_traffic }
     requires planned { IsPlanned asked.now.wire plan }
     ensures done { IfOk result (IsHeldDone
@@ -137,7 +141,8 @@ fn hold_on<'a, R: Net + Clock + Input, F: Files, O: Output, E: Output>(
 {
     let bound = copy_ports(alloc, ports.ports())?;
     let mut clock = MachineClock::new(rt);
-    let mut quit = StandardInput::new(rt, alloc, asked.seconds.is_none())?;
+    let input = StandardInput::new(rt, alloc, asked.seconds.is_none())?;
+    let mut quit = UntilSettled::new(alloc, input);
     match plan {
         None => {
             hold_ports(
@@ -149,6 +154,7 @@ fn hold_on<'a, R: Net + Clock + Input, F: Files, O: Output, E: Output>(
                 ports,
                 &mut clock,
                 &mut quit,
+                goal,
                 bound.as_slice(),
                 files,
                 output,
@@ -166,6 +172,7 @@ fn hold_on<'a, R: Net + Clock + Input, F: Files, O: Output, E: Output>(
                 wired,
                 &mut clock,
                 &mut quit,
+                goal,
                 bound.as_slice(),
                 files,
                 output,
@@ -185,11 +192,12 @@ fn hold_ports<'a, P: Counted + Drop, C: Seconds, Q: Quit, F: Files, O: Output, E
     ports: P,
     clock: &mut C,
     quit: &mut Q,
+    goal: &[ExpectedCase],
     bound: &[u16],
     files: &mut F,
     output: &mut O,
     errors: &mut E,
-) -> Result<Status, Refusal<'a>>
+) -> Result<Held, Refusal<'a>>
     requires new { (e : ℕ) → P.told ports e ≡ Some no_traffic }
     requires wire { IsWireBy asked.now.wire (length part.now.rows) (P.watched ports).wire }
     requires no_notes { (P.watched ports).notes ≡ [] }
@@ -221,14 +229,14 @@ fn hold_ports<'a, P: Counted + Drop, C: Seconds, Q: Quit, F: Files, O: Output, E
     if asked.show {
         let mut ports = ShownPorts::new(alloc, ports);
         hold_session(
-            alloc, asked, terminal, part, place, &mut ports, clock, quit, bound, files, output,
-            errors,
+            alloc, asked, terminal, part, place, &mut ports, clock, quit, goal, bound, files,
+            output, errors,
         )
     } else {
         let mut ports = ports;
         hold_session(
-            alloc, asked, terminal, part, place, &mut ports, clock, quit, bound, files, output,
-            errors,
+            alloc, asked, terminal, part, place, &mut ports, clock, quit, goal, bound, files,
+            output, errors,
         )
     }
 }
@@ -245,11 +253,12 @@ fn hold_session<'a, P: Counted, C: Seconds, Q: Quit, F: Files, O: Output, E: Out
     ports: &mut P,
     clock: &mut C,
     quit: &mut Q,
+    goal: &[ExpectedCase],
     bound: &[u16],
     files: &mut F,
     output: &mut O,
     errors: &mut E,
-) -> Result<Status, Refusal<'a>>
+) -> Result<Held, Refusal<'a>>
     requires new { (e : ℕ) → P.told ports.old e ≡ Some no_traffic }
     requires wire { IsWireBy asked.now.wire (length part.now.rows) (P.watched ports.old).wire }
     requires no_notes { (P.watched ports.old).notes ≡ [] }
@@ -285,7 +294,7 @@ fn hold_session<'a, P: Counted, C: Seconds, Q: Quit, F: Files, O: Output, E: Out
     print_ready(alloc, asked.json, devices, place, free, output)?;
     let telling = telling_of(asked.json, terminal, devices);
     let served = serve_part(
-        alloc, asked, part, telling, ports, clock, quit, files, output, errors,
+        alloc, asked, part, telling, ports, clock, quit, goal, files, output, errors,
     )?;
     conclude_session(
         alloc,

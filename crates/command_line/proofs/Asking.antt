@@ -10,6 +10,7 @@ use Rattle.command_line.specs.declared.words.Job.{Job}
 use Rattle.command_line.specs.declared.words.Job.TheVariants as jobs
 use Rattle.command_line.specs.declared.words.Live.{Live}
 use Rattle.command_line.specs.declared.fleet_words.AskedFleet.{AskedFleet}
+use Rattle.command_line.specs.declared.verdict_words.AskedVerdict.{AskedVerdict}
 use Rattle.command_line.specs.declared.wire_words.AskedWire.{AskedWire}
 use Rattle.command_line.specs.declared.words.Asked.{Asked}
 use Rattle.command_line.specs.declared.words.Asked.TheVariants as asked
@@ -17,11 +18,12 @@ use Rattle.command_line.specs.declared.words.TraceForm.{TraceForm}
 use Rattle.command_line.specs.declared.words.TraceForm.TheVariants as forms
 use Rattle.command_line.specs.declared.words.CaseForm.{CaseForm}
 use Rattle.command_line.specs.declared.words.CaseForm.TheVariants as case_forms
-use Rattle.command_line.specs.Words.{AsksFor, AsksForCaseForm, AsksForFleet, AsksForForm, AsksForLog, AsksForWire}
-use Rattle.command_line.specs.Words.{AsksToLive, MayBeJson}
+use Rattle.command_line.specs.Words.{AsksFor, AsksForCaseForm, AsksForFleet, AsksForForm, AsksForLog, AsksForVerdict}
+use Rattle.command_line.specs.Words.{AsksForWire, AsksToLive, MayBeJson, StandsWith}
 use Rattle.command_line.specs.Words.{IsReadAs, IsRefusedAs, MayAskFor, bench_app, is_set, refusals}
 use Rattle.command_line.specs.Inside.{IsTakenAs, LacksFleet, LacksJoin, LacksLint, LacksLive, LacksOne, LacksPlay}
-use Rattle.command_line.specs.Inside.{LacksRun, LacksSay, LacksShow, LacksTest, LacksWire, WantsTwoCaseForms, WantsTwoForms}
+use Rattle.command_line.specs.Inside.{LacksRun, LacksSay, LacksShow, LacksTest, LacksVerdict, LacksWire}
+use Rattle.command_line.specs.Inside.{WantsTwoCaseForms, WantsTwoForms}
 
 -- words that exclude each other ask for no form
 one_form : (rows : List Row) (form : TraceForm) → WantsTwoForms rows → AsksForForm rows form → ⊥
@@ -44,6 +46,7 @@ no_one rows (jobs.Pcap image trace output) none asks = search rules
 no_one rows (jobs.Debug image trace) none asks = search rules
 no_one rows (jobs.Titles files only) none asks = search rules
 no_one rows (jobs.Test files only form junit) none asks = search rules
+no_one rows (jobs.Expect files image device only form junit) none asks = search rules
 no_one rows (jobs.Join output images) none asks = search rules
 no_one rows (jobs.Lint file only except json) none asks = search rules
 
@@ -62,6 +65,7 @@ no_spell rows (jobs.Pcap image trace output) none asks = search rules
 no_spell rows (jobs.Debug image trace) none asks = search rules
 no_spell rows (jobs.Titles files only) none asks = search rules
 no_spell rows (jobs.Test files only form junit) none asks = search rules
+no_spell rows (jobs.Expect files image device only form junit) none asks = search rules
 no_spell rows (jobs.Join output images) none asks = search rules
 no_spell rows (jobs.Lint file only except json) none asks = search rules
 
@@ -80,6 +84,7 @@ no_play rows (jobs.Pcap image trace output) none asks = search rules
 no_play rows (jobs.Debug image trace) none asks = search rules
 no_play rows (jobs.Titles files only) none asks = search rules
 no_play rows (jobs.Test files only form junit) none asks = search rules
+no_play rows (jobs.Expect files image device only form junit) none asks = search rules
 no_play rows (jobs.Join output images) none asks = search rules
 no_play rows (jobs.Lint file only except json) none asks = search rules
 
@@ -99,6 +104,7 @@ no_asm rows (jobs.Pcap image trace output) none asks = search rules
 no_asm rows (jobs.Debug image trace) none asks = search rules
 no_asm rows (jobs.Titles files only) none asks = search rules
 no_asm rows (jobs.Test files only form junit) none asks = search rules
+no_asm rows (jobs.Expect files image device only form junit) none asks = search rules
 no_asm rows (jobs.Join output images) none asks = search rules
 no_asm rows (jobs.Lint file only except json) none asks = search rules
 
@@ -116,6 +122,7 @@ no_dis rows (jobs.Pcap image trace output) none asks = search rules
 no_dis rows (jobs.Debug image trace) none asks = search rules
 no_dis rows (jobs.Titles files only) none asks = search rules
 no_dis rows (jobs.Test files only form junit) none asks = search rules
+no_dis rows (jobs.Expect files image device only form junit) none asks = search rules
 no_dis rows (jobs.Join output images) none asks = search rules
 no_dis rows (jobs.Lint file only except json) none asks = search rules
 
@@ -135,6 +142,7 @@ no_run rows (jobs.Pcap image trace output) lacks asks = search rules
 no_run rows (jobs.Debug image trace) lacks asks = search rules
 no_run rows (jobs.Titles files only) lacks asks = search rules
 no_run rows (jobs.Test files only form junit) lacks asks = search rules
+no_run rows (jobs.Expect files image device only form junit) lacks asks = search rules
 no_run rows (jobs.Join output images) lacks asks = search rules
 no_run rows (jobs.Lint file only except json) lacks asks = search rules
 
@@ -154,6 +162,7 @@ no_check rows (jobs.Pcap image trace output) none asks = search rules
 no_check rows (jobs.Debug image trace) none asks = search rules
 no_check rows (jobs.Titles files only) none asks = search rules
 no_check rows (jobs.Test files only form junit) none asks = search rules
+no_check rows (jobs.Expect files image device only form junit) none asks = search rules
 no_check rows (jobs.Join output images) none asks = search rules
 no_check rows (jobs.Lint file only except json) none asks = search rules
 
@@ -173,6 +182,7 @@ no_show rows (jobs.Pcap image trace output) lacks asks = search rules
 no_show rows (jobs.Debug image trace) lacks asks = search rules
 no_show rows (jobs.Titles files only) lacks asks = search rules
 no_show rows (jobs.Test files only form junit) lacks asks = search rules
+no_show rows (jobs.Expect files image device only form junit) lacks asks = search rules
 no_show rows (jobs.Join output images) lacks asks = search rules
 no_show rows (jobs.Lint file only except json) lacks asks = search rules
 
@@ -192,6 +202,7 @@ no_debug rows (jobs.Debug image trace) (inl none) asks = search rules
 no_debug rows (jobs.Debug image trace) (inr none) asks = search rules
 no_debug rows (jobs.Titles files only) none asks = search rules
 no_debug rows (jobs.Test files only form junit) none asks = search rules
+no_debug rows (jobs.Expect files image device only form junit) none asks = search rules
 no_debug rows (jobs.Join output images) none asks = search rules
 no_debug rows (jobs.Lint file only except json) none asks = search rules
 
@@ -213,6 +224,7 @@ no_pcap rows (jobs.Pcap image trace output) (inr (inr none)) asks = search rules
 no_pcap rows (jobs.Debug image trace) none asks = search rules
 no_pcap rows (jobs.Titles files only) none asks = search rules
 no_pcap rows (jobs.Test files only form junit) none asks = search rules
+no_pcap rows (jobs.Expect files image device only form junit) none asks = search rules
 no_pcap rows (jobs.Join output images) none asks = search rules
 no_pcap rows (jobs.Lint file only except json) none asks = search rules
 
@@ -222,12 +234,13 @@ one_case_form rows case_forms.Text (tap, json) asks = cc
 one_case_form rows case_forms.Tap (tap, json) asks = cc
 one_case_form rows case_forms.JsonLines (tap, json) asks = cc
 
-titles_alone : (list tap json : Bool) (junit : Option Word)
-    → (list ≡ true) × ((tap ≡ true) ⊎ ((json ≡ true) ⊎ (junit ≢ None)))
-    → (tap ≡ false) × (json ≡ false) → junit ≡ None → ⊥
-titles_alone list tap json junit (lists, inl taps) no_form no_junit = search rules
-titles_alone list tap json junit (lists, inr (inl lines)) no_form no_junit = search rules
-titles_alone list tap json junit (lists, inr (inr some)) no_form no_junit = some no_junit
+titles_alone : (list tap json : Bool) (junit on : Option Word)
+    → (list ≡ true) × ((tap ≡ true) ⊎ ((json ≡ true) ⊎ ((junit ≢ None) ⊎ (on ≢ None))))
+    → (tap ≡ false) × (json ≡ false) → junit ≡ None → on ≡ None → ⊥
+titles_alone list tap json junit on (lists, inl taps) no_form no_junit no_image = search rules
+titles_alone list tap json junit on (lists, inr (inl lines)) no_form no_junit no_image = search rules
+titles_alone list tap json junit on (lists, inr (inr (inl some))) no_form no_junit no_image = some no_junit
+titles_alone list tap json junit on (lists, inr (inr (inr some))) no_form no_junit no_image = some no_image
 
 pub no_test : (rows : List Row) (job : Job) → LacksTest rows → AsksFor (codes "test", rows) job → ⊥
 no_test rows (jobs.One hex form) lacks asks = search rules
@@ -243,14 +256,29 @@ no_test rows (jobs.Pcap image trace output) lacks asks = search rules
 no_test rows (jobs.Debug image trace) lacks asks = search rules
 no_test rows (jobs.Titles files only) (inl none) asks = cc
 no_test rows (jobs.Titles files only) (inr (inl both)) asks = one_case_form rows case_forms.Text both asks.2
-no_test rows (jobs.Titles files only) (inr (inr both)) asks =
+no_test rows (jobs.Titles files only) (inr (inr (inl both))) asks =
     titles_alone (is_set (codes "list") rows) (is_set (codes "tap") rows) (is_set (codes "json") rows)
-    (first_of (codes "junit") rows) both asks.2 asks.3
+    (first_of (codes "junit") rows) (first_of (codes "on") rows) both asks.2 asks.3 asks.4.no_image
+no_test rows (jobs.Titles files only) (inr (inr (inr (none, given)))) asks =
+    asks.4.no_device given.0 given.1
 no_test rows (jobs.Test files only form junit) (inl none) asks = cc
 no_test rows (jobs.Test files only form junit) (inr (inl both)) asks = one_case_form rows form both asks.2
-no_test rows (jobs.Test files only form junit) (inr (inr both)) asks =
+no_test rows (jobs.Test files only form junit) (inr (inr (inl both))) asks =
     let lists : is_set (codes "list") rows ≡ true = both.0 in
     let plays : is_set (codes "list") rows ≡ false = asks.1 in
+    cc
+no_test rows (jobs.Test files only form junit) (inr (inr (inr (none, given)))) asks =
+    asks.4.no_device given.0 given.1
+no_test rows (jobs.Expect files image device only form junit) (inl none) asks = cc
+no_test rows (jobs.Expect files image device only form junit) (inr (inl both)) asks =
+    one_case_form rows form both asks.2
+no_test rows (jobs.Expect files image device only form junit) (inr (inr (inl both))) asks =
+    let lists : is_set (codes "list") rows ≡ true = both.0 in
+    let plays : is_set (codes "list") rows ≡ false = asks.1 in
+    cc
+no_test rows (jobs.Expect files image device only form junit) (inr (inr (inr (none, given)))) asks =
+    let some : first_of (codes "on") rows ≡ Some image.now = asks.4 in
+    let lacks : first_of (codes "on") rows ≡ None = none in
     cc
 no_test rows (jobs.Join output images) lacks asks = search rules
 no_test rows (jobs.Lint file only except json) lacks asks = search rules
@@ -269,6 +297,7 @@ no_join rows (jobs.Pcap image trace output) lacks asks = search rules
 no_join rows (jobs.Debug image trace) lacks asks = search rules
 no_join rows (jobs.Titles files only) lacks asks = search rules
 no_join rows (jobs.Test files only form junit) lacks asks = search rules
+no_join rows (jobs.Expect files image device only form junit) lacks asks = search rules
 no_join rows (jobs.Join output images) (inl none) asks = search rules
 no_join rows (jobs.Join output images) (inr none) asks = cc
 no_join rows (jobs.Lint file only except json) lacks asks = search rules
@@ -299,6 +328,7 @@ no_lint rows (jobs.Pcap image trace output) lacks asks = search rules
 no_lint rows (jobs.Debug image trace) lacks asks = search rules
 no_lint rows (jobs.Titles files only) lacks asks = search rules
 no_lint rows (jobs.Test files only form junit) lacks asks = search rules
+no_lint rows (jobs.Expect files image device only form junit) lacks asks = search rules
 no_lint rows (jobs.Join output images) lacks asks = search rules
 no_lint rows (jobs.Lint file only except json) (inl both) asks =
     lint_alone (λ p. p.now) (is_set (codes "rules") rows) (first_of (codes "FILE") rows) file both asks.1 asks.2
@@ -328,6 +358,7 @@ live_alone rows (jobs.Pcap image trace output) asks = search rules
 live_alone rows (jobs.Debug image trace) asks = search rules
 live_alone rows (jobs.Titles files only) asks = search rules
 live_alone rows (jobs.Test files only form junit) asks = search rules
+live_alone rows (jobs.Expect files image device only form junit) asks = search rules
 live_alone rows (jobs.Join output images) asks = search rules
 live_alone rows (jobs.Lint file only except json) asks = search rules
 
@@ -343,12 +374,34 @@ lacks_wire : (rows : List Row) (wire : AskedWire) → LacksWire rows → AsksFor
 lacks_wire rows wire (inl none) asks = none wire.late_by asks.5
 lacks_wire rows wire (inr none) asks = none wire.seed asks.6
 
+-- what stands without what it needs
+stands_alone : {X Y Z : Type 0} (f : X → Y) (first : Option Z) (second : Option X) (word : Option Y) → first ≡ None
+    → word ≢ None → word ≡ option_map f second → StandsWith first second → ⊥
+stands_alone f first None word none some is stands = some is
+stands_alone f None (Some x) word none some is stands = stands
+stands_alone f (Some z) (Some x) word none some is stands = cc
+
+no_file : {X Y : Type 0} (f : X → Y) (word : Option Y) (file : Option X) → word ≡ None → word ≡ option_map f file
+    → file ≡ None
+no_file f word None none is = refl
+no_file f word (Some x) none is = cc
+
+-- the words of a verdict
+lacks_verdict : (rows : List Row) (verdict : AskedVerdict) → LacksVerdict rows → AsksForVerdict rows verdict → ⊥
+lacks_verdict rows verdict (inl (none, some)) asks =
+    stands_alone (λ p. p.now) (first_of (codes "save") rows) verdict.file (first_of (codes "expect") rows) none some
+    asks.file asks.saved
+lacks_verdict rows verdict (inr (none, some)) asks =
+    stands_alone (λ p. p.now) verdict.file verdict.junit (first_of (codes "junit") rows)
+    (no_file (λ p. p.now) (first_of (codes "expect") rows) verdict.file none asks.file) some asks.junit asks.reported
+
 -- the words of devices on the network
 lacks_fleet : (rows : List Row) (fleet : AskedFleet) → LacksFleet rows → AsksForFleet (codes "fleet", rows) fleet → ⊥
 lacks_fleet rows fleet (inl none) asks = search rules
 lacks_fleet rows fleet (inr (inl none)) asks = none fleet.port asks.2
 lacks_fleet rows fleet (inr (inr (inl none))) asks = search rules
-lacks_fleet rows fleet (inr (inr (inr lacks))) asks = lacks_wire rows fleet.wire lacks asks.11
+lacks_fleet rows fleet (inr (inr (inr (inl lacks)))) asks = lacks_wire rows fleet.wire lacks asks.11
+lacks_fleet rows fleet (inr (inr (inr (inr lacks)))) asks = lacks_verdict rows fleet.verdict lacks asks.13
 
 -- they ask for no job
 fleet_alone : (rows : List Row) (job : Job) → AsksFor (codes "fleet", rows) job → ⊥
@@ -365,6 +418,7 @@ fleet_alone rows (jobs.Pcap image trace output) asks = search rules
 fleet_alone rows (jobs.Debug image trace) asks = search rules
 fleet_alone rows (jobs.Titles files only) asks = search rules
 fleet_alone rows (jobs.Test files only form junit) asks = search rules
+fleet_alone rows (jobs.Expect files image device only form junit) asks = search rules
 fleet_alone rows (jobs.Join output images) asks = search rules
 fleet_alone rows (jobs.Lint file only except json) asks = search rules
 
@@ -391,6 +445,7 @@ lacks_hex rows (jobs.Pcap image trace output) lacks asks = search rules
 lacks_hex rows (jobs.Debug image trace) lacks asks = search rules
 lacks_hex rows (jobs.Titles files only) lacks asks = search rules
 lacks_hex rows (jobs.Test files only form junit) lacks asks = search rules
+lacks_hex rows (jobs.Expect files image device only form junit) lacks asks = search rules
 lacks_hex rows (jobs.Join output images) lacks asks = search rules
 lacks_hex rows (jobs.Lint file only except json) lacks asks = search rules
 

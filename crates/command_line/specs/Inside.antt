@@ -1,10 +1,10 @@
 -- The commands one by one, and what they lack, as clauses of private functions name them. No promise rests on it.
-use Rattle.std.specs.Prelude.{◌≡◌, ◌≢◌, ◌⊎◌, true, List, Option, None, Some, codes, is_some}
+use Rattle.std.specs.Prelude.{◌≡◌, ◌≢◌, ◌⊎◌, ℕ, true, List, Option, None, Some, codes, is_some}
 use Rattle.clap.specs.Words.{App, Row, Rule, Text as Word, all_of, first_of, new_app, one_of, with_rule}
 use Rattle.clap.specs.Words.{with_subcommand}
 use Rattle.command_line.specs.declared.words.Asked.{Asked}
 use Rattle.command_line.specs.declared.words.Asked.TheVariants as asked
-use Rattle.command_line.specs.Words.{AsksFor, AsksForFleet, AsksForLog, AsksToLive, IsNoNumber, MayAskFor, flag, is_set}
+use Rattle.command_line.specs.Words.{AsksFor, AsksForFleet, AsksForLog, AsksToLive, IsNoNumber, IsNumber, MayAskFor, flag, is_set}
 use Rattle.command_line.specs.Words.{may_stand, needed, needed_number, number, number_from, optional_from}
 use Rattle.command_line.specs.Words.{optional_number, several, text_option, text_options, text_or, with_settings}
 
@@ -150,9 +150,15 @@ seed = number (codes "seed") 4294967295 (codes "0")
 abbrev pub with_wire : App → App
 with_wire a = with_rule (with_rule (with_moves (with_losses a)) late_by) seed
 
--- `[--save FILE] [--strict]`
+-- `[--save FILE] [--expect FILE] [--junit FILE]`
+abbrev pub with_files : App → App
+with_files a =
+    with_rule (with_rule (with_rule a (text_option (codes "save"))) (text_option (codes "expect")))
+    (text_option (codes "junit"))
+
+-- the same, and `[--strict]`
 abbrev pub with_ends : App → App
-with_ends a = with_rule (with_rule a (text_option (codes "save"))) (flag (codes "strict"))
+with_ends a = with_rule (with_files a) (flag (codes "strict"))
 
 -- `[--show] [--json]`
 abbrev pub with_telling : App → App
@@ -183,13 +189,17 @@ lint_app =
 abbrev pub with_cases : App → App
 with_cases a = with_rule (with_rule a (several (codes "FILE"))) (text_option (codes "only"))
 
+-- `[--on IMAGE] [--device N]`
+abbrev pub with_record : App → App
+with_record a = with_rule (with_rule a (text_option (codes "on"))) (optional_number (codes "device") 65535)
+
 -- `[--list] [--tap] [--json]`
 abbrev pub with_forms : App → App
 with_forms a = with_rule (with_rule (with_rule a (flag (codes "list"))) (flag (codes "tap"))) (flag (codes "json"))
 
--- `test FILE .. [--only WORDS] [--list] [--tap] [--json] [--junit FILE]`
+-- `test FILE .. [--only WORDS] [--on IMAGE] [--device N] [--list] [--tap] [--json] [--junit FILE]`
 abbrev pub test_app : App
-test_app = with_rule (with_forms (with_cases (new_app (codes "test")))) (text_option (codes "junit"))
+test_app = with_rule (with_forms (with_record (with_cases (new_app (codes "test"))))) (text_option (codes "junit"))
 
 -- the program, which is `bench_app`
 abbrev pub whole_app : App
@@ -221,11 +231,18 @@ LacksLive rows =
 abbrev pub LacksWire : List Row → Type 0
 LacksWire rows = IsNoNumber 32 (one_of (codes "late-by") rows) ⊎ IsNoNumber 32 (one_of (codes "seed") rows)
 
+-- `--expect` stands there without `--save`, or `--junit` without `--expect`
+abbrev pub LacksVerdict : List Row → Type 0
+LacksVerdict rows =
+    ((first_of (codes "save") rows ≡ None) × (first_of (codes "expect") rows ≢ None))
+    ⊎ ((first_of (codes "expect") rows ≡ None) × (first_of (codes "junit") rows ≢ None))
+
 -- a value that the devices on the network need is not there
 abbrev pub LacksFleet : List Row → Type 0
 LacksFleet rows =
     (first_of (codes "FILE") rows ≡ None)
-    ⊎ (IsNoNumber 16 (one_of (codes "PORT") rows) ⊎ ((first_of (codes "bind") rows ≡ None) ⊎ LacksWire rows))
+    ⊎ (IsNoNumber 16 (one_of (codes "PORT") rows)
+    ⊎ ((first_of (codes "bind") rows ≡ None) ⊎ (LacksWire rows ⊎ LacksVerdict rows)))
 
 -- `join` has no place for its image, or no image to join
 abbrev pub LacksJoin : List Row → Type 0
@@ -237,22 +254,28 @@ LacksLint rows =
     (is_set (codes "rules") rows ≡ is_some (first_of (codes "FILE") rows))
     ⊎ ((first_of (codes "FILE") rows ≡ None) × (is_set (codes "json") rows ≡ true))
 
--- `--list` stands beside `--tap`, `--json` or `--junit`, of which each wants cases that are played
+-- `--list` stands beside `--tap`, `--json`, `--junit` or `--on`, of which each wants to know what comes of cases
 abbrev pub ListsAndPlays : List Row → Type 0
 ListsAndPlays rows =
     (is_set (codes "list") rows ≡ true)
     × ((is_set (codes "tap") rows ≡ true)
-    ⊎ ((is_set (codes "json") rows ≡ true) ⊎ (first_of (codes "junit") rows ≢ None)))
+    ⊎ ((is_set (codes "json") rows ≡ true)
+    ⊎ ((first_of (codes "junit") rows ≢ None) ⊎ (first_of (codes "on") rows ≢ None))))
+
+-- `--device` stands there without `--on`
+abbrev pub NamesADeviceOfNothing : List Row → Type 0
+NamesADeviceOfNothing rows =
+    (first_of (codes "on") rows ≡ None) × ((n : ℕ) × IsNumber 16 (one_of (codes "device") rows) n)
 
 -- `--tap` stands beside `--json`, of which each wants a form of its own
 abbrev pub WantsTwoCaseForms : List Row → Type 0
 WantsTwoCaseForms rows = (is_set (codes "tap") rows ≡ true) × (is_set (codes "json") rows ≡ true)
 
--- the words of `test` exclude each other
+-- words of `test` do not go together
 abbrev pub ExcludesInTest : List Row → Type 0
-ExcludesInTest rows = WantsTwoCaseForms rows ⊎ ListsAndPlays rows
+ExcludesInTest rows = WantsTwoCaseForms rows ⊎ (ListsAndPlays rows ⊎ NamesADeviceOfNothing rows)
 
--- `test` has no file, or words that exclude each other
+-- `test` has no file, or words that do not go together
 abbrev pub LacksTest : List Row → Type 0
 LacksTest rows = (all_of (codes "FILE") rows ≡ None) ⊎ ExcludesInTest rows
 

@@ -13,6 +13,7 @@ use Rattle.command_line.specs.declared.words.Job.{Job}
 use Rattle.command_line.specs.declared.words.Job.TheVariants as jobs
 use Rattle.command_line.specs.declared.words.Live.{Live}
 use Rattle.command_line.specs.declared.fleet_words.AskedFleet.{AskedFleet}
+use Rattle.command_line.specs.declared.verdict_words.AskedVerdict.{AskedVerdict}
 use Rattle.command_line.specs.declared.wire_words.AskedWire.{AskedWire}
 use Rattle.command_line.specs.declared.words.Asked.{Asked}
 use Rattle.command_line.specs.declared.words.Asked.TheVariants as asked
@@ -116,7 +117,8 @@ commands =
     ∷ flag (codes "show") ∷ [])
     -- `fleet FILE PORT [--seconds N] [--devices A-B] [--copies N] [--play] [--loop] [--bind ADDRESS]
     -- [--server S=ADDRESS[:PORT]] .. [--ports FILE] [--lose-in WHICH] [--lose-out WHICH] [--twice WHICH]
-    -- [--swap WHICH] [--late WHICH] [--late-by N] [--seed N] [--save FILE] [--strict] [--show] [--json]`
+    -- [--swap WHICH] [--late WHICH] [--late-by N] [--seed N] [--save FILE] [--expect FILE] [--junit FILE]
+    -- [--strict] [--show] [--json]`
     ∷ command (codes "fleet") (needed (codes "FILE") ∷ needed_number (codes "PORT") 0 65535
     ∷ optional_from (codes "seconds") 1 4294967295 ∷ text_option (codes "devices")
     ∷ optional_from (codes "copies") 1 16384 ∷ flag (codes "play") ∷ flag (codes "loop")
@@ -124,16 +126,17 @@ commands =
     ∷ text_options (codes "server") ∷ text_option (codes "ports") ∷ text_option (codes "lose-in")
     ∷ text_option (codes "lose-out") ∷ text_option (codes "twice") ∷ text_option (codes "swap")
     ∷ text_option (codes "late") ∷ number_from (codes "late-by") 1 4294967295 (codes "1")
-    ∷ number (codes "seed") 4294967295 (codes "0") ∷ text_option (codes "save") ∷ flag (codes "strict")
-    ∷ flag (codes "show") ∷ flag (codes "json") ∷ [])
+    ∷ number (codes "seed") 4294967295 (codes "0") ∷ text_option (codes "save") ∷ text_option (codes "expect")
+    ∷ text_option (codes "junit") ∷ flag (codes "strict") ∷ flag (codes "show") ∷ flag (codes "json") ∷ [])
     -- `join OUT IMAGE ..`
     ∷ command (codes "join") (needed (codes "OUT") ∷ several (codes "IMAGE") ∷ [])
     -- `lint FILE [--only RULE] .. [--not RULE] .. [--json]`, `lint --rules [--only RULE] .. [--not RULE] ..`
     ∷ command (codes "lint") (may_stand (codes "FILE") ∷ text_options (codes "only") ∷ text_options (codes "not")
     ∷ flag (codes "rules") ∷ flag (codes "json") ∷ [])
-    -- `test FILE .. [--only WORDS] [--list] [--tap] [--json] [--junit FILE]`
-    ∷ command (codes "test") (several (codes "FILE") ∷ text_option (codes "only") ∷ flag (codes "list")
-    ∷ flag (codes "tap") ∷ flag (codes "json") ∷ text_option (codes "junit") ∷ []) ∷ []
+    -- `test FILE .. [--only WORDS] [--on IMAGE] [--device N] [--list] [--tap] [--json] [--junit FILE]`
+    ∷ command (codes "test") (several (codes "FILE") ∷ text_option (codes "only") ∷ text_option (codes "on")
+    ∷ optional_number (codes "device") 65535 ∷ flag (codes "list") ∷ flag (codes "tap") ∷ flag (codes "json")
+    ∷ text_option (codes "junit") ∷ []) ∷ []
 
 -- the program
 abbrev pub bench_app : App
@@ -194,6 +197,11 @@ AsksForCaseForm rows case_forms.Text = (is_set (codes "tap") rows ≡ false) × 
 AsksForCaseForm rows case_forms.Tap = (is_set (codes "tap") rows ≡ true) × (is_set (codes "json") rows ≡ false)
 AsksForCaseForm rows case_forms.JsonLines = (is_set (codes "tap") rows ≡ false) × (is_set (codes "json") rows ≡ true)
 
+-- the words of `test` name no recorded session, and no device of one
+pub record IsWithoutRecord (rows : List Row) : Type 0 where
+  pub no_image : first_of (codes "on") rows ≡ None
+  pub no_device : IsNoNumber 16 (one_of (codes "device") rows)
+
 -- objects are there of what is found in a file, and of nothing else
 abbrev pub MayBeJson : {X : Type 0} → Option X → Bool → Type 0
 MayBeJson None json = json ≡ false
@@ -236,11 +244,16 @@ AsksFor found (jobs.Debug image trace) =
 AsksFor found (jobs.Titles files only) =
     AsksForCases found (map (λ p. p.now) files.items) (option_map (λ w. w.now) only)
     × (is_set (codes "list") found.1 ≡ true) × AsksForCaseForm found.1 case_forms.Text
-    × (first_of (codes "junit") found.1 ≡ None)
+    × (first_of (codes "junit") found.1 ≡ None) × IsWithoutRecord found.1
 AsksFor found (jobs.Test files only form junit) =
     AsksForCases found (map (λ p. p.now) files.items) (option_map (λ w. w.now) only)
     × (is_set (codes "list") found.1 ≡ false) × AsksForCaseForm found.1 form
-    × (first_of (codes "junit") found.1 ≡ option_map (λ p. p.now) junit)
+    × (first_of (codes "junit") found.1 ≡ option_map (λ p. p.now) junit) × IsWithoutRecord found.1
+AsksFor found (jobs.Expect files image device only form junit) =
+    AsksForCases found (map (λ p. p.now) files.items) (option_map (λ w. w.now) only)
+    × (is_set (codes "list") found.1 ≡ false) × AsksForCaseForm found.1 form
+    × (first_of (codes "junit") found.1 ≡ option_map (λ p. p.now) junit) × IsText found (codes "on") image.now
+    × IsOptionalNumber 16 (one_of (codes "device") found.1) device
 AsksFor found (jobs.Join output images) =
     (found.0 ≡ codes "join") × IsText found (codes "OUT") output.now
     × AreTexts found (codes "IMAGE") (map (λ p. p.now) images.items)
@@ -271,6 +284,18 @@ AsksForWire rows wire =
     × (first_of (codes "late") rows ≡ option_map (λ w. w.now) wire.late)
     × IsNumber 32 (one_of (codes "late-by") rows) wire.late_by × IsNumber 32 (one_of (codes "seed") rows) wire.seed
 
+-- the second may be there only where the first is
+abbrev pub StandsWith : {X Y : Type 0} → Option X → Option Y → Type 0
+StandsWith None (Some y) = ⊥
+StandsWith x y = ⊤
+
+-- the words of `fleet` ask for this verdict: `--expect` goes with `--save`, and `--junit` with `--expect`
+pub record AsksForVerdict (rows : List Row) (verdict : AskedVerdict) : Type 0 where
+  pub file : first_of (codes "expect") rows ≡ option_map (λ p. p.now) verdict.file
+  pub junit : first_of (codes "junit") rows ≡ option_map (λ p. p.now) verdict.junit
+  pub saved : StandsWith (first_of (codes "save") rows) verdict.file
+  pub reported : StandsWith verdict.file verdict.junit
+
 -- a subcommand with its values asks for these devices on the network
 abbrev pub AsksForFleet : Word × List Row → AskedFleet → Type 0
 AsksForFleet found fleet =
@@ -285,8 +310,8 @@ AsksForFleet found fleet =
     × (unwrap_or (all_of (codes "server") found.1) [] ≡ map (λ w. w.now) fleet.servers.items)
     × (first_of (codes "ports") found.1 ≡ option_map (λ p. p.now) fleet.ports)
     × AsksForWire found.1 fleet.wire × (first_of (codes "save") found.1 ≡ option_map (λ p. p.now) fleet.save)
-    × (is_set (codes "strict") found.1 ≡ fleet.strict) × (is_set (codes "show") found.1 ≡ fleet.show)
-    × (is_set (codes "json") found.1 ≡ fleet.json)
+    × AsksForVerdict found.1 fleet.verdict × (is_set (codes "strict") found.1 ≡ fleet.strict)
+    × (is_set (codes "show") found.1 ≡ fleet.show) × (is_set (codes "json") found.1 ≡ fleet.json)
 
 -- a subcommand with its values asks what the log says that standard input has: HEX is `-`
 abbrev pub AsksForLog : Word × List Row → ℕ → Type 0

@@ -2,8 +2,8 @@
 ghost use Rattle.std.specs.Prelude.{◌≡◌, codes, false, IfOk};
 ghost use Rattle.clap.specs.Words.{app_of, rule_of};
 ghost use Rattle.command_line.specs.Words.{needed_number, text_option, text_options};
-ghost use Rattle.command_line.specs.Inside.{bind, copies, fleet_app, late_by, seconds, seed, with_ends, with_losses};
-ghost use Rattle.command_line.specs.Inside.{with_moves, with_places, with_play, with_rows, with_service, with_telling};
+ghost use Rattle.command_line.specs.Inside.{bind, copies, fleet_app, late_by, seconds, seed, with_ends, with_files};
+ghost use Rattle.command_line.specs.Inside.{with_losses, with_moves, with_places, with_play, with_rows, with_service, with_telling};
 ghost use Rattle.command_line.specs.Inside.{with_wire};
 
 use crate::help;
@@ -26,11 +26,22 @@ pub(crate) fn fleet_command<'a>(alloc: Global) -> Result<Command<'a>, AllocError
 fn with_ends<'a>(alloc: Global, command: Command<'a>) -> Result<Command<'a>, AllocError>
     ensures { IfOk result (λ c. app_of c ≡ with_ends (app_of command.entry)) }
 {
-    let save = text_option(alloc, "save", "FILE").help("Where the image of what happened goes");
     let strict = flag(alloc, "strict").help(
         "Ends with status 3 where a datagram was dropped or lost",
     );
-    command.arg(save)?.arg(strict)
+    with_files(alloc, command)?.arg(strict)
+}
+
+/// Adds the words for what is saved, and for what servers have to send in it.
+fn with_files<'a>(alloc: Global, command: Command<'a>) -> Result<Command<'a>, AllocError>
+    ensures { IfOk result (λ c. app_of c ≡ with_files (app_of command.entry)) }
+{
+    let save = text_option(alloc, "save", "FILE").help("Where the image of what happened goes");
+    let expect = text_option(alloc, "expect", "FILE").help(
+        "What servers have to send; it ends when that is settled",
+    );
+    let junit = text_option(alloc, "junit", "FILE").help("Where a JUnit report of that goes");
+    command.arg(save)?.arg(expect)?.arg(junit)
 }
 
 /// Adds the words for what is told while the devices go on, and in which form.

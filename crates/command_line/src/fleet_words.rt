@@ -5,6 +5,7 @@ ghost use Rattle.command_line.specs.Words.{AsksForFleet};
 ghost use Rattle.command_line.specs.Inside.{LacksFleet};
 
 use crate::values::{flag, number, small_number, value_of, values_if};
+use crate::verdict_words::{AskedVerdict, verdict_of};
 use crate::wire_words::{AskedWire, wire_of};
 use clap::ArgMatches;
 use std::alloc::{AllocError, Global};
@@ -36,6 +37,8 @@ pub struct AskedFleet<'a> {
     pub wire: AskedWire<'a>,
     /// Where the image of what happened goes, if anywhere.
     pub save: Option<&'a str>,
+    /// What servers have to send; the session ends when that is settled, and is judged by it.
+    pub verdict: AskedVerdict<'a>,
     /// Whether the status tells that a datagram was dropped or lost.
     pub strict: bool,
     /// Whether each datagram that a device receives or sends is told.
@@ -63,6 +66,7 @@ fn fleet_with<'a>(found: &ArgMatches<'a>, servers: Vec<&'a str>) -> Option<Asked
         ports: value_of(found, "ports"),
         wire: wire_of(found)?,
         save: value_of(found, "save"),
+        verdict: verdict_of(found)?,
         strict: flag(found, "strict"),
         show: flag(found, "show"),
         json: flag(found, "json"),

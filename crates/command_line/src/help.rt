@@ -201,6 +201,10 @@ prints a line for each datagram that a device receives or sends, in words:
 With `--json` prints JSON Lines in place of these lines: when all ports are there, each second, of each
 datagram with `--show`, and at the end.
 
+With `--expect`, which needs `--save`, its FILE says what servers have to send to each device. The session
+ends when no later datagram can change whether they did, too, and then prints of it what
+`lwbench test FILE --on IMAGE` does, IMAGE being what was saved. The status is 3 where a case is not met.
+
 A wire between the devices and their ports loses, doubles, exchanges and delays datagrams. WHICH is a share,
 as 10%, or a list of numbers, as 2,5-6: the datagrams of each device that go one way count from 1. One that
 is swapped goes right after the next one, one that is late after `--late-by` seconds. Each of them has a line,
@@ -226,7 +230,7 @@ pub const LINT: &str =
     "Reads FILE: what begins with LWSC is a scenario's image, as `fleet` and `live` save it, any other file its text.
 Goes through the datagrams of each device, those that servers sent and those that the device sends, and
 prints a line for each of them that breaks a rule, and at the end how many
-  device D step K second S: RULE: WORDS (RFC 7252 section N)
+  device D step K second S: RULE: WORDS (STANDARD section N)
   N findings
 The status is 3 if there is one. With `--only` these rules alone are looked at, with `--not` all but these.
 With `--json` prints each finding as an object in JSON, in a line, and so the count. With `--rules` in the
@@ -254,6 +258,14 @@ own, and one that counts them. With `--junit` a JUnit report goes to its FILE be
 where it exists; no other file is written.
 A file of which a line cannot be read, or that holds no case, is a fault: no case of any file is played.
 
-Example:
+With `--on` each FILE says what servers have to send, and IMAGE is a scenario, as text or as an image, such as
+`fleet --save` records it. Each case is looked at in the row of each device, or of the one that `--device`
+names; of one that does not hold, its title, the device and the first line that cannot be met are printed:
+  TITLE, device D, line N
+  LINE
+
+Examples:
   lwbench test reader.cases
+  1 cases, 0 differ
+  lwbench test server.cases --on night.image --device 7
   1 cases, 0 differ";

@@ -1,8 +1,8 @@
 //! The jobs that the words ask for, one by one.
-ghost use Rattle.std.specs.Prelude.{◌≡◌, ◌≢◌, ◌⊎◌, [], None, Some, codes, map, unwrap_or, IfNone, IfOk, IfSome};
+ghost use Rattle.std.specs.Prelude.{◌≡◌, ◌≢◌, ◌⊎◌, [], None, Some, codes, map, true, unwrap_or, IfNone, IfOk, IfSome};
 ghost use Rattle.clap.specs.Words.{all_of, first_of, found_of, rows_of};
 ghost use Rattle.command_line.specs.declared.words.Job.{Job as JobData};
-ghost use Rattle.command_line.specs.Words.{AsksFor, AsksForCaseForm, AsksForForm};
+ghost use Rattle.command_line.specs.Words.{AsksFor, AsksForCaseForm, AsksForForm, is_set};
 ghost use Rattle.command_line.specs.Inside.{ExcludesInTest, LacksJoin, LacksLint, LacksOne, LacksPlay, LacksRun};
 ghost use Rattle.command_line.specs.Inside.{LacksShow, LacksTest};
 ghost use Rattle.command_line.specs.Inside.{WantsTwoCaseForms, WantsTwoForms};
@@ -226,25 +226,50 @@ fn rules_job<'a>(
     }
 }
 
-/// What is asked of these files of cases: their titles, or which of them differ.
+/// What is asked of these files: the titles of their cases, or what comes of them.
 fn cases_job<'a>(found: &ArgMatches<'a>, files: Vec<&'a str>) -> Option<Job<'a>>
     requires { all_of (codes "FILE") (rows_of (found_of found.now)) ≡ Some (map (λ p. p.now) files.items) }
     ensures some { IfSome result (AsksFor (codes "test", rows_of (found_of found.now))) }
     ensures none { IfNone result (ExcludesInTest (rows_of (found_of found.now))) }
 {
-    let only = value_of(found, "only");
     let form = case_form_of(found)?;
-    let junit = value_of(found, "junit");
-    if !flag(found, "list") {
-        return Some(Job::Test {
-            files,
-            only,
-            form,
-            junit,
-        });
+    if flag(found, "list") {
+        return titles_job(found, files, form);
     }
-    match (form, junit) {
-        (CaseForm::Text, None) => Some(Job::Titles { files, only }),
+    match (value_of(found, "on"), small_number(found, "device")) {
+        (None, None) => Some(Job::Test {
+            files,
+            only: value_of(found, "only"),
+            form,
+            junit: value_of(found, "junit"),
+        }),
+        (None, Some(_)) => None,
+        (Some(image), device) => Some(Job::Expect {
+            files,
+            image,
+            device,
+            only: value_of(found, "only"),
+            form,
+            junit: value_of(found, "junit"),
+        }),
+    }
+}
+
+/// The titles of these files of cases, which go with nothing that wants cases to be played or looked at.
+fn titles_job<'a>(found: &ArgMatches<'a>, files: Vec<&'a str>, form: CaseForm) -> Option<Job<'a>>
+    requires files { all_of (codes "FILE") (rows_of (found_of found.now)) ≡ Some (map (λ p. p.now) files.items) }
+    requires form { AsksForCaseForm (rows_of (found_of found.now)) form }
+    requires listed { is_set (codes "list") (rows_of (found_of found.now)) ≡ true }
+    ensures some { IfSome result (AsksFor (codes "test", rows_of (found_of found.now))) }
+    ensures none { IfNone result (ExcludesInTest (rows_of (found_of found.now))) }
+{
+    let only = value_of(found, "only");
+    let device = small_number(found, "device");
+    match (form, value_of(found, "junit"), value_of(found, "on")) {
+        (CaseForm::Text, None, None) => match device {
+            None => Some(Job::Titles { files, only }),
+            Some(_) => None,
+        },
         _ => None,
     }
 }

@@ -7,9 +7,11 @@ mod help;
 mod jobs;
 mod subcommands;
 mod values;
+mod verdict_words;
 mod wire_words;
 mod words;
 
 pub use fleet_words::AskedFleet;
+pub use verdict_words::AskedVerdict;
 pub use wire_words::AskedWire;
 pub use words::{Asked, CaseForm, Job, Live, NO_TEXT, TraceForm, read};

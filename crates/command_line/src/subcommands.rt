@@ -6,7 +6,7 @@ ghost use Rattle.command_line.specs.Words.{text_option, text_options, with_setti
 ghost use Rattle.command_line.specs.Inside.{asm_app, batch, check_app, debug_app, dis_app, fleet_app, join_app, lint_app};
 ghost use Rattle.command_line.specs.Inside.{live_app, one_app, pcap_app, play_app, run_app, say_app, server, show_app};
 ghost use Rattle.command_line.specs.Inside.{spell_app, test_app, whole_app, with_cases, with_forms, with_port};
-ghost use Rattle.command_line.specs.Inside.{with_range, with_rules, with_selection, with_trace, with_trace_forms};
+ghost use Rattle.command_line.specs.Inside.{with_range, with_record, with_rules, with_selection, with_trace, with_trace_forms};
 ghost use Rattle.command_line.specs.Inside.{with_turns, workers};
 
 use crate::fleet_arguments::fleet_command;
@@ -362,6 +362,7 @@ fn test_command<'a>(alloc: Global) -> Result<Command<'a>, AllocError>
 {
     let about = "Plays the cases of files, and says which differ";
     let cases = with_cases(alloc, described(alloc, "test", about, help::TEST))?;
+    let cases = with_record(alloc, cases)?;
     let junit = text_option(alloc, "junit", "FILE").help("Where a JUnit report of them goes");
     with_forms(alloc, cases)?.arg(junit)
 }
@@ -383,6 +384,18 @@ fn with_cases<'a>(alloc: Global, command: Command<'a>) -> Result<Command<'a>, Al
     command
         .arg(several(alloc, "FILE").help("A file of cases"))?
         .arg(text_option(alloc, "only", "WORDS").help("Take only the cases whose titles begin so"))
+}
+
+/// Adds the words for a session that was recorded.
+fn with_record<'a>(alloc: Global, command: Command<'a>) -> Result<Command<'a>, AllocError>
+    ensures { IfOk result (λ c. app_of c ≡ with_record (app_of command.entry)) }
+{
+    let on = text_option(alloc, "on", "IMAGE").help(
+        "The scenario in whose rows servers have to send what FILE says",
+    );
+    command.arg(on)?.arg(optional_small(alloc, "device").help(
+        "Look only at the row of this device",
+    ))
 }
 
 fn turns<'a>(alloc: Global) -> Arg<'a>

@@ -22,8 +22,13 @@ pub const NO_TEXT: &str =
 
 /// What is said where titles are asked for and cases are to be played too.
 const LISTS_AND_PLAYS: &str =
-    "error: the argument '--list' cannot be used with '--tap', '--json' or '--junit <FILE>'\n\n\
-     Usage: lwbench test [OPTIONS] <FILE>...\n\nFor more information, try '--help'.\n";
+    "error: the argument '--list' cannot be used with '--tap', '--json', '--junit <FILE>' or \
+     '--on <IMAGE>'\n\nUsage: lwbench test [OPTIONS] <FILE>...\n\nFor more information, try '--help'.\n";
+
+/// What is said where a device is named, and no scenario that has it.
+const DEVICE_OF_NOTHING: &str =
+    "error: the following required arguments were not provided:\n  --on <IMAGE>\n\n\
+     Usage: lwbench test --on <IMAGE> --device <N> <FILE>...\n\nFor more information, try '--help'.\n";
 
 /// What is said where cases are asked for in two forms.
 const JSON_AND_TAP: &str = "error: the argument '--json' cannot be used with '--tap'\n\n\
@@ -40,6 +45,32 @@ const PLAY_JSON_AND_WHY: &str = "error: the argument '--json' cannot be used wit
 /// The same of one datagram.
 const ONE_JSON_AND_WHY: &str = "error: the argument '--json' cannot be used with '--why'\n\n\
      Usage: lwbench one [OPTIONS] <HEX>\n\nFor more information, try '--help'.\n";
+
+/// What is said where a session is to be judged that is not saved.
+const EXPECTS_UNSAVED: &str =
+    "error: the following required arguments were not provided:\n  --save <FILE>\n\n\
+     Usage: lwbench fleet --save <FILE> --expect <FILE> <FILE> <PORT>\n\nFor more information, try '--help'.\n";
+
+/// What is said where a session is to be reported that is not judged.
+const REPORTS_NOTHING: &str =
+    "error: the following required arguments were not provided:\n  --expect <FILE>\n\n\
+     Usage: lwbench fleet --save <FILE> --expect <FILE> --junit <FILE> <FILE> <PORT>\n\n\
+     For more information, try '--help'.\n";
+
+/// What is said where `lint` has neither a file nor `--rules`.
+const LINTS_NOTHING: &str =
+    "error: the following required arguments were not provided:\n  <FILE>\n\n\
+     Usage: lwbench lint [OPTIONS] <FILE>\n       lwbench lint [OPTIONS] --rules\n\n\
+     For more information, try '--help'.\n";
+
+/// What is said where `lint` has a file and `--rules`.
+const LINTS_AND_LISTS: &str = "error: the argument '--rules' cannot be used with '<FILE>'\n\n\
+     Usage: lwbench lint [OPTIONS] <FILE>\n       lwbench lint [OPTIONS] --rules\n\n\
+     For more information, try '--help'.\n";
+
+/// What is said where the rules of `lint` are asked for as objects.
+const RULES_AS_OBJECTS: &str = "error: the argument '--json' cannot be used with '--rules'\n\n\
+     Usage: lwbench lint [OPTIONS] --rules\n\nFor more information, try '--help'.\n";
 
 /// How the entries of a trace are printed, or the outputs of a device.
 #[derive(Clone, Copy)]
@@ -173,6 +204,21 @@ pub enum Job<'a> {
         /// The paths of the files of cases.
         files: Vec<&'a str>,
         /// How the titles begin of the cases that are played; where it is not given, all are.
+        only: Option<&'a str>,
+        /// How it is printed what came of them.
+        form: CaseForm,
+        /// Where the JUnit report goes, if anywhere.
+        junit: Option<&'a str>,
+    },
+    /// Whether servers sent what they have to.
+    Expect {
+        /// The paths of the files of expectations.
+        files: Vec<&'a str>,
+        /// The path of the text or image of the scenario whose rows received what they sent.
+        image: &'a str,
+        /// The device that is looked at; where it is not given, all are.
+        device: Option<u16>,
+        /// How the titles begin of the cases that are looked at; where it is not given, all are.
         only: Option<&'a str>,
         /// How it is printed what came of them.
         form: CaseForm,
@@ -359,6 +405,8 @@ fn told(alloc: Global, error: &Error) -> Result<String, AllocError>
 fn usage(alloc: Global, found: &ArgMatches) -> Result<String, AllocError> {
     match found.subcommand() {
         Some(("test", test)) => String::from_str(alloc, test_usage(test)),
+        Some(("lint", lint)) => String::from_str(alloc, lint_usage(lint)),
+        Some(("fleet", fleet)) => String::from_str(alloc, fleet_usage(fleet)),
         Some(("show", _)) => String::from_str(alloc, SHOW_JSON_AND_WHY),
         Some(("play", _)) => String::from_str(alloc, PLAY_JSON_AND_WHY),
         Some(("one", _)) => String::from_str(alloc, ONE_JSON_AND_WHY),
@@ -367,9 +415,29 @@ fn usage(alloc: Global, found: &ArgMatches) -> Result<String, AllocError> {
 }
 
 fn test_usage(found: &ArgMatches) -> &'static str {
-    if flag(found, "list") {
+    if flag(found, "tap") && flag(found, "json") {
+        JSON_AND_TAP
+    } else if flag(found, "list") {
         LISTS_AND_PLAYS
     } else {
-        JSON_AND_TAP
+        DEVICE_OF_NOTHING
+    }
+}
+
+fn fleet_usage(found: &ArgMatches) -> &'static str {
+    if value_of(found, "expect").is_some() {
+        EXPECTS_UNSAVED
+    } else {
+        REPORTS_NOTHING
+    }
+}
+
+fn lint_usage(found: &ArgMatches) -> &'static str {
+    if !flag(found, "rules") {
+        LINTS_NOTHING
+    } else if value_of(found, "FILE").is_some() {
+        LINTS_AND_LISTS
+    } else {
+        RULES_AS_OBJECTS
     }
 }

@@ -127,6 +127,13 @@ impl Recording {
         self.complete
     }
 
+    /// The recorded steps.
+    pub(crate) fn steps(&self) -> &[Step]
+        ensures { result.now ≡ self.now.steps.items }
+    {
+        self.steps.as_slice()
+    }
+
     /// Copies of the recorded steps.
     pub(crate) fn copy_steps(&self, alloc: Global) -> Result<Vec<Step>, AllocError>
         ensures { IfOk result (λ steps. steps.items ≡ self.now.steps.items) }

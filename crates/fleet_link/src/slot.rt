@@ -120,6 +120,13 @@ impl Slot {
         self.recording.is_complete()
     }
 
+    /// Its recorded steps.
+    pub fn steps(&self) -> &[Step]
+        ensures { result.now ≡ self.now.recording.steps.items }
+    {
+        self.recording.steps()
+    }
+
     /// Copies of its recorded steps.
     pub(crate) fn copy_steps(&self, alloc: Global) -> Result<Vec<Step>, AllocError>
         ensures { IfOk result (λ steps. steps.items ≡ self.now.recording.steps.items) }

@@ -1,7 +1,7 @@
 use Rattle.std.proofs.Common.{refl, subst}
 use Rattle.command_line.specs.Words.{IsReadAs}
 use Rattle.bench_commands.proofs.Ended.{live_lost_if, lived_if, log_done_if, log_lost_if, text_done_if, text_unprinted_if}
-use Rattle.bench_commands.proofs.Fleets.{fleet_lost_if, served_if}
+use Rattle.bench_commands.proofs.Served.{fleet_lost_if, served_if}
 use Rattle.bench_commands.proofs.asked.answer_words.Goals as goal
 
 pub returns-in-Live-clause-done : goal.returns-in-Live-clause-done
@@ -18,12 +18,12 @@ returns-in-Live-clause-refused g c = λ words is_read.
 pub returns-in-Fleet-clause-done : goal.returns-in-Fleet-clause-done
 returns-in-Fleet-clause-done g c = λ words is_read.
     let read = subst (IsReadAs words) c.in-Fleet.is is_read in
-    served_if _ _ _ _ _ words c.in-Fleet.asked c.fleet.result read c.fleet.ensures.done refl
+    served_if _ _ _ _ _ words c.answer_fleet.result (c.answer_fleet.ensures.done words read) refl
 
 pub returns-in-Fleet-clause-refused : goal.returns-in-Fleet-clause-refused
 returns-in-Fleet-clause-refused g c = λ words is_read.
     let read = subst (IsReadAs words) c.in-Fleet.is is_read in
-    fleet_lost_if _ _ _ _ _ words c.in-Fleet.asked c.fleet.result read c.fleet.ensures.refused refl
+    fleet_lost_if _ _ _ _ _ words c.answer_fleet.result (c.answer_fleet.ensures.lost words read) refl
 
 pub returns-in-Log-clause-done : goal.returns-in-Log-clause-done
 returns-in-Log-clause-done g c = λ words is_read.

@@ -1,13 +1,14 @@
 use Rattle.std.proofs.Common.{ℕ, Bor, List, Option, map, option_map, refl, subst}
 use Rattle.trace_text.specs.declared.selection.Selection.{Selection}
 use Rattle.command_files.specs.Loading.{RunPaths}
+use Rattle.command_expect.specs.Expect.{IsExpectDone, IsExpectFault}
 use Rattle.command_join.specs.Join.{IsJoinDone, IsJoinFault}
 use Rattle.command_lint.specs.Lint.{IsLintDone, IsLintFault}
 use Rattle.command_lint.specs.declared.form.LintForm.{LintForm}
 use Rattle.command_play.specs.Play.{IsPlayDone}
 use Rattle.command_play.specs.declared.form.PlayForm.{PlayForm}
 use Rattle.command_test.specs.Jobs.{IsTestDone, IsTestFault, IsTitlesDone}
-use Rattle.command_test.specs.declared.form.ReportForm.{ReportForm}
+use Rattle.test_reports.specs.declared.form.ReportForm.{ReportForm}
 use Rattle.command_traces.specs.Traces.{IsShowDone}
 use Rattle.command_traces.specs.declared.form.TraceForm.{TraceForm}
 use Rattle.command_words.specs.Spelling.{IsSpellDone, IsSpellFault}
@@ -312,6 +313,39 @@ returns-in_err-answer-in-Test g c =
       idle = no_answer _ _ _ told;
       debugged = no_answer _ _ _ told;
       refused = refused_at_once _ _ _ _ _ _ _ _ _ told c.in-Test.is refused (refl, refl, refl);
+    }
+
+pub returns-in_ok-answer-in-Expect : goal.returns-in_ok-answer-in-Expect
+returns-in_ok-answer-in-Expect g c =
+    let image : List ℕ = c.in-Expect.image.now in
+    let only : Option (List ℕ) = option_map (λ w. w.now) c.in-Expect.only in
+    let junit : Option (List ℕ) = option_map (λ p. p.now) c.in-Expect.junit in
+    let done = subst (λ (l : List (Bor (List ℕ))). IsExpectDone (g.F.Files.holds c.args.files.now) (map (λ p. p.now) l)
+    image c.in-Expect.device only (report_form c.in-Expect.form)
+    junit c.in_ok-answer-in-Expect.answer) c.as_slice-in-Expect.ensures.value
+    (subst (λ (f : ReportForm). IsExpectDone (g.F.Files.holds c.args.files.now) (map (λ p. p.now)
+    c.as_slice-in-Expect.result.now) image c.in-Expect.device only f junit c.in_ok-answer-in-Expect.answer)
+    c.report_form-form-in-Expect.ensures c.in_ok-answer-in-Expect.ensures.done) in
+    record {
+      done = answered_at_once _ _ _ _ c.in-Expect.is done;
+      idle = (refl, refl, refl);
+      debugged = tt;
+      refused = tt;
+    }
+
+pub returns-in_err-answer-in-Expect : goal.returns-in_err-answer-in-Expect
+returns-in_err-answer-in-Expect g c =
+    let image : List ℕ = c.in-Expect.image.now in
+    let only : Option (List ℕ) = option_map (λ w. w.now) c.in-Expect.only in
+    let refused = subst (λ (l : List (Bor (List ℕ))). IsExpectFault (g.F.Files.holds c.args.files.now) (g.F.Files.fails
+    c.args.files.now) (map (λ p. p.now) l) image c.in-Expect.device only c.in_err-answer-in-Expect.field-0.0.fault)
+    c.as_slice-in-Expect.ensures.value c.in_err-answer-in-Expect.ensures.refused in
+    let told = c.from_residual-in_err-answer-in-Expect.ensures.1 in
+    record {
+      done = no_answer _ _ _ told;
+      idle = no_answer _ _ _ told;
+      debugged = no_answer _ _ _ told;
+      refused = refused_at_once _ _ _ _ _ _ _ _ _ told c.in-Expect.is refused (refl, refl, refl);
     }
 
 pub returns-in_ok-answer-in-Join : goal.returns-in_ok-answer-in-Join

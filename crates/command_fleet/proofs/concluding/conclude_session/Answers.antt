@@ -19,9 +19,10 @@ returns-clause-concluded g c =
       second = c.args.fleet.second;
       account = c.args.account;
     } in
-    concluded before after c.args.asked.now c.args.part.now session c.status_of.result c.shortfall_of-shortfall.result
-    c.shortfall_of-shortfall.ensures c.in_ok-print_session.ensures.printed c.in_ok-save_steps.ensures.saved
-    c.status_of.ensures
+    concluded before after c.args.asked.now c.args.part.now session
+    (record { status = c.status_of-status.result; saved = c.in_ok-saved.saved }) c.shortfall_of-shortfall.result
+    c.shortfall_of-shortfall.ensures c.in_ok-print_session.ensures.printed c.in_ok-saved.ensures.saved
+    c.in_ok-saved.ensures.scenario c.status_of-status.ensures
 
 pub returns-in_err-print_session-clause-refused : goal.returns-in_err-print_session-clause-refused
 returns-in_err-print_session-clause-refused g c =
@@ -50,8 +51,8 @@ returns-in_err-print_session-clause-refused g c =
     c.shortfall_of-shortfall.result c.shortfall_of-shortfall.ensures c.in_err-print_session.ensures.refused in
     search (rules, h)
 
-pub returns-in_err-save_steps-clause-refused : goal.returns-in_err-save_steps-clause-refused
-returns-in_err-save_steps-clause-refused g c =
+pub returns-in_err-saved-clause-refused : goal.returns-in_err-saved-clause-refused
+returns-in_err-saved-clause-refused g c =
     let files : FilesKnown = record {
       holds = g.F.Files.holds c.args.files.now;
       fails = g.F.Files.fails c.args.files.now;
@@ -73,7 +74,7 @@ returns-in_err-save_steps-clause-refused g c =
       second = c.args.fleet.second;
       account = c.args.account;
     } in
-    let h = steps_unsaved files faults before after c.args.asked.now session c.in_err-save_steps.field-0.0.fault
+    let h = steps_unsaved files faults before after c.args.asked.now session c.in_err-saved.field-0.0.fault
     c.shortfall_of-shortfall.result c.shortfall_of-shortfall.ensures c.in_ok-print_session.ensures.printed
-    c.in_err-save_steps.ensures.refused in
+    c.in_err-saved.ensures.refused in
     search (rules, h)
