@@ -1,26 +1,21 @@
 -- From the faults of the parts to those of the whole.
-use Rattle.std.proofs.Common.{ℕ, ◌≡◌, ◌≢◌, List, Err, rules, inl, inr}
-use Rattle.std.specs.Str.{IsUtf8}
+use Rattle.std.proofs.Common.{ℕ, ◌≡◌, ◌≢◌, List, Err, rules}
 use Rattle.case_text.specs.declared.fault.CaseFault.{CaseFault}
 use Rattle.case_text.specs.declared.fault.Why.{Why}
 use Rattle.case_text.specs.declared.fault.Why.TheVariants as why
 use Rattle.expectations.specs.ExpectedCases.{expected_cases_in}
-use Rattle.command_files.specs.Fault.{IsReadingFault, case_fault, refused_cases}
+use Rattle.command_files.specs.Fault.{case_fault, refused_cases}
+use Rattle.command_files.specs.Loading.{IsTextUnread}
 use Rattle.command_files.specs.declared.fault.Fault.{Fault}
 use Rattle.command_files.specs.declared.fault.Fault.TheVariants as faults
 use Rattle.command_expect.specs.Reading.{IsFileRefused, IsTextFault}
 
--- a file that was not read
-pub reading : (holds : List ℕ → List ℕ → Type 0) (fails : List ℕ → Type 0) (path : List ℕ) (f : Fault)
-    → IsReadingFault (fails path) f → IsFileRefused holds fails path f
-reading holds fails path faults.Memory h = tt
-reading holds fails path faults.Read h = inl h
-reading holds fails path _ h = absurd h
-
--- bytes that are no text
-pub no_text : (holds : List ℕ → List ℕ → Type 0) (fails : List ℕ → Type 0) (path bytes : List ℕ) → holds path bytes
-    → ¬ (IsUtf8 bytes) → IsFileRefused holds fails path faults.Read
-no_text holds fails path bytes held broken = inr (record { bytes = bytes; held = held; no_text = broken })
+-- a file of which no text was had
+pub unread_text : (holds : List ℕ → List ℕ → Type 0) (fails : List ℕ → Type 0) (path : List ℕ) (f : Fault)
+    → IsTextUnread holds fails path f → IsFileRefused holds fails path f
+unread_text holds fails path faults.Memory h = tt
+unread_text holds fails path faults.Read h = h
+unread_text holds fails path _ h = absurd h
 
 -- a text that has no expectations
 pub wrong : (holds : List ℕ → List ℕ → Type 0) (fails : List ℕ → Type 0) (path text : List ℕ) (f : Fault)

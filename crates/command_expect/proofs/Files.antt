@@ -9,7 +9,7 @@ use Rattle.command_files.specs.declared.fault.Fault.TheVariants.{Memory}
 use Rattle.command_expect.specs.Reading.{AreRead, IsExpectedFile, IsFileRefused, IsFirstRefused, IsRefusalOf}
 use Rattle.command_expect.specs.declared.expected_file.ExpectedFile.{ExpectedFile}
 
--- the paths behind references
+-- the paths at references
 abbrev pub paths_in : List (Bor (List ℕ)) → List (List ℕ)
 paths_in paths = map (λ p. p.now) paths
 

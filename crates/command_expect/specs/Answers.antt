@@ -30,7 +30,7 @@ abbrev pub junit_files : Option (List ℕ) → List ExpectedFile → List Judged
 junit_files None files all = []
 junit_files (Some path) files all = record { path = path; bytes = junit_text (are_several files) files all } ∷ []
 
--- the cases that are chosen were judged for the devices that are asked for, and this is printed and made of what came
+-- the cases that are chosen were judged for the devices that are asked for; this is printed and made of the verdicts
 pub record IsReportOn (only : Option (List ℕ)) (form : ReportForm) (junit_path : Option (List ℕ))
     (files : List ExpectedFile) (device : Option ℕ) (s : Scenario) (answer : Answer) : Type 0 where
   pub all : List JudgedCase

@@ -5,29 +5,9 @@ ghost use Rattle.command_expect.specs.Reading.{AreRead, IsExpectedFile, IsFileRe
 
 use crate::expected_file::ExpectedFile;
 use command_files::files::Files;
-use command_files::{Fault, Refusal, Why, read_file};
+use command_files::{Fault, Refusal, Why, read_text};
 use expectations::{ExpectedCase, read_expectations};
-use lwm2m_values::Text;
 use std::alloc::{AllocError, Global};
-
-/// The text of a file.
-#[tactic(auto, using(crate::proofs::Faults::reading, crate::proofs::Faults::no_text))]
-fn read_text<'a, F: Files>(alloc: Global, path: &'a str, files: &F) -> Result<Text, Refusal<'a>>
-    ensures held { IfOk result (F.holds files.now path.entry.now) }
-    ensures refused { IfErr result (λ r. IsFileRefused (F.holds files.now) (F.fails files.now) path.entry.now
-        r.fault) }
-    ensures names_path { IfErr result (λ r. option_map (λ p. p.now) r.about ≡ Some path.entry.now) }
-{
-    let bytes = read_file(alloc, path, files)?;
-    match String::from_utf8(bytes) {
-        Ok(text) => Ok(Text::from_string(text)),
-        Err(_) => Err(Refusal {
-            fault: Fault::Read,
-            about: Some(path),
-            why: Why::Known("not valid UTF-8"),
-        }),
-    }
-}
 
 /// The cases of a text. A fault names the path of its file.
 #[tactic(auto, using(crate::proofs::Faults::wrong_cases))]
@@ -47,7 +27,7 @@ fn cases_of<'a>(alloc: Global, path: &'a str, text: &str) -> Result<Vec<Expected
 }
 
 /// A file with its cases.
-#[tactic(auto, using(crate::proofs::Faults::wrong, crate::proofs::Files::expected_file))]
+#[tactic(auto, using(crate::proofs::Faults::unread_text, crate::proofs::Faults::wrong, crate::proofs::Files::expected_file))]
 fn read_expected_file<'a, F: Files>(
     alloc: Global,
     path: &'a str,

@@ -1,13 +1,26 @@
 -- From the faults of a file to those of what reads it.
-use Rattle.std.proofs.Common.{ℕ, ◌≡◌, ◌≢◌, List, rules}
+use Rattle.std.proofs.Common.{ℕ, ◌≡◌, ◌≢◌, ◌⊎◌, List, rules, inl, inr}
 use Rattle.std.proofs.Common.{subst, sym}
+use Rattle.std.specs.Str.{IsUtf8}
 use Rattle.byte_layout.specs.declared.fault.LayoutFault.{LayoutFault}
 use Rattle.byte_layout.specs.declared.fault.LayoutFault.TheVariants as layout
 use Rattle.command_files.specs.declared.fault.Fault.{Fault}
 use Rattle.command_files.specs.declared.fault.Fault.TheVariants as faults
 use Rattle.command_files.specs.Fault.{IsReadingFault, layout_fault}
 use Rattle.scenario_image.specs.Image.{HasImageFault}
-use Rattle.command_files.specs.Loading.{IsFileFault, IsImageFault, IsNoImage}
+use Rattle.command_files.specs.Loading.{IsFileFault, IsImageFault, IsNoImage, IsTextUnread}
+
+-- a file that was not read gave no text
+pub unread : (holds : List ℕ → List ℕ → Type 0) (fails : List ℕ → Type 0) (path : List ℕ) (f : Fault)
+    → IsReadingFault (fails path) f → IsTextUnread holds fails path f
+unread holds fails path faults.Memory h = tt
+unread holds fails path faults.Read h = inl h
+unread holds fails path _ h = absurd h
+
+-- bytes that are not a text
+pub not_text : (holds : List ℕ → List ℕ → Type 0) (fails : List ℕ → Type 0) (path bytes : List ℕ) → holds path bytes
+    → ¬ (IsUtf8 bytes) → IsTextUnread holds fails path faults.Read
+not_text holds fails path bytes held broken = inr (record { bytes = bytes; held = held; broken = broken })
 
 -- a file that was not read
 pub reading_file : (holds : List ℕ → List ℕ → Type 0) (fails : List ℕ → Type 0) (broken : List ℕ → LayoutFault → Type 0)

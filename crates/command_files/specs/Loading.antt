@@ -3,12 +3,14 @@
 -- Two relations say what is known of the files: `holds path bytes`, the file at the path had these bytes when it was
 -- read; `fails path`, it could not be read.
 use Rattle.std.specs.Prelude.{⊤, ℕ, ◌⊎◌, List}
+use Rattle.std.specs.Str.{IsUtf8}
 use Rattle.byte_layout.specs.declared.fault.LayoutFault.{LayoutFault}
 use Rattle.byte_layout.specs.Whole.{HasFault}
 use Rattle.scenario_image.specs.Scenario.{Scenario}
 use Rattle.scenario_image.specs.Image.{IsImage, HasImageFault}
 use Rattle.trace_file.specs.declared.entry.Entry.{Entry}
 use Rattle.trace_file.specs.Layout.{trace_file, IsTraceFile}
+use Rattle.command_files.specs.Fault.{IsReadingFault}
 use Rattle.command_files.specs.declared.fault.Fault.{Fault}
 use Rattle.command_files.specs.declared.fault.Fault.TheVariants as faults
 
@@ -38,6 +40,16 @@ pub record IsTraceAt (holds : List ℕ → List ℕ → Type 0) (path : List ℕ
   pub file : IsTraceFile bytes es
 
 -- ---- what is refused
+
+-- the file at the path is not a text: its bytes are not valid UTF-8
+pub record IsNotTextAt (holds : List ℕ → List ℕ → Type 0) (path : List ℕ) : Type 0 where
+  pub bytes : List ℕ
+  pub held : holds path bytes
+  pub broken : IsUtf8 bytes → ⊥
+
+-- no text was had from the file at the path: it could not be read, or it is not a text
+abbrev pub IsTextUnread : (List ℕ → List ℕ → Type 0) → (List ℕ → Type 0) → List ℕ → Fault → Type 0
+IsTextUnread holds fails path fault = IsReadingFault (fails path ⊎ IsNotTextAt holds path) fault
 
 -- why bytes are not the image of a scenario: their first fault from the left
 abbrev pub IsNoImage : List ℕ → Fault → Type 0

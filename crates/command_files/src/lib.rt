@@ -20,7 +20,7 @@ pub use fault::{Fault, FaultLine, case_cause, case_word};
 pub use hex_text::read_hex;
 pub use image::image_file;
 pub use input::Input;
-pub use loading::{image_of, load_scenario, load_trace, read_file};
+pub use loading::{image_of, load_scenario, load_trace, read_file, read_text};
 pub use output::Output;
 pub use refusal::{Refusal, Why, complaint};
 pub use status::Status;

@@ -3,12 +3,14 @@ ghost use Rattle.std.specs.Prelude.{◌≡◌, ◌≢◌, IfErr, IfOk, Some, opt
 ghost use Rattle.byte_layout.specs.declared.fault.LayoutFault.TheVariants.{Memory};
 ghost use Rattle.scenario_image.specs.Image.{IsImage, HasImageFault};
 ghost use Rattle.command_files.specs.Fault.{IsReadingFault};
-ghost use Rattle.command_files.specs.Loading.{IsImageFault, IsNoImage, IsScenarioAt, IsTraceAt, IsTraceFault};
+ghost use Rattle.command_files.specs.Loading.{IsImageFault, IsNoImage, IsScenarioAt, IsTextUnread, IsTraceAt};
+ghost use Rattle.command_files.specs.Loading.{IsTraceFault};
 
 use crate::fault::Fault;
 use crate::files::{FileFault, Files};
 use crate::refusal::{Refusal, Why};
 use byte_layout::LayoutFault;
+use lwm2m_values::Text;
 use scenario_image::{Scenario, load};
 use std::alloc::Global;
 use trace_file::{Entries, read_entries};
@@ -31,6 +33,24 @@ pub fn read_file<'a, F: Files>(
             why: Why::Known(why),
         }),
         Err(FileFault::Memory) => Err(refused_file(path, Fault::Memory)),
+    }
+}
+
+/// The text of the file at this path. A file that is not valid UTF-8 is refused as one that cannot be read.
+#[tactic(auto, using(crate::proofs::Faults::unread, crate::proofs::Faults::not_text))]
+pub fn read_text<'a, F: Files>(alloc: Global, path: &'a str, files: &F) -> Result<Text, Refusal<'a>>
+    ensures held { IfOk result (F.holds files.now path.entry.now) }
+    ensures refused { IfErr result (λ r. IsTextUnread (F.holds files.now) (F.fails files.now) path.entry.now r.fault) }
+    ensures names_path { IfErr result (λ r. option_map (λ p. p.now) r.about ≡ Some path.entry.now) }
+{
+    let bytes = read_file(alloc, path, files)?;
+    match String::from_utf8(bytes) {
+        Ok(text) => Ok(Text::from_string(text)),
+        Err(_) => Err(Refusal {
+            fault: Fault::Read,
+            about: Some(path),
+            why: Why::Known("not valid UTF-8"),
+        }),
     }
 }
 

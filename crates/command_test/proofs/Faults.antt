@@ -1,13 +1,13 @@
 -- From the faults of the parts to those of the whole.
-use Rattle.std.proofs.Common.{ℕ, ◌≡◌, ◌≢◌, List, Option, Err, length, map, rules, inl, inr}
+use Rattle.std.proofs.Common.{ℕ, ◌≡◌, ◌≢◌, List, Option, Err, length, map, rules}
 use Rattle.std.proofs.Common.{subst, sym, ap, ◌∙◌}
 use Rattle.std.proofs.lemmas.List.{nil_from_length}
-use Rattle.std.specs.Str.{IsUtf8}
 use Rattle.case_text.specs.Cases.{cases_in}
 use Rattle.case_text.specs.declared.fault.CaseFault.{CaseFault}
 use Rattle.case_text.specs.declared.fault.Why.{Why}
 use Rattle.case_text.specs.declared.fault.Why.TheVariants as why
-use Rattle.command_files.specs.Fault.{IsReadingFault, case_fault, refused_cases}
+use Rattle.command_files.specs.Fault.{case_fault, refused_cases}
+use Rattle.command_files.specs.Loading.{IsTextUnread}
 use Rattle.command_files.specs.declared.fault.Fault.{Fault}
 use Rattle.command_files.specs.declared.fault.Fault.TheVariants as faults
 use Rattle.command_test.specs.Jobs.{IsTestFault}
@@ -16,17 +16,12 @@ use Rattle.command_test.specs.Reading.{AreRead, IsCasesFault, IsFileRefused, IsR
 use Rattle.command_test.specs.declared.case_file.CaseFile.{CaseFile}
 use Rattle.command_test.specs.declared.test_case.TestCase.{TestCase}
 
--- a file that was not read
-pub reading : (holds : List ℕ → List ℕ → Type 0) (fails : List ℕ → Type 0) (path : List ℕ) (f : Fault)
-    → IsReadingFault (fails path) f → IsFileRefused holds fails path f
-reading holds fails path faults.Memory h = tt
-reading holds fails path faults.Read h = inl h
-reading holds fails path _ h = absurd h
-
--- bytes that are no text
-pub no_text : (holds : List ℕ → List ℕ → Type 0) (fails : List ℕ → Type 0) (path bytes : List ℕ) → holds path bytes
-    → ¬ (IsUtf8 bytes) → IsFileRefused holds fails path faults.Read
-no_text holds fails path bytes held broken = inr (record { bytes = bytes; held = held; no_text = broken })
+-- a file of which no text was had
+pub unread_text : (holds : List ℕ → List ℕ → Type 0) (fails : List ℕ → Type 0) (path : List ℕ) (f : Fault)
+    → IsTextUnread holds fails path f → IsFileRefused holds fails path f
+unread_text holds fails path faults.Memory h = tt
+unread_text holds fails path faults.Read h = h
+unread_text holds fails path _ h = absurd h
 
 -- a text that has no cases
 pub wrong : (holds : List ℕ → List ℕ → Type 0) (fails : List ℕ → Type 0) (path text : List ℕ) (f : Fault)

@@ -9,7 +9,7 @@ use Rattle.command_files.specs.declared.fault.Fault.TheVariants.{Memory}
 use Rattle.command_test.specs.Reading.{AreRead, IsCaseFile, IsFileRefused, IsFirstRefused, IsRefusalOf}
 use Rattle.command_test.specs.declared.case_file.CaseFile.{CaseFile}
 
--- the paths behind references
+-- the paths at references
 abbrev pub paths_in : List (Bor (List ℕ)) → List (List ℕ)
 paths_in paths = map (λ p. p.now) paths
 

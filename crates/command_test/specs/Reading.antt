@@ -3,8 +3,8 @@
 -- Two relations say what is known of the files: `holds path bytes`, the file at the path had these bytes when it was
 -- read; `fails path`, it could not be read.
 use Rattle.std.specs.Prelude.{⊤, ℕ, ◌≡◌, ◌⊎◌, List, ◌∷◌, ◌++◌, Option, Some, All, Ok, Err, map}
-use Rattle.std.specs.Str.{IsUtf8}
 use Rattle.case_text.specs.Cases.{cases_in}
+use Rattle.command_files.specs.Loading.{IsNotTextAt}
 use Rattle.command_files.specs.declared.fault.Fault.{Fault}
 use Rattle.command_files.specs.declared.fault.Fault.TheVariants.{Cases, Memory, Read}
 use Rattle.command_test.specs.declared.case_file.CaseFile.{CaseFile}
@@ -25,22 +25,16 @@ IsCasesFault text Memory = ⊤
 IsCasesFault text (Cases fault) = cases_in text ≡ Err fault
 IsCasesFault text _ = ⊥
 
--- the file at the path is no text: its bytes are no UTF-8
-pub record IsNoTextAt (holds : List ℕ → List ℕ → Type 0) (path : List ℕ) : Type 0 where
-  pub bytes : List ℕ
-  pub held : holds path bytes
-  pub no_text : IsUtf8 bytes → ⊥
-
 -- the file at the path has no cases, for this fault
 pub record HasNoCasesAt (holds : List ℕ → List ℕ → Type 0) (path : List ℕ) (fault : Fault) : Type 0 where
   pub bytes : List ℕ
   pub held : holds path bytes
   pub wrong : IsCasesFault bytes fault
 
--- the file at the path could not be read, is no text, or is a text that is refused
+-- no text was had from the file at the path, or its text is refused
 abbrev pub IsFileRefused : (List ℕ → List ℕ → Type 0) → (List ℕ → Type 0) → List ℕ → Fault → Type 0
 IsFileRefused holds fails path Memory = ⊤
-IsFileRefused holds fails path Read = fails path ⊎ IsNoTextAt holds path
+IsFileRefused holds fails path Read = fails path ⊎ IsNotTextAt holds path
 IsFileRefused holds fails path (Cases fault) = HasNoCasesAt holds path (Cases fault)
 IsFileRefused holds fails path _ = ⊥
 

@@ -6,28 +6,8 @@ ghost use Rattle.command_test.specs.Reading.{AreRead, IsCaseFile, IsCasesFault, 
 use crate::case_file::CaseFile;
 use case_text::{Case, read_cases};
 use command_files::files::Files;
-use command_files::{Fault, Refusal, Why, read_file};
-use lwm2m_values::Text;
+use command_files::{Fault, Refusal, Why, read_text};
 use std::alloc::{AllocError, Global};
-
-/// The text of a file.
-#[tactic(auto, using(crate::proofs::Faults::reading, crate::proofs::Faults::no_text))]
-fn read_text<'a, F: Files>(alloc: Global, path: &'a str, files: &F) -> Result<Text, Refusal<'a>>
-    ensures held { IfOk result (F.holds files.now path.entry.now) }
-    ensures refused { IfErr result (λ r. IsFileRefused (F.holds files.now) (F.fails files.now) path.entry.now
-        r.fault) }
-    ensures names_path { IfErr result (λ r. option_map (λ p. p.now) r.about ≡ Some path.entry.now) }
-{
-    let bytes = read_file(alloc, path, files)?;
-    match String::from_utf8(bytes) {
-        Ok(text) => Ok(Text::from_string(text)),
-        Err(_) => Err(Refusal {
-            fault: Fault::Read,
-            about: Some(path),
-            why: Why::Known("not valid UTF-8"),
-        }),
-    }
-}
 
 /// The cases of a text. A fault names the path of its file.
 #[tactic(auto, using(crate::proofs::Faults::wrong_cases))]
@@ -47,7 +27,7 @@ fn cases_of<'a>(alloc: Global, path: &'a str, text: &str) -> Result<Vec<Case>, R
 }
 
 /// A file with its cases.
-#[tactic(auto, using(crate::proofs::Faults::wrong, crate::proofs::Files::case_file))]
+#[tactic(auto, using(crate::proofs::Faults::unread_text, crate::proofs::Faults::wrong, crate::proofs::Files::case_file))]
 fn read_case_file<'a, F: Files>(
     alloc: Global,
     path: &'a str,

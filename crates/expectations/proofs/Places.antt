@@ -16,7 +16,7 @@ use Rattle.expectations.specs.Inside.{after, greatest, is_hit, is_within, later,
 use Rattle.expectations.specs.Inside.{silent, start, unreached, waited}
 use Rattle.expectations.specs.Laying.{AreMet, CanBeLaid, IsLaid, IsMissedAt, IsSent, IsSilent, IsWithin, More}
 
--- what holds at a place, if it is reached: of the datagrams behind it, from its second on
+-- what holds at a place, if it is reached: of the datagrams after it, from its second on
 abbrev pub Here : More → Option ℕ → List Arrival → Type 0
 Here more None ds = ⊥
 Here more (Some s) ds = more ds s
