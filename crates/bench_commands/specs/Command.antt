@@ -76,9 +76,10 @@ report_form case_forms.Text = report_forms.Text
 report_form case_forms.Tap = report_forms.Tap
 report_form case_forms.JsonLines = report_forms.JsonLines
 
-abbrev pub lint_form : Bool → LintForm
-lint_form false = lint_forms.Text
-lint_form true = lint_forms.JsonLines
+abbrev pub lint_form : AskedForm → LintForm
+lint_form asked_forms.Text = lint_forms.Text
+lint_form asked_forms.Reasons = lint_forms.Reasons
+lint_form asked_forms.JsonLines = lint_forms.JsonLines
 
 -- what `one` and `check` are answered with, in the form that is asked for
 abbrev pub IsOneAnswer : List ℕ → AskedForm → Answer → Type 0
@@ -120,8 +121,8 @@ IsDone holds (jobs.Expect files image device only form junit) answer =
     (option_map (λ p. p.now) junit) answer
 IsDone holds (jobs.Join output images) answer =
     IsJoinDone holds output.now (map (λ p. p.now) images.items) answer
-IsDone holds (jobs.Lint file only except json) answer =
-    IsLintDone holds (option_map (λ p. p.now) file) (lint_form json) (map (λ w. w.now) only.items)
+IsDone holds (jobs.Lint file only except form) answer =
+    IsLintDone holds (option_map (λ p. p.now) file) (lint_form form) (map (λ w. w.now) only.items)
     (map (λ w. w.now) except.items) answer
 
 -- a job is refused for this fault
@@ -152,7 +153,7 @@ IsRefusedJob holds fails (jobs.Expect files image device only form junit) fault 
     IsExpectFault holds fails (map (λ p. p.now) files.items) image.now device (option_map (λ w. w.now) only) fault
 IsRefusedJob holds fails (jobs.Join output images) fault =
     (about : Option (List ℕ)) × IsJoinFault holds fails (map (λ p. p.now) images.items) about fault
-IsRefusedJob holds fails (jobs.Lint file only except json) fault =
+IsRefusedJob holds fails (jobs.Lint file only except form) fault =
     IsLintFault holds fails (option_map (λ p. p.now) file) (map (λ w. w.now) only.items)
     (map (λ w. w.now) except.items) fault
 
@@ -374,7 +375,7 @@ abbrev pub job_wants_json : Job → Bool
 job_wants_json (jobs.One hex form) = is_json form
 job_wants_json (jobs.Play file device from to form) = is_json form
 job_wants_json (jobs.Check image trace json) = json
-job_wants_json (jobs.Lint file only except json) = json
+job_wants_json (jobs.Lint file only except form) = is_json form
 job_wants_json (jobs.Show image trace device from to form) = is_json form
 job_wants_json (jobs.Test files only form junit) = is_case_json form
 job_wants_json (jobs.Expect files image device only form junit) = is_case_json form

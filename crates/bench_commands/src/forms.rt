@@ -34,8 +34,9 @@ pub(crate) fn job_wants_json(job: &Job) -> bool
     ensures { result ≡ job_wants_json job.now }
 {
     match job {
-        Job::One { form, .. } | Job::Play { form, .. } | Job::Show { form, .. } => is_json(*form),
-        Job::Check { json, .. } | Job::Lint { json, .. } => *json,
+        Job::One { form, .. } | Job::Play { form, .. } => is_json(*form),
+        Job::Show { form, .. } | Job::Lint { form, .. } => is_json(*form),
+        Job::Check { json, .. } => *json,
         Job::Test { form, .. } | Job::Expect { form, .. } => is_case_json(*form),
         Job::Say { .. }
         | Job::Spell { .. }
@@ -94,12 +95,12 @@ pub(crate) fn form_of(form: AskedForm) -> TraceForm
 }
 
 /// The form of what is found that is asked for.
-pub(crate) fn lint_form(json: bool) -> LintForm
-    ensures { result ≡ lint_form json }
+pub(crate) fn lint_form(form: AskedForm) -> LintForm
+    ensures { result ≡ lint_form form }
 {
-    if json {
-        LintForm::JsonLines
-    } else {
-        LintForm::Text
+    match form {
+        AskedForm::Text => LintForm::Text,
+        AskedForm::Reasons => LintForm::Reasons,
+        AskedForm::JsonLines => LintForm::JsonLines,
     }
 }

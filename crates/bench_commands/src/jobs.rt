@@ -220,9 +220,9 @@ pub(crate) fn answer_to<'a, R: Threads + Wait + Sync, F: Files, I: Input, O: Out
             file,
             only,
             except,
-            json,
+            form,
         } => {
-            let form = lint_form(json);
+            let form = lint_form(form);
             let answer = lint(alloc, file, form, only.as_slice(), except.as_slice(), files)?;
             Ok(Some(answer))
         }

@@ -19,11 +19,11 @@ use Rattle.command_line.specs.declared.words.TraceForm.TheVariants as forms
 use Rattle.command_line.specs.declared.words.CaseForm.{CaseForm}
 use Rattle.command_line.specs.declared.words.CaseForm.TheVariants as case_forms
 use Rattle.command_line.specs.Words.{AsksFor, AsksForCaseForm, AsksForFleet, AsksForForm, AsksForLog, AsksForVerdict}
-use Rattle.command_line.specs.Words.{AsksForWire, AsksToLive, MayBeJson, StandsWith}
+use Rattle.command_line.specs.Words.{AsksForWire, AsksToLive, MayHaveForm, StandsWith}
 use Rattle.command_line.specs.Words.{IsReadAs, IsRefusedAs, MayAskFor, bench_app, is_set, refusals}
 use Rattle.command_line.specs.Inside.{IsTakenAs, LacksFleet, LacksJoin, LacksLint, LacksLive, LacksOne, LacksPlay}
 use Rattle.command_line.specs.Inside.{LacksRun, LacksSay, LacksShow, LacksTest, LacksVerdict, LacksWire}
-use Rattle.command_line.specs.Inside.{WantsTwoCaseForms, WantsTwoForms}
+use Rattle.command_line.specs.Inside.{WantsOtherForm, WantsTwoCaseForms, WantsTwoForms}
 
 -- words that exclude each other ask for no form
 one_form : (rows : List Row) (form : TraceForm) → WantsTwoForms rows → AsksForForm rows form → ⊥
@@ -48,7 +48,7 @@ no_one rows (jobs.Titles files only) none asks = search rules
 no_one rows (jobs.Test files only form junit) none asks = search rules
 no_one rows (jobs.Expect files image device only form junit) none asks = search rules
 no_one rows (jobs.Join output images) none asks = search rules
-no_one rows (jobs.Lint file only except json) none asks = search rules
+no_one rows (jobs.Lint file only except form) none asks = search rules
 
 pub no_spell : (rows : List Row) (job : Job) → all_of (codes "STATEMENT") rows ≡ None
     → AsksFor (codes "spell", rows) job → ⊥
@@ -67,7 +67,7 @@ no_spell rows (jobs.Titles files only) none asks = search rules
 no_spell rows (jobs.Test files only form junit) none asks = search rules
 no_spell rows (jobs.Expect files image device only form junit) none asks = search rules
 no_spell rows (jobs.Join output images) none asks = search rules
-no_spell rows (jobs.Lint file only except json) none asks = search rules
+no_spell rows (jobs.Lint file only except form) none asks = search rules
 
 pub no_play : (rows : List Row) (job : Job) → LacksPlay rows → AsksFor (codes "play", rows) job → ⊥
 no_play rows (jobs.One hex form) none asks = search rules
@@ -86,7 +86,7 @@ no_play rows (jobs.Titles files only) none asks = search rules
 no_play rows (jobs.Test files only form junit) none asks = search rules
 no_play rows (jobs.Expect files image device only form junit) none asks = search rules
 no_play rows (jobs.Join output images) none asks = search rules
-no_play rows (jobs.Lint file only except json) none asks = search rules
+no_play rows (jobs.Lint file only except form) none asks = search rules
 
 pub no_asm : (rows : List Row) (job : Job) → (first_of (codes "IN") rows ≡ None) ⊎ (first_of (codes "OUT") rows ≡ None)
     → AsksFor (codes "asm", rows) job → ⊥
@@ -106,7 +106,7 @@ no_asm rows (jobs.Titles files only) none asks = search rules
 no_asm rows (jobs.Test files only form junit) none asks = search rules
 no_asm rows (jobs.Expect files image device only form junit) none asks = search rules
 no_asm rows (jobs.Join output images) none asks = search rules
-no_asm rows (jobs.Lint file only except json) none asks = search rules
+no_asm rows (jobs.Lint file only except form) none asks = search rules
 
 pub no_dis : (rows : List Row) (job : Job) → first_of (codes "IN") rows ≡ None → AsksFor (codes "dis", rows) job → ⊥
 no_dis rows (jobs.One hex form) none asks = search rules
@@ -124,7 +124,7 @@ no_dis rows (jobs.Titles files only) none asks = search rules
 no_dis rows (jobs.Test files only form junit) none asks = search rules
 no_dis rows (jobs.Expect files image device only form junit) none asks = search rules
 no_dis rows (jobs.Join output images) none asks = search rules
-no_dis rows (jobs.Lint file only except json) none asks = search rules
+no_dis rows (jobs.Lint file only except form) none asks = search rules
 
 pub no_run : (rows : List Row) (job : Job) → LacksRun rows → AsksFor (codes "run", rows) job → ⊥
 no_run rows (jobs.One hex form) lacks asks = search rules
@@ -144,7 +144,7 @@ no_run rows (jobs.Titles files only) lacks asks = search rules
 no_run rows (jobs.Test files only form junit) lacks asks = search rules
 no_run rows (jobs.Expect files image device only form junit) lacks asks = search rules
 no_run rows (jobs.Join output images) lacks asks = search rules
-no_run rows (jobs.Lint file only except json) lacks asks = search rules
+no_run rows (jobs.Lint file only except form) lacks asks = search rules
 
 pub no_check : (rows : List Row) (job : Job) → (first_of (codes "IMAGE") rows ≡ None)
     ⊎ (first_of (codes "TRACE") rows ≡ None) → AsksFor (codes "check", rows) job → ⊥
@@ -164,7 +164,7 @@ no_check rows (jobs.Titles files only) none asks = search rules
 no_check rows (jobs.Test files only form junit) none asks = search rules
 no_check rows (jobs.Expect files image device only form junit) none asks = search rules
 no_check rows (jobs.Join output images) none asks = search rules
-no_check rows (jobs.Lint file only except json) none asks = search rules
+no_check rows (jobs.Lint file only except form) none asks = search rules
 
 pub no_show : (rows : List Row) (job : Job) → LacksShow rows → AsksFor (codes "show", rows) job → ⊥
 no_show rows (jobs.One hex form) lacks asks = search rules
@@ -184,7 +184,7 @@ no_show rows (jobs.Titles files only) lacks asks = search rules
 no_show rows (jobs.Test files only form junit) lacks asks = search rules
 no_show rows (jobs.Expect files image device only form junit) lacks asks = search rules
 no_show rows (jobs.Join output images) lacks asks = search rules
-no_show rows (jobs.Lint file only except json) lacks asks = search rules
+no_show rows (jobs.Lint file only except form) lacks asks = search rules
 
 pub no_debug : (rows : List Row) (job : Job) → (first_of (codes "IMAGE") rows ≡ None)
     ⊎ (first_of (codes "TRACE") rows ≡ None) → AsksFor (codes "debug", rows) job → ⊥
@@ -204,7 +204,7 @@ no_debug rows (jobs.Titles files only) none asks = search rules
 no_debug rows (jobs.Test files only form junit) none asks = search rules
 no_debug rows (jobs.Expect files image device only form junit) none asks = search rules
 no_debug rows (jobs.Join output images) none asks = search rules
-no_debug rows (jobs.Lint file only except json) none asks = search rules
+no_debug rows (jobs.Lint file only except form) none asks = search rules
 
 pub no_pcap : (rows : List Row) (job : Job) → (first_of (codes "IMAGE") rows ≡ None)
     ⊎ ((first_of (codes "TRACE") rows ≡ None) ⊎ (first_of (codes "OUT") rows ≡ None))
@@ -226,7 +226,7 @@ no_pcap rows (jobs.Titles files only) none asks = search rules
 no_pcap rows (jobs.Test files only form junit) none asks = search rules
 no_pcap rows (jobs.Expect files image device only form junit) none asks = search rules
 no_pcap rows (jobs.Join output images) none asks = search rules
-no_pcap rows (jobs.Lint file only except json) none asks = search rules
+no_pcap rows (jobs.Lint file only except form) none asks = search rules
 
 -- words that exclude each other ask for no titles, and for no cases that are played
 one_case_form : (rows : List Row) (form : CaseForm) → WantsTwoCaseForms rows → AsksForCaseForm rows form → ⊥
@@ -281,7 +281,7 @@ no_test rows (jobs.Expect files image device only form junit) (inr (inr (inr (no
     let lacks : first_of (codes "on") rows ≡ None = none in
     cc
 no_test rows (jobs.Join output images) lacks asks = search rules
-no_test rows (jobs.Lint file only except json) lacks asks = search rules
+no_test rows (jobs.Lint file only except form) lacks asks = search rules
 
 pub no_join : (rows : List Row) (job : Job) → LacksJoin rows → AsksFor (codes "join", rows) job → ⊥
 no_join rows (jobs.One hex form) lacks asks = search rules
@@ -300,7 +300,7 @@ no_join rows (jobs.Test files only form junit) lacks asks = search rules
 no_join rows (jobs.Expect files image device only form junit) lacks asks = search rules
 no_join rows (jobs.Join output images) (inl none) asks = search rules
 no_join rows (jobs.Join output images) (inr none) asks = cc
-no_join rows (jobs.Lint file only except json) lacks asks = search rules
+no_join rows (jobs.Lint file only except form) lacks asks = search rules
 
 -- a file and `--rules` exclude each other, and one of them has to be there
 lint_alone : {X : Type 0} (f : X → Word) (listed : Bool) (word : Option Word) (file : Option X)
@@ -308,11 +308,14 @@ lint_alone : {X : Type 0} (f : X → Word) (listed : Bool) (word : Option Word) 
 lint_alone f listed word None both is lists = search rules
 lint_alone f listed word (Some path) both is lists = search rules
 
--- without a file there are no objects
-no_objects : {X : Type 0} (f : X → Word) (set : Bool) (word : Option Word) (file : Option X) (json : Bool)
-    → word ≡ None → set ≡ true → word ≡ option_map f file → set ≡ json → MayBeJson file json → ⊥
-no_objects f set word None json none objects is same alone = search rules
-no_objects f set word (Some path) json none objects is same alone = search rules
+-- without a file there is text alone
+no_other_form : {X : Type 0} (f : X → Word) (rows : List Row) (word : Option Word) (file : Option X) (form : TraceForm)
+    → word ≡ None → WantsOtherForm rows → word ≡ option_map f file → AsksForForm rows form → MayHaveForm file form → ⊥
+no_other_form f rows word (Some path) form none other same asks alone = search rules
+no_other_form f rows word None forms.Text none (inl json) same asks alone = cc
+no_other_form f rows word None forms.Text none (inr why) same asks alone = cc
+no_other_form f rows word None forms.Reasons none other same asks alone = cc
+no_other_form f rows word None forms.JsonLines none other same asks alone = cc
 
 pub no_lint : (rows : List Row) (job : Job) → LacksLint rows → AsksFor (codes "lint", rows) job → ⊥
 no_lint rows (jobs.One hex form) lacks asks = search rules
@@ -330,11 +333,11 @@ no_lint rows (jobs.Titles files only) lacks asks = search rules
 no_lint rows (jobs.Test files only form junit) lacks asks = search rules
 no_lint rows (jobs.Expect files image device only form junit) lacks asks = search rules
 no_lint rows (jobs.Join output images) lacks asks = search rules
-no_lint rows (jobs.Lint file only except json) (inl both) asks =
+no_lint rows (jobs.Lint file only except form) (inl both) asks =
     lint_alone (λ p. p.now) (is_set (codes "rules") rows) (first_of (codes "FILE") rows) file both asks.1 asks.2
-no_lint rows (jobs.Lint file only except json) (inr (none, objects)) asks =
-    no_objects (λ p. p.now) (is_set (codes "json") rows) (first_of (codes "FILE") rows) file json none objects asks.1
-    asks.5 asks.6
+no_lint rows (jobs.Lint file only except form) (inr (inl two)) asks = one_form rows form two asks.5
+no_lint rows (jobs.Lint file only except form) (inr (inr (none, other))) asks =
+    no_other_form (λ p. p.now) rows (first_of (codes "FILE") rows) file form none other asks.1 asks.5 asks.6
 
 -- the words of a device on the network
 lacks_live : (rows : List Row) (live : Live) → LacksLive rows → AsksToLive (codes "live", rows) live → ⊥
@@ -360,7 +363,7 @@ live_alone rows (jobs.Titles files only) asks = search rules
 live_alone rows (jobs.Test files only form junit) asks = search rules
 live_alone rows (jobs.Expect files image device only form junit) asks = search rules
 live_alone rows (jobs.Join output images) asks = search rules
-live_alone rows (jobs.Lint file only except json) asks = search rules
+live_alone rows (jobs.Lint file only except form) asks = search rules
 
 pub not_live : (rows : List Row) (wanted : Asked) → LacksLive rows → MayAskFor (codes "live", rows) wanted → ⊥
 not_live rows (asked.Job job) lacks asks = live_alone rows job asks
@@ -420,7 +423,7 @@ fleet_alone rows (jobs.Titles files only) asks = search rules
 fleet_alone rows (jobs.Test files only form junit) asks = search rules
 fleet_alone rows (jobs.Expect files image device only form junit) asks = search rules
 fleet_alone rows (jobs.Join output images) asks = search rules
-fleet_alone rows (jobs.Lint file only except json) asks = search rules
+fleet_alone rows (jobs.Lint file only except form) asks = search rules
 
 pub not_fleet : (rows : List Row) (wanted : Asked) → LacksFleet rows → MayAskFor (codes "fleet", rows) wanted → ⊥
 not_fleet rows (asked.Job job) lacks asks = fleet_alone rows job asks
@@ -447,7 +450,7 @@ lacks_hex rows (jobs.Titles files only) lacks asks = search rules
 lacks_hex rows (jobs.Test files only form junit) lacks asks = search rules
 lacks_hex rows (jobs.Expect files image device only form junit) lacks asks = search rules
 lacks_hex rows (jobs.Join output images) lacks asks = search rules
-lacks_hex rows (jobs.Lint file only except json) lacks asks = search rules
+lacks_hex rows (jobs.Lint file only except form) lacks asks = search rules
 
 lacks_log : (rows : List Row) (server : ℕ) → LacksSay rows → AsksForLog (codes "say", rows) server → ⊥
 lacks_log rows server (inl none) asks = search rules

@@ -178,12 +178,11 @@ join_app = with_rule (with_rule (new_app (codes "join")) (needed (codes "OUT")))
 abbrev pub with_rules : App → App
 with_rules a = with_rule (with_rule a (text_options (codes "only"))) (text_options (codes "not"))
 
--- `lint [FILE] [--only RULE] .. [--not RULE] .. [--rules] [--json]`
+-- `lint [FILE] [--only RULE] .. [--not RULE] .. [--rules] [--json] [--why]`
 abbrev pub lint_app : App
 lint_app =
-    with_rule
+    with_trace_forms
     (with_rule (with_rules (with_rule (new_app (codes "lint")) (may_stand (codes "FILE")))) (flag (codes "rules")))
-    (flag (codes "json"))
 
 -- `FILE .. [--only WORDS]`
 abbrev pub with_cases : App → App
@@ -248,12 +247,6 @@ LacksFleet rows =
 abbrev pub LacksJoin : List Row → Type 0
 LacksJoin rows = (first_of (codes "OUT") rows ≡ None) ⊎ (all_of (codes "IMAGE") rows ≡ None)
 
--- `lint` has neither a file nor `--rules`, or both; or `--json` without a file
-abbrev pub LacksLint : List Row → Type 0
-LacksLint rows =
-    (is_set (codes "rules") rows ≡ is_some (first_of (codes "FILE") rows))
-    ⊎ ((first_of (codes "FILE") rows ≡ None) × (is_set (codes "json") rows ≡ true))
-
 -- `--list` stands beside `--tap`, `--json`, `--junit` or `--on`, of which each wants to know what comes of cases
 abbrev pub ListsAndPlays : List Row → Type 0
 ListsAndPlays rows =
@@ -282,6 +275,17 @@ LacksTest rows = (all_of (codes "FILE") rows ≡ None) ⊎ ExcludesInTest rows
 -- `--json` stands beside `--why`, of which each wants a form of its own
 abbrev pub WantsTwoForms : List Row → Type 0
 WantsTwoForms rows = (is_set (codes "json") rows ≡ true) × (is_set (codes "why") rows ≡ true)
+
+-- `--json` or `--why` stands there
+abbrev pub WantsOtherForm : List Row → Type 0
+WantsOtherForm rows = (is_set (codes "json") rows ≡ true) ⊎ (is_set (codes "why") rows ≡ true)
+
+-- `lint` has neither a file nor `--rules`, or both; or words that exclude each other; or asks for rules in a form that
+-- they do not have
+abbrev pub LacksLint : List Row → Type 0
+LacksLint rows =
+    (is_set (codes "rules") rows ≡ is_some (first_of (codes "FILE") rows))
+    ⊎ (WantsTwoForms rows ⊎ ((first_of (codes "FILE") rows ≡ None) × WantsOtherForm rows))
 
 -- `one` has no datagram, or words that exclude each other
 abbrev pub LacksOne : List Row → Type 0

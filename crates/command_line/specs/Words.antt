@@ -130,9 +130,10 @@ commands =
     ∷ text_option (codes "junit") ∷ flag (codes "strict") ∷ flag (codes "show") ∷ flag (codes "json") ∷ [])
     -- `join OUT IMAGE ..`
     ∷ command (codes "join") (needed (codes "OUT") ∷ several (codes "IMAGE") ∷ [])
-    -- `lint FILE [--only RULE] .. [--not RULE] .. [--json]`, `lint --rules [--only RULE] .. [--not RULE] ..`
+    -- `lint FILE [--only RULE] .. [--not RULE] .. [--json] [--why]`,
+    -- `lint --rules [--only RULE] .. [--not RULE] ..`
     ∷ command (codes "lint") (may_stand (codes "FILE") ∷ text_options (codes "only") ∷ text_options (codes "not")
-    ∷ flag (codes "rules") ∷ flag (codes "json") ∷ [])
+    ∷ flag (codes "rules") ∷ flag (codes "json") ∷ flag (codes "why") ∷ [])
     -- `test FILE .. [--only WORDS] [--on IMAGE] [--device N] [--list] [--tap] [--json] [--junit FILE]`
     ∷ command (codes "test") (several (codes "FILE") ∷ text_option (codes "only") ∷ text_option (codes "on")
     ∷ optional_number (codes "device") 65535 ∷ flag (codes "list") ∷ flag (codes "tap") ∷ flag (codes "json")
@@ -202,10 +203,10 @@ pub record IsWithoutRecord (rows : List Row) : Type 0 where
   pub no_image : first_of (codes "on") rows ≡ None
   pub no_device : IsNoNumber 16 (one_of (codes "device") rows)
 
--- objects are there of what is found in a file, and of nothing else
-abbrev pub MayBeJson : {X : Type 0} → Option X → Bool → Type 0
-MayBeJson None json = json ≡ false
-MayBeJson (Some file) json = ⊤
+-- other forms are there of what is found in a file, and of nothing else
+abbrev pub MayHaveForm : {X : Type 0} → Option X → TraceForm → Type 0
+MayHaveForm None form = form ≡ forms.Text
+MayHaveForm (Some file) form = ⊤
 
 -- a subcommand with its values asks for this
 abbrev pub AsksFor : Word × List Row → Job → Type 0
@@ -258,12 +259,12 @@ AsksFor found (jobs.Join output images) =
     (found.0 ≡ codes "join") × IsText found (codes "OUT") output.now
     × AreTexts found (codes "IMAGE") (map (λ p. p.now) images.items)
 -- `--rules` stands in the place of a file
-AsksFor found (jobs.Lint file only except json) =
+AsksFor found (jobs.Lint file only except form) =
     (found.0 ≡ codes "lint") × (first_of (codes "FILE") found.1 ≡ option_map (λ p. p.now) file)
     × (is_set (codes "rules") found.1 ≡ not (is_some file))
     × (unwrap_or (all_of (codes "only") found.1) [] ≡ map (λ w. w.now) only.items)
     × (unwrap_or (all_of (codes "not") found.1) [] ≡ map (λ w. w.now) except.items)
-    × (is_set (codes "json") found.1 ≡ json) × MayBeJson file json
+    × AsksForForm found.1 form × MayHaveForm file form
 
 -- a subcommand with its values asks for this device on the network
 abbrev pub AsksToLive : Word × List Row → Live → Type 0

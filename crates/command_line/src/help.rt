@@ -233,8 +233,9 @@ prints a line for each of them that breaks a rule, and at the end how many
   device D step K second S: RULE: WORDS (STANDARD section N)
   N findings
 The status is 3 if there is one. With `--only` these rules alone are looked at, with `--not` all but these.
-With `--json` prints each finding as an object in JSON, in a line, and so the count. With `--rules` in the
-place of FILE prints the rules. Writes no file.
+With `--why` a line below what a server sent says why the device handles it so. With `--json` prints each
+finding as an object in JSON, in a line, and so the count. With `--rules` in the place of FILE prints the
+rules. Writes no file.
 
 Example:
   lwbench lint night.image --not repeated-too-soon";

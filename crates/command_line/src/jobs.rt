@@ -131,7 +131,7 @@ fn show_job<'a>(found: &ArgMatches<'a>) -> Option<Job<'a>>
     })
 }
 
-/// In which form the words of `show`, `play` and `one` ask for an answer; none where they ask for two.
+/// In which form the words of `show`, `play`, `one` and `lint` ask for an answer; none where they ask for two.
 fn form_of(found: &ArgMatches) -> Option<TraceForm>
     ensures some { IfSome result (AsksForForm (rows_of (found_of found.now))) }
     ensures none { IfNone result (WantsTwoForms (rows_of (found_of found.now))) }
@@ -214,13 +214,13 @@ fn rules_job<'a>(
     ensures none { IfNone result (LacksLint (rows_of (found_of found.now))) }
 {
     let file = value_of(found, "FILE");
-    let json = flag(found, "json");
-    match (file, flag(found, "rules"), json) {
-        (Some(_), false, _) | (None, true, false) => Some(Job::Lint {
+    let form = form_of(found)?;
+    match (file, flag(found, "rules"), form) {
+        (Some(_), false, _) | (None, true, TraceForm::Text) => Some(Job::Lint {
             file,
             only,
             except,
-            json,
+            form,
         }),
         _ => None,
     }

@@ -345,7 +345,7 @@ fn lint_command<'a>(alloc: Global) -> Result<Command<'a>, AllocError>
     let file = may_stand(alloc, "FILE").help("The scenario, as text or as an image");
     let rules = flag(alloc, "rules").help("Prints the rules, and reads no file");
     let lint = described(alloc, "lint", about, help::LINT).arg(file)?;
-    with_rules(alloc, lint)?.arg(rules)?.arg(json(alloc))
+    with_trace_forms(alloc, with_rules(alloc, lint)?.arg(rules)?)
 }
 
 /// Adds the words for the rules that are looked at.

@@ -46,6 +46,11 @@ const PLAY_JSON_AND_WHY: &str = "error: the argument '--json' cannot be used wit
 const ONE_JSON_AND_WHY: &str = "error: the argument '--json' cannot be used with '--why'\n\n\
      Usage: lwbench one [OPTIONS] <HEX>\n\nFor more information, try '--help'.\n";
 
+/// The same of what servers did wrong.
+const LINT_JSON_AND_WHY: &str = "error: the argument '--json' cannot be used with '--why'\n\n\
+     Usage: lwbench lint [OPTIONS] <FILE>\n       lwbench lint [OPTIONS] --rules\n\n\
+     For more information, try '--help'.\n";
+
 /// What is said where a session is to be judged that is not saved.
 const EXPECTS_UNSAVED: &str =
     "error: the following required arguments were not provided:\n  --save <FILE>\n\n\
@@ -70,6 +75,10 @@ const LINTS_AND_LISTS: &str = "error: the argument '--rules' cannot be used with
 
 /// What is said where the rules of `lint` are asked for as objects.
 const RULES_AS_OBJECTS: &str = "error: the argument '--json' cannot be used with '--rules'\n\n\
+     Usage: lwbench lint [OPTIONS] --rules\n\nFor more information, try '--help'.\n";
+
+/// What is said where reasons are asked for beside the rules of `lint`.
+const RULES_WITH_REASONS: &str = "error: the argument '--why' cannot be used with '--rules'\n\n\
      Usage: lwbench lint [OPTIONS] --rules\n\nFor more information, try '--help'.\n";
 
 /// How the entries of a trace are printed, or the outputs of a device.
@@ -240,8 +249,8 @@ pub enum Job<'a> {
         only: Vec<&'a str>,
         /// The names of the rules that are not looked at.
         except: Vec<&'a str>,
-        /// Whether what is found is printed as JSON Lines; not where the rules are printed.
-        json: bool,
+        /// How what is found is printed; as text where the rules are printed.
+        form: TraceForm,
     },
 }
 
@@ -433,11 +442,15 @@ fn fleet_usage(found: &ArgMatches) -> &'static str {
 }
 
 fn lint_usage(found: &ArgMatches) -> &'static str {
-    if !flag(found, "rules") {
+    if flag(found, "json") && flag(found, "why") {
+        LINT_JSON_AND_WHY
+    } else if !flag(found, "rules") {
         LINTS_NOTHING
     } else if value_of(found, "FILE").is_some() {
         LINTS_AND_LISTS
-    } else {
+    } else if flag(found, "json") {
         RULES_AS_OBJECTS
+    } else {
+        RULES_WITH_REASONS
     }
 }

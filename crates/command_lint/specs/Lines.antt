@@ -1,5 +1,5 @@
 -- The lines of findings and of rules.
-use Rattle.std.specs.Prelude.{ℕ, ◌+◌, List, [], ◌++◌, Option, None, Some, codes, slice_get, take, drop}
+use Rattle.std.specs.Prelude.{ℕ, ◌≡◌, ◌+◌, List, [], ◌∷◌, ◌++◌, Option, None, Some, codes, slice_get, take, drop}
 use Rattle.std.specs.Fmt.{decimal}
 use Rattle.scenario_image.specs.Scenario.{Scenario}
 use Rattle.scenario_words.specs.Words.{ended_line}
@@ -11,8 +11,9 @@ use Rattle.server_lint.specs.Names.{rule_name, section_of, standard_of, summary_
 use Rattle.server_lint.specs.Text.{finding_text}
 use Rattle.command_lint.specs.History.{end_of, history_of}
 use Rattle.command_lint.specs.Objects.{count_json, finding_json}
+use Rattle.command_lint.specs.Reasons.{IsBelowAt}
 use Rattle.command_lint.specs.declared.form.LintForm.{LintForm}
-use Rattle.command_lint.specs.declared.form.LintForm.TheVariants.{Text, JsonLines}
+use Rattle.command_lint.specs.declared.form.LintForm.TheVariants.{Text, Reasons, JsonLines}
 use Rattle.command_lint.specs.declared.rows.Found.{Found}
 
 -- `device D step K second S: WORDS`
@@ -35,6 +36,7 @@ abbrev pub line_with : LintForm → ℕ → Rule → Transmission → List ℕ �
 line_with Text device rule t words =
     placed_line device t.step t.second
     (broken_words (rule_name rule) words (standard_of rule) (section_of rule))
+line_with Reasons device rule t words = line_with Text device rule t words
 line_with JsonLines device rule t words = json_line (finding_json device rule t words)
 
 -- the line of a rule that a datagram breaks which stands between these, in a history that ends in this second
@@ -55,9 +57,18 @@ abbrev pub found_line : LintForm → Scenario → Found → List ℕ
 found_line form s found =
     line_in form found.device (history_of s found.device) (end_of s found.device) found.finding
 
+-- the lines of what was found, each with what stands below it
+abbrev pub AreFoundLines : LintForm → Scenario → List Found → List ℕ → Type 0
+AreFoundLines form s [] text = text ≡ []
+AreFoundLines form s (f ∷ fs) text =
+    (below : List ℕ) × (rest : List ℕ)
+    × IsBelowAt form s f.device (slice_get (history_of s f.device) f.finding.place) below
+    × AreFoundLines form s fs rest × (text ≡ found_line form s f ++ (below ++ rest))
+
 -- `N findings`, or the object that says so
 abbrev pub count_line : LintForm → ℕ → List ℕ
 count_line Text n = ended_line (decimal n ++ codes " findings")
+count_line Reasons n = count_line Text n
 count_line JsonLines n = json_line (count_json n)
 
 -- `RULE (RFC 7252 section N): a server WHAT`

@@ -1,5 +1,5 @@
--- What `lint FILE [--only RULE] .. [--not RULE] .. [--json]` comes to: the findings that are printed, and what is
--- refused; and `lint --rules`, which names no file.
+-- What `lint FILE [--only RULE] .. [--not RULE] .. [--json] [--why]` comes to: the findings that are printed, and what
+-- is refused; and `lint --rules`, which names no file.
 --
 -- Two relations say what is known of the files: `holds path bytes`, the file at the path had these bytes when it was
 -- read; `fails path`, it could not be read.
@@ -20,7 +20,7 @@ use Rattle.command_files.specs.declared.status.Status.{Status}
 use Rattle.command_files.specs.declared.status.Status.TheVariants.{Done, NotRun, Usage}
 use Rattle.command_lint.specs.Choice.{chosen_rules, is_unknown}
 use Rattle.command_lint.specs.History.{end_of, history_of}
-use Rattle.command_lint.specs.Lines.{count_line, found_line, rule_line, unknown_line}
+use Rattle.command_lint.specs.Lines.{AreFoundLines, count_line, rule_line, unknown_line}
 use Rattle.command_lint.specs.declared.form.LintForm.{LintForm}
 use Rattle.command_lint.specs.declared.rows.Found.{Found}
 
@@ -51,7 +51,9 @@ status_of (f ∷ fs) = NotRun
 pub record IsLinted (form : LintForm) (chosen : List Rule) (s : Scenario) (answer : Answer) : Type 0 where
   pub found : List Found
   pub all : AreAllFound chosen s found
-  pub text_is : string_bytes answer.text ≡ flat_map (found_line form s) found ++ count_line form (length found)
+  pub lines : List ℕ
+  pub lines_are : AreFoundLines form s found lines
+  pub text_is : string_bytes answer.text ≡ lines ++ count_line form (length found)
   pub status_is : answer.status ≡ status_of found
   pub made_is : files_of answer.file ≡ []
 

@@ -3,6 +3,8 @@
 pub enum LintForm {
     /// A line of text for each.
     Text,
+    /// A line of text for each, and below it why the device handles so what it received.
+    Reasons,
     /// An object in JSON for each, in a line of its own.
     JsonLines,
 }

@@ -7,6 +7,7 @@ mod history;
 mod lines;
 mod linting;
 mod objects;
+mod reasons;
 mod rows;
 
 pub use form::LintForm;

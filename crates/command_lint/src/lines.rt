@@ -55,7 +55,7 @@ fn line_with(
     ensures { IfOk result (λ text. string_bytes text ≡ line_with form device rule t.now words.now) }
 {
     match form {
-        LintForm::Text => {
+        LintForm::Text | LintForm::Reasons => {
             let said = broken_words(alloc, rule.name(), words, rule.standard(), rule.section())?;
             placed_line(alloc, device, t.step(), t.second(), said.as_str())
         }
@@ -98,7 +98,7 @@ pub(crate) fn count_line(alloc: Global, form: LintForm, count: usize) -> Result<
     ensures { IfOk result (λ text. string_bytes text ≡ count_line form count) }
 {
     match form {
-        LintForm::Text => count_text(alloc, count),
+        LintForm::Text | LintForm::Reasons => count_text(alloc, count),
         LintForm::JsonLines => count_object(alloc, count),
     }
 }

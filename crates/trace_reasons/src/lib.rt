@@ -9,3 +9,4 @@ mod selection;
 
 pub use entries::selected_reasons;
 pub use laws::reasons_are_added;
+pub use lines::reason_lines;

@@ -17,7 +17,7 @@ use trace_file::Entry;
 use trace_text::{Transcript, sent_text};
 
 /// The lines why a device handles so what arrives in a step: one for a datagram, else none.
-pub(crate) fn reason_lines(
+pub fn reason_lines(
     alloc: Global,
     device: &Device,
     step: &Step,

@@ -381,10 +381,10 @@ returns-in_ok-answer-in-Lint g c =
     (map (λ w. w.now) c.as_slice-in-Lint.result.now) (map (λ w. w.now) c.as_slice-in-Lint-2.result.now)
     c.in_ok-answer-in-Lint.answer) c.lint_form-form.ensures c.in_ok-answer-in-Lint.ensures.done in
     let named = subst (λ (l : List (Bor (List ℕ))). IsLintDone (g.F.Files.holds c.args.files.now) file
-    (lint_form c.in-Lint.json) (map (λ w. w.now) l) (map (λ w. w.now) c.as_slice-in-Lint-2.result.now)
+    (lint_form c.in-Lint.form) (map (λ w. w.now) l) (map (λ w. w.now) c.as_slice-in-Lint-2.result.now)
     c.in_ok-answer-in-Lint.answer) c.as_slice-in-Lint.ensures.value formed in
     let done = subst (λ (l : List (Bor (List ℕ))). IsLintDone (g.F.Files.holds c.args.files.now) file
-    (lint_form c.in-Lint.json) (map (λ w. w.now) c.in-Lint.only.items) (map (λ w. w.now) l)
+    (lint_form c.in-Lint.form) (map (λ w. w.now) c.in-Lint.only.items) (map (λ w. w.now) l)
     c.in_ok-answer-in-Lint.answer) c.as_slice-in-Lint-2.ensures.value named in
     record {
       done = answered_at_once _ _ _ _ c.in-Lint.is done;

@@ -1,7 +1,6 @@
 use Rattle.std.proofs.Common.{◌∙◌, length, subst, sym}
-use Rattle.std.specs.String.{string_bytes}
 use Rattle.server_lint.specs.Findings.{AreThose, IsFinding, candidates}
-use Rattle.command_lint.proofs.Adding.{row_found_ok, row_told_ok}
+use Rattle.command_lint.proofs.Adding.{row_found_ok}
 use Rattle.command_lint.proofs.rows.add_row.Goals as goal
 
 pub returns-clause-those : goal.returns-clause-those
@@ -13,11 +12,3 @@ returns-clause-those c =
     (subst (λ l. AreThose (IsFinding c.args.chosen.now c.as_slice.result.now c.in_ok-history.history.end)
     (candidates (length c.as_slice.result.now)) l) (sym c.as_slice-3.ensures.value) c.in_ok-found.ensures)
     c.add_findings.ensures.items
-
-pub returns-clause-text : goal.returns-clause-text
-returns-clause-text c =
-    row_told_ok c.add_findings.result c.args.form c.args.scenario.now c.args.device c.as_slice-2.result.now
-    c.in_ok-history.history.end c.as_slice-3.result.now c.args.findings.now.items.items
-    c.add_findings.new.findings.items.items (string_bytes c.args.findings.now.text)
-    (string_bytes c.add_findings.new.findings.text) (c.as_slice-2.ensures.value ∙ c.in_ok-history.ensures.items)
-    c.in_ok-history.ensures.end c.add_findings.ensures.items c.add_findings.ensures.text
