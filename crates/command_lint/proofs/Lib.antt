@@ -1,5 +1,5 @@
 pub mod Steps
-pub mod Reasons
+pub mod Below
 pub mod Those
 pub mod Adding
 pub mod Words

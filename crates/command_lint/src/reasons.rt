@@ -77,7 +77,7 @@ fn move_to(
 }
 
 /// The lines why the device handles so what arrives in a step of its row: one for a datagram, else none.
-#[tactic(auto, using(crate::proofs::Reasons::no_step, crate::proofs::Reasons::step_within, crate::proofs::Reasons::of_step))]
+#[tactic(auto, using(crate::proofs::Below::no_step, crate::proofs::Below::step_within, crate::proofs::Below::of_step))]
 fn reasons_at(
     alloc: Global,
     scenario: &Scenario,
