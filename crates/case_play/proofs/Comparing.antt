@@ -3,6 +3,7 @@ use Rattle.std.proofs.Common.{◌≡◌, ℕ, ◌<◌, ◌≤◌, ◌⊎◌, inl
 use Rattle.std.proofs.Common.{Result, Ok, Err, IfOk, slice_get, refl, sym, ap, subst, ◌∙◌, arith}
 use Rattle.std.proofs.lemmas.Bool.{cases_lt}
 use Rattle.std.proofs.lemmas.Option.{slice_get_within}
+use Rattle.lemmas.proofs.Lists.{item_at}
 use Rattle.device_machine.specs.declared.output.Output.{Output}
 use Rattle.scenario_image.specs.Scenario.{Scenario}
 use Rattle.case_text.specs.declared.answer.Answer.{Answer}
@@ -13,14 +14,14 @@ use Rattle.case_play.specs.Spots.{Spot, spot_after, PutsOut}
 use Rattle.case_play.specs.Holds.{has_right, has_wrong, HoldBy, Hold, IsAnswered, IsWrongIn}
 use Rattle.case_play.specs.Holds.{line_or, IsNamed}
 use Rattle.case_play.specs.Walks.{IsAt, IsCompared, IsChecked}
-use Rattle.case_play.proofs.Rows.{some_at, puts_same}
+use Rattle.case_play.proofs.Rows.{puts_same}
 
 -- ---- answers that are all so, and a first that is not
 
 past_or : {X : Type 0} (xs : List X) (i : ℕ) → slice_get xs i ≡ None → (i < length xs) ⊎ (length xs ≤ i)
     → length xs ≤ i
 past_or xs i none (inl less) =
-    let found = some_at xs i less in let e : Some found.0 ≡ None = sym found.1 ∙ none in absurd cc
+    let found = item_at xs i less in let e : Some found.0 ≡ None = sym found.1 ∙ none in absurd cc
 past_or xs i none (inr le) = le
 
 is_past : {X : Type 0} (xs : List X) (i : ℕ) → slice_get xs i ≡ None → length xs ≤ i

@@ -31,10 +31,6 @@ no_port text place spelled none ip port (other, spells, same, plain, some) =
     let is : other ≡ place = IsSocketText_unique text other place spells spelled in
     none port (subst (λ p. IsPlainSocket p port) is plain) some
 
-pub if_none : {X : Type 0} (r : Option X) (P : Type 0) → P → IfNone r P
-if_none None P p = p
-if_none (Some x) P p = tt
-
 -- neither an address nor an address with a port
 pub no_place : (text : List ℕ) → ((ip : IpAddr) → IsIpText text ip → ⊥)
     → ((ip : IpAddr) (port : ℕ) → IsServerPlace text ip (Some port) → ⊥) → (server : FixedServer)

@@ -1,18 +1,11 @@
 -- Rows that are added to a scenario, step by step.
-use Rattle.std.proofs.Common.{ℕ, ◌≡◌, ◌+◌, ◌-◌, ◌<◌, List, [], ◌∷◌, ◌++◌, length, take, get_or, Some, slice_get}
-use Rattle.std.proofs.Common.{append_assoc, refl, sym, ap, ◌∙◌, arith}
+use Rattle.std.proofs.Common.{ℕ, ◌≡◌, ◌+◌, ◌<◌, List, [], ◌∷◌, ◌++◌, length, take, get_or, Some, slice_get}
+use Rattle.std.proofs.Common.{append_assoc, sym, ap, ◌∙◌}
 use Rattle.std.proofs.lemmas.List.{take_more}
 use Rattle.std.specs.List.{slice_set}
-use Rattle.lemmas.proofs.Lists.{item_pushed, length_pushed, take_one_more}
+use Rattle.lemmas.proofs.Lists.{item_pushed, take_one_more, set_pushed, last_place}
 use Rattle.scenario_image.specs.declared.step.Step.{Step}
 use Rattle.scenario_image.specs.Scenario.{Row, Scenario, last_row, longer, with_last, with_step}
-
-set_pushed : {X : Type 0} (xs : List X) (x y : X) → slice_set (xs ++ x ∷ []) (length xs) y ≡ xs ++ y ∷ []
-set_pushed [] x y = refl
-set_pushed (z ∷ xs) x y = ap (λ l. z ∷ l) (set_pushed xs x y)
-
-last_place : {X : Type 0} (xs : List X) (x : X) → length (xs ++ x ∷ []) - 1 ≡ length xs
-last_place xs x = omega (arith, length_pushed xs x)
 
 -- a step more of the last row
 last_longer : (rows : List Row) (row : Row) (step : Step)

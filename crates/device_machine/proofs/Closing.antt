@@ -6,6 +6,7 @@ use Rattle.std.specs.List.{filter, list_any, slice_get}
 use Rattle.std.specs.Option.{option_and_then, option_map}
 use Rattle.std.proofs.lemmas.Bool.Decides.{nat_tests}
 use Rattle.std.proofs.lemmas.Option.{slice_get-map}
+use Rattle.lemmas.proofs.Lists.{none_found}
 use Rattle.coap_codec.specs.Message.{Message}
 use Rattle.coap_codec.specs.declared.kind.Kind.TheVariants.{Ack}
 use Rattle.object_defs.specs.declared.path.Path.{Path}
@@ -119,14 +120,6 @@ others f server bytes m a reading k h =
     reached f server bytes m a reading ∙ ap (on_message f server m) k ∙ ignored_by f server m h
 
 -- ---- a Read that says Observe 0 or 1
-
-none_found : {X : Type 0} (p : X → Bool) (xs : List X) → list_any p xs ≡ false → find p xs ≡ None
-none_found p [] h = refl
-none_found p (x ∷ xs) h =
-    elim (p x) as (λ b. (b || list_any p xs) ≡ false → cond b (Some x) (find p xs) ≡ None) [
-      | true ↦ λ k. cc
-      | false ↦ λ k. none_found p xs k
-    ] h
 
 none_of_them : {X : Type 0} (p : X → Bool) (xs : List X) → find p (filter (λ x. not (p x)) xs) ≡ None
 none_of_them p [] = refl

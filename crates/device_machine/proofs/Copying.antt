@@ -9,6 +9,7 @@ use Rattle.std.specs.Cmp.Derive.{both_true}
 use Rattle.std.specs.Option.{option_or}
 use Rattle.std.proofs.lemmas.Bool.{eqb-true}
 use Rattle.std.proofs.lemmas.Bool.Decides.{nat_tests}
+use Rattle.lemmas.proofs.Tests.{and_first}
 use Rattle.coap_codec.specs.Fault.{HasEarlyFault, HasFault, amount, header_fault, option_fault, place_fault}
 use Rattle.coap_codec.specs.Fault.{is_empty_message, token_length, width}
 use Rattle.coap_codec.specs.Message.{Message, Spells, kind_number, options_bytes, payload_bytes, spelling}
@@ -268,10 +269,6 @@ ignored f server bytes all e =
 
 -- ---- a message that takes memory is a CON, or a NON that is copied
 
-first_true : (a b : Bool) → (a && b) ≡ true → a ≡ true
-first_true true b h = refl
-first_true false b h = h
-
 or_last : (c n k : Bool) → n ≡ true → k ≡ true → (c || (n && k)) ≡ true
 or_last true n k h e = refl
 or_last false n k h e = rw (h, e) refl
@@ -284,7 +281,7 @@ grows_of f server bytes m Con spells whole k g =
 grows_of f server bytes m Non spells whole k g =
     or_last (claims_confirmable bytes) (claims_non_confirmable bytes) (is_copied bytes)
     (type_claimed bytes m Non spells k)
-    (copies bytes whole (not_bare bytes m spells (first_true (is_request m.code) _ g)))
+    (copies bytes whole (not_bare bytes m spells (and_first (is_request m.code) _ g)))
 grows_of f server bytes m Ack spells whole k g = absurd cc
 grows_of f server bytes m Rst spells whole k g = absurd cc
 

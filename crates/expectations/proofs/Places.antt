@@ -6,6 +6,7 @@ use Rattle.std.specs.List.{AllByRecursion, list_any}
 use Rattle.std.proofs.lemmas.List.{append-nil}
 use Rattle.std.proofs.Math.Seq.{take-suc}
 use Rattle.std.proofs.lemmas.Bool.Decides.{nat_tests}
+use Rattle.lemmas.proofs.Tests.{and_first, and_second}
 use Rattle.expectations.specs.declared.arrival.Arrival.{Arrival}
 use Rattle.expectations.specs.declared.expectation.Expectation.{Expectation}
 use Rattle.expectations.specs.declared.expectation.Expected.{Expected}
@@ -94,14 +95,6 @@ in_time_later (Some n) since latest second order h = omega (arith, order, h)
 and_both : (a b : Bool) → a ≡ true → b ≡ true → (a && b) ≡ true
 and_both true b p q = q
 and_both false b p q = cc
-
-and_first : (a b : Bool) → (a && b) ≡ true → a ≡ true
-and_first true b h = refl
-and_first false b h = cc
-
-and_second : (a b : Bool) → (a && b) ≡ true → b ≡ true
-and_second true b h = h
-and_second false b h = cc
 
 sent_later : (server : ℕ) (w : What) (within : Option ℕ) (more : More) (ds : List Arrival) (s t : ℕ) → s ≤ t
     → IsSent server w within more ds s → IsSent server w within more ds t

@@ -8,7 +8,7 @@ use Rattle.std.proofs.lemmas.List.Sums.{fails_before_first}
 use Rattle.std.proofs.lemmas.Bool.{eq-eqb, ne_eqb}
 use Rattle.std.proofs.lemmas.List.Quantifiers.{position-Some}
 use Rattle.std.proofs.lemmas.Option.{slice_get_read}
-use Rattle.lemmas.proofs.Lists.{drop_opens, each_appended}
+use Rattle.lemmas.proofs.Lists.{drop_opens, each_appended, each_front}
 use Rattle.fleet_wire.specs.declared.lane.Held.{Held}
 use Rattle.fleet_wire.specs.declared.plan.Fate.{Fate}
 use Rattle.fleet_wire.specs.declared.plan.Fate.TheVariants.{Late, Lost, Passes, Swapped, Twice}
@@ -34,11 +34,6 @@ rejoined [] (suc i) = refl
 rejoined (x ∷ xs) zero = refl
 rejoined (x ∷ xs) (suc i) = ap (λ t. x ∷ t) (rejoined xs i)
 
--- what is said of each of the parts is said of the whole, and the other way round
-pub each_front : {X : Type 0} (P : X → Type 0) (xs ys : List X) → AllByRecursion P (xs ++ ys) → AllByRecursion P xs
-each_front P [] ys h = tt
-each_front P (x ∷ xs) ys h = (h.0, each_front P xs ys h.1)
-
 pub each_back : {X : Type 0} (P : X → Type 0) (xs ys : List X) → AllByRecursion P (xs ++ ys) → AllByRecursion P ys
 each_back P [] ys h = h
 each_back P (x ∷ xs) ys h = each_back P xs ys h.1
@@ -46,10 +41,6 @@ each_back P (x ∷ xs) ys h = each_back P xs ys h.1
 pub each_without : {X : Type 0} (P : X → Type 0) (xs : List X) (x : X) (ys : List X)
     → AllByRecursion P (xs ++ x ∷ ys) → AllByRecursion P (xs ++ ys)
 each_without P xs x ys h = let k = each_back P xs (x ∷ ys) h in each_appended P xs ys (each_front P xs (x ∷ ys) h) k.1
-
-pub each_here : {X : Type 0} (P : X → Type 0) (xs : List X) (x : X) (ys : List X)
-    → AllByRecursion P (xs ++ x ∷ ys) → P x
-each_here P xs x ys h = let k = each_back P xs (x ∷ ys) h in k.0
 
 -- ---- the first that passes
 

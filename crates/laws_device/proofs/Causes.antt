@@ -7,6 +7,7 @@ use Rattle.std.specs.Str.{bytes_eq}
 use Rattle.std.proofs.lemmas.Bool.Decides.{nat_tests}
 use Rattle.std.proofs.lemmas.Slice.Eq.{bytes_eq-Decides}
 use Rattle.std.proofs.lemmas.Bool.{or_left, or_right, not-true, not_from_false}
+use Rattle.lemmas.proofs.Lists.{each_appended, each_weaker}
 use Rattle.notifier.specs.Trigger.{differ, has_condition, is_above, is_below, is_due, is_triggered}
 use Rattle.notifier.specs.Trigger.{crosses_gt as crossed_gt, crosses_lt as crossed_lt, number_triggers}
 use Rattle.notifier.specs.Trigger.{steps_st as stepped_st}
@@ -18,7 +19,7 @@ use Rattle.device_notifications.specs.Report.{number_at}
 use Rattle.device_notifications.specs.Message.{open_notification}
 use Rattle.device_notifications.specs.Second.{age_of, is_due_now, present, second, seconds, triggers_now, turn_of}
 use Rattle.device_notifications.specs.declared.datagram.Datagram.{Datagram}
-use Rattle.device_notifications.proofs.Turns.{both, by_all, first_of, of_option, weaker}
+use Rattle.device_notifications.proofs.Turns.{by_all, first_of, of_option}
 use Rattle.laws_device.specs.Notifying.{IsCaused, IsCausedBy, IsCausedInOneOf, NotifiesForCause, Passes}
 use Rattle.laws_device.specs.Notifying.{SecondsNotifyForCause, condition}
 use Rattle.laws_device.specs.Notifying.IsCaused.{elapsed, passed, changed}
@@ -233,8 +234,8 @@ sent_by client clock next_id o os =
 pub for_cause : NotifiesForCause
 for_cause client clock next_id [] = tt
 for_cause client clock next_id (o ∷ os) =
-    both _ (turn_of client clock next_id o).sent _ (sent_by client clock next_id o os)
-    (weaker (IsCausedBy client clock os) (IsCausedBy client clock (o ∷ os))
+    each_appended _ (turn_of client clock next_id o).sent _ (sent_by client clock next_id o os)
+    (each_weaker (IsCausedBy client clock os) (IsCausedBy client clock (o ∷ os))
     (λ d h. (h.0, later_of o h.0 os h.1, h.2)) _
     (for_cause client clock (turn_of client clock next_id o).next_id os))
 
@@ -259,10 +260,10 @@ pub seconds_for_cause : SecondsNotifyForCause
 seconds_for_cause client clock zero next_id os = tt
 seconds_for_cause client clock (suc n) next_id os =
     let t = second client (clock + 1) next_id os in
-    both (IsCausedInOneOf client clock (suc n) next_id os) t.sent (seconds client (clock + 1) n t.next_id t.left).sent
-    (weaker (IsCausedBy client (clock + 1) os) (IsCausedInOneOf client clock (suc n) next_id os)
+    each_appended (IsCausedInOneOf client clock (suc n) next_id os) t.sent (seconds client (clock + 1) n t.next_id t.left).sent
+    (each_weaker (IsCausedBy client (clock + 1) os) (IsCausedInOneOf client clock (suc n) next_id os)
     (in_first client clock n next_id os) t.sent (for_cause client (clock + 1) next_id os))
-    (weaker (IsCausedInOneOf client (clock + 1) n t.next_id t.left) (IsCausedInOneOf client clock (suc n) next_id os)
+    (each_weaker (IsCausedInOneOf client (clock + 1) n t.next_id t.left) (IsCausedInOneOf client clock (suc n) next_id os)
     (in_later client clock n next_id os)
     (seconds client (clock + 1) n t.next_id t.left).sent
     (seconds_for_cause client (clock + 1) n t.next_id t.left))

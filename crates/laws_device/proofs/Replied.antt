@@ -6,7 +6,7 @@ use Rattle.std.specs.Bool.{if◌then◌else◌}
 use Rattle.std.specs.List.{AllByRecursion, find}
 use Rattle.std.proofs.lemmas.Bool.Decides.{nat_tests}
 use Rattle.std.proofs.lemmas.Option.{none-some}
-use Rattle.lemmas.proofs.Lists.{each_filtered}
+use Rattle.lemmas.proofs.Lists.{each_filtered, each_appended}
 use Rattle.coap_codec.specs.Message.{IsOptionList, IsWellFormed, Message, spelling}
 use Rattle.coap_codec.specs.declared.kind.Kind.{Kind}
 use Rattle.coap_codec.specs.declared.kind.Kind.TheVariants.{Con, Non, Ack, Rst}
@@ -15,7 +15,6 @@ use Rattle.notifier.specs.Observed.{was_sent}
 use Rattle.object_defs.specs.declared.path.InstancePath.{InstancePath}
 use Rattle.device_requests.specs.declared.answer.Answer.{Answer}
 use Rattle.device_notifications.specs.Message.{format_options}
-use Rattle.device_notifications.proofs.Turns.{both}
 use Rattle.device_machine.specs.Reactions.{IsShort, answer_options, location_options, response}
 use Rattle.device_machine.specs.State.{Machine}
 use Rattle.coap_codec.specs.Reading.{reading_of}
@@ -139,7 +138,7 @@ served_fits f server bytes m h good s served =
     (flat_after f (Recv server bytes)).kept.observations served.observes).left_is in
     record {
       sent = subst (λ os. AllByRecursion SendsMessage os) (sym served.sent)
-          (both SendsMessage (sent_to server bytes_sent) (acted outcome.answer.act)
+          (each_appended SendsMessage (sent_to server bytes_sent) (acted outcome.answer.act)
           (sent_message server bytes_sent fits.0) (acts outcome.answer.act));
       sound = record {
         next_id = fits.1;
@@ -147,7 +146,7 @@ served_fits f server bytes m h good s served =
             (observed_fits (with_client f.kept outcome.client) server m outcome.answer (interest_of m) h.observations
             good.token);
         replies = subst (λ rs. AllByRecursion HasReply rs) (sym served.recorded)
-            (both HasReply f.recorded (record_of f.kept server m bytes_sent ∷ []) h.replies (fits.0, tt));
+            (each_appended HasReply f.recorded (record_of f.kept server m bytes_sent ∷ []) h.replies (fits.0, tt));
       };
     }
 

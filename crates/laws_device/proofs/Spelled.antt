@@ -5,6 +5,7 @@ use Rattle.std.proofs.Common.{option_map, refl, subst, arith}
 use Rattle.std.specs.Bool.{if◌then◌else◌}
 use Rattle.std.specs.List.{AllByRecursion}
 use Rattle.std.proofs.lemmas.Option.{same_Some, none-some}
+use Rattle.lemmas.proofs.Lists.{each_appended}
 use Rattle.coap_codec.specs.Message.{IsOptionList, IsWellFormed, Message, spelling}
 use Rattle.coap_codec.specs.Number.{shortest}
 use Rattle.coap_codec.specs.Options.{number_option}
@@ -27,7 +28,7 @@ use Rattle.device_notifications.specs.Message.{datagram_of, format_options, open
 use Rattle.device_notifications.specs.Second.{Sweep, next_notification, notified_kind, present, second, seconds}
 use Rattle.device_notifications.specs.Second.{sends_nons, told, turn_of}
 use Rattle.device_notifications.specs.declared.datagram.Datagram.{Datagram}
-use Rattle.device_notifications.proofs.Turns.{both, by_all, of_option}
+use Rattle.device_notifications.proofs.Turns.{by_all, of_option}
 use Rattle.device_machine.specs.Reactions.{send_of, sweep_in}
 use Rattle.device_machine.specs.State.{Machine}
 use Rattle.device_machine.specs.Reactions.{Reaction}
@@ -191,8 +192,8 @@ second_fits client clock next_id (o ∷ os) h k =
     let a = turn_fits client clock next_id o h.0 k in
     let b = second_fits client clock t.next_id os h.1 a.next_id in
     record {
-      sent = both HasMessage t.sent u.sent a.sent b.sent;
-      left = both HasMessages t.left u.left a.left b.left;
+      sent = each_appended HasMessage t.sent u.sent a.sent b.sent;
+      left = each_appended HasMessages t.left u.left a.left b.left;
       next_id = b.next_id;
     }
 
@@ -205,7 +206,7 @@ seconds_fit client clock (suc n) next_id os h k =
     let a = second_fits client (clock + 1) next_id os h k in
     let b = seconds_fit client (clock + 1) n t.next_id t.left a.left a.next_id in
     record {
-      sent = both HasMessage t.sent (seconds client (clock + 1) n t.next_id t.left).sent a.sent b.sent;
+      sent = each_appended HasMessage t.sent (seconds client (clock + 1) n t.next_id t.left).sent a.sent b.sent;
       left = b.left;
       next_id = b.next_id;
     }

@@ -4,6 +4,7 @@ use Rattle.std.proofs.Common.{Option, Result, Ok, Err, ◌↔◌, OnOk, IfErr, r
 use Rattle.std.proofs.Common.{append-nil, arith, zero-add}
 use Rattle.std.specs.Bool.{IsTrue}
 use Rattle.std.specs.List.{AllByRecursion}
+use Rattle.lemmas.proofs.Tests.{never_both}
 use Rattle.device_machine.specs.declared.event.Event.{Event as Happening}
 use Rattle.device_machine.specs.declared.event.Event.TheVariants.{Recv, Put, Firmware, Tick}
 use Rattle.device_machine.specs.declared.fault.StepFault.TheVariants as faults
@@ -42,9 +43,6 @@ live_push : (steps : List Step) (step : Step) → AllByRecursion IsLiveStep step
     → AllByRecursion IsLiveStep (steps ++ step ∷ [])
 live_push [] step all one = (one, tt)
 live_push (s ∷ steps) step all one = (all.0, live_push steps step all.1 one)
-
-never_both : (b : Bool) → b ≡ true → b ≡ false → ⊥
-never_both b h k = let e : true ≡ false = sym h ∙ k in cc
 
 -- an event that is taken is not refused
 pub accepted : {T : Type 0} (o : T) (b : Bool) → ((Ok o ≡ Err faults.Spent) ↔ IsTrue b) → b ≡ false

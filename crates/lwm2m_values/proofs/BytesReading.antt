@@ -13,6 +13,7 @@ use Rattle.std.specs.Str.{IsUtf8}
 use Rattle.base64.specs.GeneralPurpose.{IsBytes}
 use Rattle.std.specs.Result.{IfOk, IfErr, MatchResult}
 use Rattle.lemmas.proofs.Numbers.{small_byte}
+use Rattle.lemmas.proofs.Options.{option_map_parts}
 use Rattle.lwm2m_values.specs.declared.fault.ValueFault.{ValueFault}
 use Rattle.lwm2m_values.specs.declared.fault.ValueFault.TheVariants.{BadValue, Memory}
 use Rattle.lwm2m_values.specs.declared.value.Value.{Value}
@@ -23,7 +24,7 @@ use Rattle.lwm2m_values.specs.declared.kind.ValueKind.TheVariants as kind
 use Rattle.lwm2m_values.specs.Value.{kind_of, holds_bytes, IsGood, IsIntegerOf, IsInteger, IsBytesOf, bytes_of}
 use Rattle.lwm2m_values.specs.Reading.{are_bytes, flag_by, width_of, integer_of_bytes, pair_of_bytes, spelled_by_bytes}
 use Rattle.lwm2m_values.specs.Reading.{value_of_bytes}
-use Rattle.lwm2m_values.proofs.Choices.{both, both_back, chosen, kept_if, mapped}
+use Rattle.lwm2m_values.proofs.Choices.{both, both_back, chosen, kept_if}
 use Rattle.lwm2m_values.proofs.GoodValue.{bytes_from, good_kept, good_back}
 use Rattle.lwm2m_values.proofs.OneBytes.{bits_8, bits_16, bits_32, bits_64, bytes_written}
 
@@ -179,19 +180,19 @@ spelled_from kind.Text v t e =
     let same : value.Text t ≡ v = cc e in
     subst (λ (x : Value). (kind_of x ≡ kind.Text) × IsBytesOf x t) same (refl, refl)
 spelled_from kind.Whole v t e =
-    let h = mapped value.Whole (integer_of_bytes t) v e in
+    let h = option_map_parts value.Whole (integer_of_bytes t) v e in
     subst (λ (x : Value). (kind_of x ≡ kind.Whole) × IsBytesOf x t) h.2 (refl, integer_from t h.0 h.1)
 spelled_from kind.Flag v t e =
-    let h = mapped value.Flag (flag_by 0 1 t) v e in
+    let h = option_map_parts value.Flag (flag_by 0 1 t) v e in
     subst (λ (x : Value). (kind_of x ≡ kind.Flag) × IsBytesOf x t) h.2 (refl, flag_from t h.0 h.1)
 spelled_from kind.Opaque v t e =
     let same : value.Opaque t ≡ v = cc e in
     subst (λ (x : Value). (kind_of x ≡ kind.Opaque) × IsBytesOf x t) same (refl, refl)
 spelled_from kind.Moment v t e =
-    let h = mapped value.Moment (integer_of_bytes t) v e in
+    let h = option_map_parts value.Moment (integer_of_bytes t) v e in
     subst (λ (x : Value). (kind_of x ≡ kind.Moment) × IsBytesOf x t) h.2 (refl, integer_from t h.0 h.1)
 spelled_from kind.Link v t e =
-    let h = mapped (λ p. value.Link p.0 p.1) (pair_of_bytes t) v e in
+    let h = option_map_parts (λ p. value.Link p.0 p.1) (pair_of_bytes t) v e in
     subst (λ (x : Value). (kind_of x ≡ kind.Link) × IsBytesOf x t) h.2 (refl, pair_from t h.0.0 h.0.1 h.1)
 
 spelled_to : (v : Value) (t : List ℕ) → IsGood v → IsBytesOf v t → spelled_by_bytes (kind_of v) t ≡ Some v

@@ -19,11 +19,6 @@ both false b e = cc e
 pub both_back : (a b : Bool) → a ≡ true → b ≡ true → (a && b) ≡ true
 both_back a b p q = rw (p, q) refl
 
-pub mapped : {A B : Type 0} (f : A → B) (o : Option A) (y : B) → option_map f o ≡ Some y → (x : A) × (o ≡ Some x)
-    × (f x ≡ y)
-mapped f (Some x) y e = (x, refl, cc)
-mapped f None y e = cc e
-
 pub zipped : {A B : Type 0} (a : Option A) (b : Option B) (x : A) (y : B) → option_zip a b ≡ Some (x, y) → (a ≡ Some x)
     × (b ≡ Some y)
 zipped {A} {B} (Some u) (Some v) x y e =

@@ -8,6 +8,7 @@ use Rattle.std.specs.Str.Parse.{digits_value}
 use Rattle.std.proofs.lemmas.Bool.Decides.{nat_tests}
 use Rattle.std.proofs.lemmas.List.Quantifiers.{position-Some}
 use Rattle.std.proofs.lemmas.Str.Parse.{digits_value_short}
+use Rattle.lemmas.proofs.Numbers.{nat_le_above}
 use Rattle.object_defs.proofs.Digits.{AreDigits, own}
 use Rattle.notifier.specs.Query.{is_digit, are_digits, digits_of, seconds_of}
 
@@ -57,16 +58,13 @@ pub digits_of-stray : (most : ℕ) (s : List ℕ) (i : ℕ) → i < length s →
 digits_of-stray most s i inside h =
     refused (are_digits s) (nat_le (length s) most) (digits_value 10 s) (are_digits-stray s i inside h)
 
-longer : (n m : ℕ) → m < n → nat_le n m ≡ false
-longer n m h = grind (arith, nat_tests)
-
 shorter : (n m : ℕ) → n ≤ m → nat_le n m ≡ true
 shorter n m h = grind (arith, nat_tests)
 
 pub digits_of-long : (most : ℕ) (s : List ℕ) → most < length s → None ≡ digits_of most s
 digits_of-long most s h =
     sym (ap (λ b. cond b (Some (digits_value 10 s)) None)
-    (ap (λ b. are_digits s && b) (longer (length s) most h) ∙ and_false (are_digits s)))
+    (ap (λ b. are_digits s && b) (nat_le_above (length s) most h) ∙ and_false (are_digits s)))
 
 pub digits_of-all : (most : ℕ) (s : List ℕ) → AreDigits s → 0 < length s → length s ≤ most
     → digits_of most s ≡ Some (digits_value 10 s)

@@ -10,11 +10,12 @@ use Rattle.std.specs.Option.{option_map_or}
 use Rattle.std.specs.Map.{keys_of, values_of, lookup}
 use Rattle.std.specs.Str.{bytes_eq}
 use Rattle.indexmap.specs.IndexMap.{set_value_at}
+use Rattle.lemmas.proofs.Lists.{none_found}
 use Rattle.notifier.specs.declared.observation.Observation.{Observation}
 use Rattle.notifier.specs.declared.entries.Key.{Key}
 use Rattle.notifier.specs.Observed.{HasNumber, IsKeyed, HaveDistinctNames, is_named, next_number, number_for}
 use Rattle.notifier.specs.Observed.{as_closed, registered}
-use Rattle.notifier.proofs.Places.{IsFirst, find_first, find_none, passes_first}
+use Rattle.notifier.proofs.Places.{IsFirst, find_first, passes_first}
 
 -- ---- the values of a map
 
@@ -61,20 +62,6 @@ each-remove P [] zero h = tt
 each-remove P [] (suc i) h = tt
 each-remove P (x ∷ xs) zero h = h.1
 each-remove P (x ∷ xs) (suc i) h = (h.0, each-remove P xs i h.1)
-
-pub each-filter : {X : Type 0} (P : X → Type 0) (q : X → Bool) (xs : List X) → AllByRecursion P xs
-    → AllByRecursion P (filter q xs)
-each-filter P q [] h = tt
-each-filter P q (x ∷ xs) h =
-    elim (q x) as (λ b. AllByRecursion P (cond b (x ∷ filter q xs) (filter q xs))) [
-      | true ↦ (h.0, each-filter P q xs h.1)
-      | false ↦ each-filter P q xs h.1
-    ]
-
-pub each-append : {X : Type 0} (P : X → Type 0) (xs : List X) (x : X) → AllByRecursion P xs → P x
-    → AllByRecursion P (xs ++ x ∷ [])
-each-append P [] x h p = (p, tt)
-each-append P (y ∷ ys) x h p = (h.0, each-append P ys x h.1 p)
 
 -- a number that comes next has 24 bits
 pub next_fits : (n m : ℕ) → m ≡ next_number n → m < 16777216
@@ -162,7 +149,7 @@ number_for-first os server token i o first at =
 
 pub number_for-none : (os : List Observation) (server : ℕ) (token : List ℕ)
     → list_any (is_named server token) os ≡ false → number_for os server token ≡ 0
-number_for-none os server token none = ap (λ f. option_map_or (λ x. next_number x.number) f 0) (find_none _ os none)
+number_for-none os server token none = ap (λ f. option_map_or (λ x. next_number x.number) f 0) (none_found _ os none)
 
 pub registered-first : (os : List Observation) (new o : Observation) (i : ℕ)
     → IsFirst (is_named new.server new.token) os i → slice_get os i ≡ Some o

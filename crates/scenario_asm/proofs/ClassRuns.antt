@@ -28,6 +28,9 @@ use Rattle.object_defs.proofs.LookUps.{same_number}
 use Rattle.instance_store.specs.Stored.{has_instance, instances_of, value_at, value_count, with_instance, with_value}
 use Rattle.scenario_layout.specs.Value.{kind_numbered, kind_number, of_kind, opaque, text, value}
 use Rattle.std.specs.Int.{w8}
+use Rattle.lemmas.proofs.Tests.{never_both}
+use Rattle.lemmas.proofs.Lists.{length_pushed}
+use Rattle.lemmas.proofs.Numbers.{nat_le_below}
 use Rattle.scenario_layout.specs.Definition.{resource, resources}
 use Rattle.device_template.specs.Template.{Template, empty_class, instance_fault, kind_taken}
 use Rattle.device_template.specs.Template.{kind_taken_by, object_fault, plain, value_fault, value_fault_at, may_stand}
@@ -207,10 +210,6 @@ stated_at : (k : Template) (o i r : ℕ) (part : Option ℕ)
 stated_at k o i r None = refl
 stated_at k o i r (Some n) = refl
 
-not_both : (b : Bool) → b ≡ true → b ≡ false → ⊥
-not_both true h k = let e : true ≡ false = k in cc
-not_both false h k = let e : false ≡ true = h in cc
-
 value_taken : (s : Scenario) (o : Option ℕ) (k : Template) (p : FullPath) (v : Value) → value_fault_at k p v ≡ None
     → has_good_length v ≡ true
     → effect (says.Value (path_to p) v) (opened s k o) ≡ Ok (opened s (with_store k (with_value k.store p v)) o)
@@ -221,7 +220,7 @@ value_taken s o k p v free short =
     (has_all_parts k.store p) free).1 in
     let stated : is_stated k (path_to p) ≡ true = stated_at k p.object p.instance p.resource p.part ∙ placed in
     let cause : value_cause k (full_path (path_to p)) v ≡ None =
-    short_told k (path_to p) v stated (λ long. not_both (has_good_length v) short (too_long v long))
+    short_told k (path_to p) v stated (λ long. never_both (has_good_length v) short (too_long v long))
     ∙ ap (λ q. option_map template_cause (value_fault k q v)) full
     ∙ ap (option_map template_cause) free in
     ap (λ b. needs b (unless (value_cause k (full_path (path_to p)) v)
@@ -277,10 +276,6 @@ one_definition : (front : List ObjectDef) (id : ℕ) (before : List ResourceDef)
 unfolding each
 one_definition front id before d low good = defined_end (suc zero) front id before (d ∷ []) low (good, refl)
 
-length_push : {X : Type 0} (xs : List X) (x : X) → length (xs ++ x ∷ []) ≡ suc (length xs)
-length_push [] x = refl
-length_push (y ∷ xs) x = ap suc (length_push xs x)
-
 one_less : (m n k : ℕ) → m + suc n ≤ k → suc m + n ≤ k
 one_less m n k h = omega (arith, h)
 
@@ -293,24 +288,24 @@ definitions_lead : (s : Scenario) (c : Template) (front : List ObjectDef) (id : 
     → Lead (opened s (with_catalog c (front ++ defined id before ∷ [])) (Some id)) (map (λ d. says.Def d) ds)
     (opened s (with_catalog c (front ++ defined id (before ++ ds) ∷ [])) (Some id))
 unfolding each
-definitions_lead s c front id zero before ds vendor low few good =
+definitions_lead s c front id zero before ds vendor low nat_le_below good =
     subst (λ ys. Lead (opened s (with_catalog c (front ++ defined id before ∷ [])) (Some id))
     (map (λ d. says.Def d) ys) (opened s (with_catalog c (front ++ defined id (before ++ ys) ∷ [])) (Some id)))
     (sym good)
     (ap (λ ys. opened s (with_catalog c (front ++ defined id ys ∷ [])) (Some id)) (sym (append-nil before)))
-definitions_lead s c front id (suc n) before [] vendor low few good = absurd good
-definitions_lead s c front id (suc n) before (d ∷ ds) vendor low few good =
+definitions_lead s c front id (suc n) before [] vendor low nat_le_below good = absurd good
+definitions_lead s c front id (suc n) before (d ∷ ds) vendor low nat_le_below good =
     let k = with_catalog c (front ++ defined id before ∷ []) in (
       opened s (with_catalog c (front ++ defined id (before ++ d ∷ []) ∷ [])) (Some id),
       ap (λ f. unless (option_map template_cause f) (with_catalog k (with_resource k.catalog id d)) >>=
           (λ e. Ok (opened s e (Some id)))) (not_refused_at k id before d vendor (found_last front id before low) good.0
-          (is_below (length before) n 64 few))
+          (is_below (length before) n 64 nat_le_below))
           ∙ ap (λ t. Ok (opened s (with_catalog c t) (Some id))) (one_definition front id before d low good.0),
       subst (λ ys. Lead (opened s (with_catalog c (front ++ defined id (before ++ d ∷ []) ∷ [])) (Some id))
           (map (λ d. says.Def d) ds) (opened s (with_catalog c (front ++ defined id ys ∷ [])) (Some id)))
           (append_assoc before (d ∷ []) ds)
           (definitions_lead s c front id n (before ++ d ∷ []) ds vendor low
-          (subst (λ m. m + n ≤ 64) (sym (length_push before d)) (one_less (length before) n 64 few)) good.1),
+          (subst (λ m. m + n ≤ 64) (sym (length_pushed before d)) (one_less (length before) n 64 nat_le_below)) good.1),
     )
 
 short_list : (n : ℕ) → nat_lt n 65 ≡ true → 0 + n ≤ 64
@@ -373,9 +368,6 @@ objects_lead s c xs num none good =
 
 -- ---- a class
 
-few : (n m : ℕ) → n < m → nat_le m n ≡ false
-few n m h = grind (arith, nat_tests)
-
 begin_lead : (s : Scenario) (d : Draft) → d.begun ≡ true → closed d ≡ s → length s.classes < 256
     → effect says.Class d ≡ Ok (opened s empty_class None)
 begin_lead s d begun same room =
@@ -384,7 +376,7 @@ begin_lead s d begun same room =
     (record { begun = d.begun; scenario = t; open_class = Some empty_class; object = None })) same
     ∙ ap (λ b. unless (option_map scenario_cause (cond b (Some scenario.Limit) None))
     (record { begun = d.begun; scenario = s; open_class = Some empty_class; object = None }))
-    (few (length s.classes) 256 room)
+    (nat_le_below (length s.classes) 256 room)
     ∙ ap (λ b. Ok (record { begun = b; scenario = s; open_class = Some empty_class; object = None })) begun
 
 -- the statements of a class make it, from a draft that has room for it
@@ -428,7 +420,7 @@ classes_lead cs [] d begun same built room = (d, refl, begun, same ∙ ap script
 classes_lead cs (c ∷ todo) d begun same built room =
     let one = class_lead (script cs) c d built.0 begun same (is_below (length cs) (length todo) 256 room) in
     let rest = classes_lead (cs ++ c ∷ []) todo (opened (script cs) c one.0) refl refl built.1
-    (subst (λ n. n + length todo ≤ 256) (sym (length_push cs c)) (one_less (length cs) (length todo) 256 room)) in (
+    (subst (λ n. n + length todo ≤ 256) (sym (length_pushed cs c)) (one_less (length cs) (length todo) 256 room)) in (
       rest.0,
       lead_append d (opened (script cs) c one.0) rest.0 (of_class c) (flat_map of_class todo) one.1 rest.1,
       rest.2,

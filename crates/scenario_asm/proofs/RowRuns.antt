@@ -7,6 +7,8 @@ use Rattle.std.specs.List.{AllByRecursion, flat_map, list_any, slice_get}
 use Rattle.std.proofs.lemmas.Bool.Decides.{nat_tests}
 use Rattle.std.proofs.lemmas.List.{append-nil}
 use Rattle.std.proofs.lemmas.Option.{slice_get_within}
+use Rattle.lemmas.proofs.Lists.{set_pushed, last_place, item_pushed, length_pushed}
+use Rattle.lemmas.proofs.Numbers.{nat_le_below}
 use Rattle.object_defs.specs.Lines.{first_line}
 use Rattle.device_template.specs.Template.{Template}
 use Rattle.device_machine.specs.declared.event.Event.TheVariants as event
@@ -44,39 +46,24 @@ shut s = record { begun = true; scenario = s; open_class = None; object = None }
 
 -- ---- the last of some rows
 
-length_push : {X : Type 0} (xs : List X) (x : X) → length (xs ++ x ∷ []) ≡ suc (length xs)
-length_push [] x = refl
-length_push (y ∷ xs) x = ap suc (length_push xs x)
-
 minus_one : (n : ℕ) → suc n - 1 ≡ n
 minus_one n = omega arith
 
-last_place : {X : Type 0} (xs : List X) (x : X) → length (xs ++ x ∷ []) - 1 ≡ length xs
-last_place xs x = ap (λ n. n - 1) (length_push xs x) ∙ minus_one (length xs)
-
-get_last : {X : Type 0} (xs : List X) (x : X) → slice_get (xs ++ x ∷ []) (length xs) ≡ Some x
-get_last [] x = refl
-get_last (y ∷ xs) x = get_last xs x
-
-set_last : {X : Type 0} (xs : List X) (x z : X) → set (xs ++ x ∷ []) (length xs) z ≡ xs ++ z ∷ []
-set_last [] x z = refl
-set_last (y ∷ xs) x z = ap (λ t. y ∷ t) (set_last xs x z)
-
 is_last : (rows : List Row) (r : Row) → last_row (rows ++ r ∷ []) ≡ Some r
-is_last rows r = ap (slice_get (rows ++ r ∷ [])) (last_place rows r) ∙ get_last rows r
+is_last rows r = ap (slice_get (rows ++ r ∷ [])) (last_place rows r) ∙ item_pushed rows r
 
 last_is : (rows : List Row) (r : Row) (x : Step)
     → with_last (rows ++ r ∷ []) (last_row (rows ++ r ∷ [])) x ≡ rows ++ longer r x ∷ []
 last_is rows r x =
     ap (λ o. with_last (rows ++ r ∷ []) o x) (is_last rows r)
     ∙ ap (λ n. set (rows ++ r ∷ []) n (longer r x)) (last_place rows r)
-    ∙ set_last rows r (longer r x)
+    ∙ set_pushed rows r (longer r x)
 
 above_none : (n : ℕ) → nat_lt 0 (suc n) ≡ true
 above_none n = grind (arith, nat_tests)
 
 some_row : (rows : List Row) (r : Row) → nat_lt 0 (length (rows ++ r ∷ [])) ≡ true
-some_row rows r = ap (nat_lt 0) (length_push rows r) ∙ above_none (length rows)
+some_row rows r = ap (nat_lt 0) (length_pushed rows r) ∙ above_none (length rows)
 
 -- ---- a step
 
@@ -87,9 +74,6 @@ free_lines false b c h i j = absurd cc
 free_lines true true c h i j = absurd cc
 free_lines true false false h i j = absurd cc
 
-few : (n m : ℕ) → n < m → nat_le m n ≡ false
-few n m h = grind (arith, nat_tests)
-
 is_free : (cs : List Template) (rows : List Row) (class : ℕ) (past : List Step) (x : Step) (t : Template)
     → slice_get cs class ≡ Some t → IsGoodStep t.accounts x → length past < 4096
     → step_fault (script cs (rows ++ row_with class past ∷ [])) x ≡ None
@@ -98,7 +82,7 @@ is_free cs rows class past x t at good short =
     good.range
     ∙ ap (λ o. fault_in cs o x) (is_last rows (row_with class past))
     ∙ free_lines (is_known (accounts_of cs class) x) (nat_le 4096 (length past)) (is_within_limits x)
-    (ap (λ o. is_known (accounts_in o) x) at ∙ good.known) (few (length past) 4096 short) good.within
+    (ap (λ o. is_known (accounts_in o) x) at ∙ good.known) (nat_le_below (length past) 4096 short) good.within
 
 added : (cs : List Template) (rows : List Row) (class : ℕ) (past : List Step) (x : Step) (t : Template)
     → slice_get cs class ≡ Some t → IsGoodStep t.accounts x → length past < 4096
@@ -205,7 +189,7 @@ steps_lead cs rows class past (x ∷ xs) t at good short = (
   subst (λ ys. Lead (here cs rows class (past ++ x ∷ [])) (map of_step xs) (here cs rows class ys))
       (append_assoc past (x ∷ []) xs)
       (steps_lead cs rows class (past ++ x ∷ []) xs t at good.1
-      (subst (λ n. n + length xs ≤ 4096) (sym (length_push past x))
+      (subst (λ n. n + length xs ≤ 4096) (sym (length_pushed past x))
       (one_less (length past) (length xs) 4096 short))),
 )
 
@@ -225,8 +209,8 @@ device_lead cs rows class d begun same there short =
     (record { begun = d.begun; scenario = with_row s class; open_class = None; object = None })) same
     ∙ ap (λ f. unless (option_map scenario_cause f)
     (record { begun = d.begun; scenario = with_row (script cs rows) class; open_class = None; object = None }))
-    (row_lines (nat_le (length cs) class) (nat_le 16384 (length rows)) (few class (length cs) there)
-    (few (length rows) 16384 short))
+    (row_lines (nat_le (length cs) class) (nat_le 16384 (length rows)) (nat_le_below class (length cs) there)
+    (nat_le_below (length rows) 16384 short))
     ∙ ap (λ b. Ok (record { begun = b; scenario = with_row (script cs rows) class; open_class = None; object = None }))
     begun
 
@@ -246,7 +230,7 @@ rows_lead cs rows [] d begun same good short = (d, refl, begun, same ∙ ap (scr
 rows_lead cs rows (r ∷ todo) d begun same good short =
     let one = row_lead cs rows r d begun same good.0 (has_one (length rows) (length todo) 16384 short) in
     let rest = rows_lead cs (rows ++ r ∷ []) todo (shut (script cs (rows ++ r ∷ []))) refl refl good.1
-    (subst (λ n. n + length todo ≤ 16384) (sym (length_push rows r))
+    (subst (λ n. n + length todo ≤ 16384) (sym (length_pushed rows r))
     (one_less (length rows) (length todo) 16384 short)) in (
       rest.0,
       lead_append d (shut (script cs (rows ++ r ∷ []))) rest.0 (of_row r) (flat_map of_row todo) one rest.1,

@@ -3,11 +3,11 @@ use Rattle.std.proofs.Common.{◌≡◌, ℕ, zero, suc, ◌<◌, ◌≤◌, ◌
 use Rattle.std.proofs.Common.{None, Some, slice_get, refl, sym, ap, subst, ◌∙◌, arith}
 use Rattle.std.proofs.lemmas.List.{take_at}
 use Rattle.std.proofs.lemmas.Option.{slice_get_within}
+use Rattle.lemmas.proofs.Lists.{pushed_cases}
 use Rattle.device_template.specs.Template.{Template}
 use Rattle.scenario_image.specs.declared.step.Step.{Step}
 use Rattle.scenario_image.specs.declared.fault.ScenarioFault.{ScenarioFault}
 use Rattle.scenario_image.specs.Scenario.{one_row, step_fault, AreTaken, IsFirstRefusal}
-use Rattle.scenario_image.proofs.Played.{pushed}
 
 -- the steps of a front stand in the whole
 in_whole : {X : Type 0} (front rest : List X) (k : ℕ) → k < length front
@@ -35,7 +35,7 @@ none_if (Some f) never = absurd (never f refl)
 -- one step more is taken
 pub one_more : (class : Template) (xs : List Step) (x : Step) → AreTaken class xs (length xs)
     → step_fault (one_row class xs) x ≡ None → AreTaken class (xs ++ x ∷ []) (length (xs ++ x ∷ []))
-one_more class xs x taken ok k step lt at = told (pushed xs x k step at)
+one_more class xs x taken ok k step lt at = told (pushed_cases xs x k step at)
   where
     told : (slice_get xs k ≡ Some step) ⊎ ((k ≡ length xs) × (x ≡ step))
         → step_fault (one_row class (take k (xs ++ x ∷ []))) step ≡ None

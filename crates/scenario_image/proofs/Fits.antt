@@ -20,6 +20,7 @@ use Rattle.object_defs.specs.declared.path.FullPath.{FullPath}
 use Rattle.scenario_layout.specs.Value.{path, part_number, text, opaque, value}
 use Rattle.std.specs.Str.{IsUtf8}
 use Rattle.std.proofs.lemmas.Str.{IsUtf8-from_is_utf8}
+use Rattle.lemmas.proofs.Lists.{item_at}
 use Rattle.scenario_layout.proofs.GoodValue.{path_good, value_good, good_value}
 use Rattle.device_template.specs.Template.{Template}
 use Rattle.lwm2m_values.specs.Value.{has_good_length}
@@ -32,7 +33,6 @@ use Rattle.scenario_image.specs.Scenario.{Row, HasShortNumbers, IsGoodStep, IsGo
 use Rattle.scenario_image.specs.Scenario.{most_rows, most_steps}
 use Rattle.scenario_image.specs.Layout.{kind, step_kind, datagram, recv, tick, put, firmware, post, need, of_kind, step}
 use Rattle.scenario_image.specs.Layout.{steps, row, rows}
-use Rattle.scenario_image.proofs.Valid.{got}
 
 -- ---- lists of items that are laid out alike
 
@@ -248,7 +248,7 @@ good_row : (classes : List Template) (r : Row) → (row classes).Good r → IsBy
     → IsGoodRow classes r
 unfolding row
 good_row classes r h fits =
-    let found = got classes r.class (ltb-true r.class (length classes) h.0.1) in
+    let found = item_at classes r.class (ltb-true r.class (length classes) h.0.1) in
     let same : accounts_of classes r.class ≡ found.0.accounts = ap accounts_in found.1 in
     let bytes : IsBytes ((steps (accounts_of classes r.class)).spell r.steps) =
     front_bytes ((steps (accounts_of classes r.class)).spell r.steps) []

@@ -10,6 +10,9 @@ use Rattle.std.specs.FinMap as finite
 use Rattle.std.specs.FinMap.Entries.{find}
 use Rattle.std.proofs.lemmas.Bool.Decides.{nat_tests}
 use Rattle.std.proofs.lemmas.List.Elements.{All-from_recursion, filter-append, filter_map-append}
+use Rattle.lemmas.proofs.Lists.{each_weaker, each_here}
+use Rattle.lemmas.proofs.Options.{none_from_test}
+use Rattle.lemmas.proofs.Numbers.{nat_le_below}
 use Rattle.byte_layout.proofs.Fields.{number_good}
 use Rattle.lwm2m_values.specs.declared.kind.ValueKind.{ValueKind}
 use Rattle.lwm2m_values.specs.declared.kind.ValueKind.TheVariants as kinds
@@ -40,11 +43,11 @@ use Rattle.device_template.specs.Built.{IsBuilt, IsShort}
 use Rattle.device_template.specs.Built.IsBuilt.{nothing, account, object, resource, instance, value as added, notify}
 use Rattle.scenario_layout.specs.Class.{values_in, with_values, values}
 use Rattle.scenario_layout.specs.Class as layout
-use Rattle.scenario_layout.proofs.Between.{all_of, all_more, all_weaker, length_more, taken_more, taken_before, shorter}
-use Rattle.scenario_layout.proofs.Between.{each_good, is_below, below, not_false, not_true}
+use Rattle.scenario_layout.proofs.Between.{all_more, length_more, taken_more, taken_before, shorter}
+use Rattle.scenario_layout.proofs.Between.{each_good, below, not_false, not_true}
 use Rattle.scenario_layout.proofs.Filling.{no_entries}
 use Rattle.scenario_layout.proofs.GoodObjects.{no_fault}
-use Rattle.scenario_layout.proofs.GoodInstances.{object_kept, not_there}
+use Rattle.scenario_layout.proofs.GoodInstances.{object_kept}
 use Rattle.scenario_layout.proofs.Ordered.{both_true, and_true, is_true, map_same}
 use Rattle.scenario_layout.proofs.Rising.{Ascends, is_in_order, front_ascends, front_below, none_behind, insert_more}
 use Rattle.scenario_layout.proofs.Rising.{map_ascends}
@@ -177,7 +180,7 @@ value_more c p v short good before free =
     let there = both_true (is_some (object_of c.catalog p.object))
     (finite.contains_key c.store.instances (instance_at p)) (not_false (has_place c.catalog c.store p) lines.1) in
     let found = defined_in p v (object_of c.catalog p.object) fit.1 there.0 in
-    let more = insert_more path_total c.store.values p v (not_there (finite.get c.store.values p) lines.2) in
+    let more = insert_more path_total c.store.values p v (none_from_test (finite.get c.store.values p) lines.2) in
     let room : length es < 65535 =
     below (length es) 65535 (ap (nat_le 65535) (sym (finite.len-entries c.store.values)) ∙ lines.3) in
     record {
@@ -256,7 +259,7 @@ has_values _ (account {class} server built free) = has_values class built
 has_values _ (object {class} id built free) =
     let before = has_values class built in
     record {
-      each = all_weaker _ _ (held_by_object class.catalog class.store.instances id (no_fault _ free)) _
+      each = each_weaker _ _ (held_by_object class.catalog class.store.instances id (no_fault _ free)) _
           before.each;
       few_parts = before.few_parts;
       few = before.few;
@@ -264,7 +267,7 @@ has_values _ (object {class} id built free) =
 has_values _ (resource {class} id d short built free) =
     let before = has_values class built in
     record {
-      each = all_weaker _ _ (held_by_resource class.catalog class.store.instances id d (no_fault _ free)) _
+      each = each_weaker _ _ (held_by_resource class.catalog class.store.instances id d (no_fault _ free)) _
           before.each;
       few_parts = before.few_parts;
       few = before.few;
@@ -272,7 +275,7 @@ has_values _ (resource {class} id d short built free) =
 has_values _ (instance {class} place short built free) =
     let before = has_values class built in
     record {
-      each = all_weaker _ _ (held_by_instance class.catalog class.store.instances place) _ before.each;
+      each = each_weaker _ _ (held_by_instance class.catalog class.store.instances place) _ before.each;
       few_parts = before.few_parts;
       few = before.few;
     }
@@ -365,7 +368,7 @@ front_entries front back h =
 full_line : (part : Option ℕ) (n : ℕ) → n + seen part ≤ 32 → (is_some part && nat_le 32 n) ≡ false
 unfolding seen
 full_line None n h = refl
-full_line (Some m) n h = is_below n 32 (omega (arith, h))
+full_line (Some m) n h = nat_le_below n 32 (omega (arith, h))
 
 own_resource : (p : FullPath) → lies_in (resource_path (resource_at p)) p ≡ true
 own_resource p =
@@ -379,7 +382,7 @@ module _ (k : Template) (front : List Entry) (e : Entry) (back : List Entry)
     (h : Ascends path_cmp (λ e. e.0) (front ++ e ∷ back))
     (all : HasValues k.catalog k.store.instances (front ++ e ∷ back)) where
   is : IsHeld k.catalog k.store.instances e
-  is = all_of (IsHeld k.catalog k.store.instances) front e back all.each
+  is = each_here (IsHeld k.catalog k.store.instances) front e back all.each
 
   low : list_all (λ b. is_lt (path_cmp b.0 e.0)) front ≡ true
   low = front_below path_cmp (λ b. b.0) front e back h
@@ -392,7 +395,7 @@ module _ (k : Template) (front : List Entry) (e : Entry) (back : List Entry)
   room : nat_le 65535 (value_count (with_values k front).store) ≡ false
   room = ap (nat_le 65535) (finite.len-entries (finite.from_sorted {R = path_cmp} front)
       ∙ ap length (front_entries front (e ∷ back) h))
-      ∙ is_below (length front) 65535 (omega (arith, shorter (front ++ e ∷ back) front e back refl, all.few))
+      ∙ nat_le_below (length front) 65535 (omega (arith, shorter (front ++ e ∷ back) front e back refl, all.few))
 
   more_parts : has_all_parts (with_values k front).store e.0 ≡ false
   unfolding parts
@@ -454,7 +457,7 @@ values_good c k built same_catalog same_places =
 
 pub each_held : (c : Template) → IsBuilt c → All (λ e. IsGood e.1) (values_in c)
 each_held c built =
-    All-from_recursion _ _ (all_weaker (IsHeld c.catalog c.store.instances) (λ e. IsGood e.1) (λ e h. h.good)
+    All-from_recursion _ _ (each_weaker (IsHeld c.catalog c.store.instances) (λ e. IsGood e.1) (λ e h. h.good)
     (values_in c) (has_values c built).each)
 
 pub few_values : (c : Template) → IsBuilt c → length (values_in c) < 65536

@@ -9,6 +9,8 @@ use Rattle.std.proofs.lemmas.Bool.Decides.{nat_tests}
 use Rattle.std.proofs.lemmas.List.{map-append}
 use Rattle.std.proofs.lemmas.List.Elements.{All-from_recursion}
 use Rattle.std.proofs.lemmas.List.Folds.{list_all-append}
+use Rattle.lemmas.proofs.Lists.{each_weaker, each_here}
+use Rattle.lemmas.proofs.Numbers.{nat_le_below}
 use Rattle.byte_layout.proofs.Fields.{number_good}
 use Rattle.lwm2m_values.specs.declared.kind.ValueKind.{ValueKind}
 use Rattle.lwm2m_values.specs.declared.kind.ValueKind.TheVariants as kinds
@@ -30,9 +32,9 @@ use Rattle.device_template.specs.Built.IsBuilt.{nothing, account, object, resour
 use Rattle.device_template.proofs.Ascending.{Rises, rises-inserted}
 use Rattle.scenario_layout.specs.Class.{objects_in, defined, objects}
 use Rattle.scenario_layout.specs.Class as layout
-use Rattle.scenario_layout.proofs.Between.{all_of, all_more, all_weaker, length_more, inserted_more, map_inserted}
+use Rattle.scenario_layout.proofs.Between.{all_more, length_more, inserted_more, map_inserted}
 use Rattle.scenario_layout.proofs.Between.{shorter, each_good, rising_front, all_below, found_any, three_lines}
-use Rattle.scenario_layout.proofs.Between.{no_three, is_below, below, not_false, not_true}
+use Rattle.scenario_layout.proofs.Between.{no_three, below, not_false, not_true}
 use Rattle.scenario_layout.proofs.Defined.{none_found, other}
 use Rattle.scenario_layout.proofs.Filling.{taken_none}
 use Rattle.scenario_layout.proofs.Ordered.{and_true, both_true}
@@ -98,7 +100,7 @@ sound_kind n E m r k h = text_number k (both_true (not m) (is_text k) h).1
 definition_good : (front : List ResourceDef) (d : ResourceDef) (back : List ResourceDef)
     → HasDefinitions (front ++ d ∷ back) → (defs.resource front).Good d
 definition_good front d back h =
-    let fit = all_of IsFit front d back h.each in
+    let fit = each_here IsFit front d back h.each in
     resource_good front d fit.0 (all_below (λ r. r.id) d.id front
     (rising_front (ids front) d.id (ids back) (subst Rises (map-append (λ r. r.id) front (d ∷ back)) h.rising)))
     (sound_flags d.id d.ops d.multiple d.mandatory d.kind fit.1)
@@ -269,7 +271,7 @@ object_good : (k : Template) (front : List ObjectDef) (o : ObjectDef) (back : Li
     → IsOwn (front ++ o ∷ back) → (layout.object k front).Good o
 unfolding layout.object layout.object_id
 object_good k front o back h =
-    let own = all_of IsOwnObject front o back h.each in
+    let own = each_here IsOwnObject front o back h.each in
     let above : list_all (λ q. ltb q.id o.id) front ≡ true =
     all_below (λ q. q.id) o.id front (rising_front (numbers front) o.id (numbers back)
     (subst Rises (map-append (λ q. q.id) front (o ∷ back)) h.rising)) in
@@ -279,7 +281,7 @@ object_good k front o back h =
     let free : vendor_fault (base ++ front) o.id ≡ None =
     no_three _ _ _ _ _ _ (not_true (is_vendor o.id) own.0)
     (ap is_some (none_found (λ q. q.id) o.id (base ++ front) low))
-    (is_below (length (base ++ front)) 16 room) in (
+    (nat_le_below (length (base ++ front)) 16 room) in (
       (number_good w16 o.id (vendor_small o.id own.0), and_true _ _ low (taken_none _ (ap (option_map fault_of) free))),
       (definitions_good o.resources own.1, refl),
     )
@@ -309,7 +311,7 @@ few_objects c h = omega (arith, ap length h.behind, h.good.few)
 pub each_defined : (c : Template) → HasObjects c.catalog → All (λ o. resources.Good o.resources) (objects_in c)
 each_defined c h =
     subst (All (λ (o : ObjectDef). resources.Good o.resources)) (sym (own_is c h))
-    (All-from_recursion _ _ (all_weaker IsOwnObject (λ o. resources.Good o.resources)
+    (All-from_recursion _ _ (each_weaker IsOwnObject (λ o. resources.Good o.resources)
     (λ o own. definitions_good o.resources own.1) h.own h.good.each))
 
 pub few_own : (c : Template) → HasObjects c.catalog → length (objects_in c) ≤ 11

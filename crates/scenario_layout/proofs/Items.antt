@@ -1,5 +1,5 @@
 -- An item that is read and added to a class, or not.
-use Rattle.std.proofs.Common.{◌≡◌, ℕ, Bool, true, false, ◌&&◌, List, [], ◌∷◌, ◌++◌, Option, None, Some, Result, Ok, Err}
+use Rattle.std.proofs.Common.{◌≡◌, ℕ, Bool, true, false, ◌&&◌, List, [], ◌∷◌, ◌++◌, Option, None, Some, Ok, Err}
 use Rattle.std.proofs.Common.{option_map, refl, sym, ap, subst, ◌∙◌, append_assoc, arith}
 use Rattle.std.specs.Prelude.{not, ◌≤◌, nat_lt, nat_le, length, is_some}
 use Rattle.std.specs.List.{list_all}
@@ -43,12 +43,6 @@ use Rattle.byte_layout.proofs.Layouts.{bytes_behind}
 use Rattle.scenario_layout.proofs.ExactClass.{value_path_exact}
 use Rattle.scenario_layout.proofs.Ordered.{inserted_end, last_push}
 use Rattle.scenario_layout.proofs.Filling.{passed, failed, taken_none, instance_test, instances_itself, values_itself}
-
--- what answers Ok was not refused
-pub not_refused : {X Y : Type 0} (refusal : Option Y) (r : Result X Y) (x : X) → r ≡ Ok x
-    → ((f : Y) → refusal ≡ Some f → r ≡ Err f) → refusal ≡ None
-not_refused None r x ok refuses = refl
-not_refused (Some f) r x ok refuses = let e : r ≡ Err f = refuses f refl in cc
 
 -- ---- accounts
 

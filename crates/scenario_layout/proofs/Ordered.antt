@@ -26,10 +26,6 @@ pub is_true : (b : Bool) → b ≡ true → T b
 is_true true e = tt
 is_true false e = absurd cc
 
-pub true_is : (b : Bool) → T b → b ≡ true
-true_is true t = refl
-true_is false t = absurd t
-
 not_above : (x y : ℕ) → ltb y x ≡ true → ltb x y ≡ false
 not_above x y h = grind (arith, nat_tests)
 

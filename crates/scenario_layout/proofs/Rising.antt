@@ -8,8 +8,10 @@ use Rattle.std.specs.Cmp.{IsTotalOrder}
 use Rattle.std.specs.FinMap as finite
 use Rattle.std.specs.FinMap.{FinMap}
 use Rattle.std.specs.FinMap.Entries.{put, by_order, below_all, is_sorted, find}
-use Rattle.scenario_layout.proofs.Between.{IsOneMore, behind_head, all_of}
-use Rattle.scenario_layout.proofs.Ordered.{both_true, and_true, true_is, greater}
+use Rattle.lemmas.proofs.Lists.{each_here}
+use Rattle.lemmas.proofs.Tests.{true_from_T}
+use Rattle.scenario_layout.proofs.Between.{IsOneMore, behind_head}
+use Rattle.scenario_layout.proofs.Ordered.{both_true, and_true, greater}
 
 -- each key is below those after it
 abbrev pub Ascends : {A K : Type 0} → (K → K → Ordering) → (A → K) → List A → Type 0
@@ -65,7 +67,7 @@ module _ {A K : Type 0} (R : K → K → Ordering) (key : A → K) where
       → list_all (λ b. is_lt (R (key b) (key a))) front ≡ true
   front_below [] a back h = refl
   front_below (x ∷ front) a back h =
-      and_true (is_lt (R (key x) (key a))) _ (all_of (λ b. is_lt (R (key x) (key b)) ≡ true) front a back h.0)
+      and_true (is_lt (R (key x) (key a))) _ (each_here (λ b. is_lt (R (key x) (key b)) ≡ true) front a back h.0)
       (front_below front a back h.1)
 
 module _ {K X : Type 0} {R : K → K → Ordering} (total : IsTotalOrder R) where
@@ -94,4 +96,4 @@ module _ {K X : Type 0} {R : K → K → Ordering} (total : IsTotalOrder R) wher
       (put_more k v (finite.entries m) (sym (finite.get-entries m k) ∙ none))
 
   pub map_ascends : (m : FinMap R X) → Ascends R (λ (e : K × X). e.0) (finite.entries m)
-  map_ascends m = entries_ascend R (finite.entries m) (true_is _ (finite.entries_sorted m))
+  map_ascends m = entries_ascend R (finite.entries m) (true_from_T _ (finite.entries_sorted m))

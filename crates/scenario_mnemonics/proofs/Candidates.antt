@@ -10,6 +10,7 @@ use Rattle.std.specs.Str.{bytes_eq}
 use Rattle.std.specs.Fmt.{decimal}
 use Rattle.std.proofs.lemmas.Bool.{and_from, and_parts, cases_Bool}
 use Rattle.std.proofs.lemmas.Slice.Eq.{bytes_eq-Decides}
+use Rattle.lemmas.proofs.Lists.{each_appended, each_flat}
 use Rattle.coap_codec.specs.declared.fault.CoapFault.{CoapFault}
 use Rattle.coap_codec.specs.Message.{Message, header_bytes, options_bytes, spelling}
 use Rattle.coap_codec.specs.Reading.{reading_of}
@@ -64,16 +65,6 @@ paths_in segments = option_to_list (result_ok (path_of (flat_map (λ s. 47 ∷ s
 
 -- ---- what holds of each candidate
 
-all_append : {A : Type 0} (P : A → Type 0) (xs ys : List A) → AllByRecursion P xs → AllByRecursion P ys
-    → AllByRecursion P (xs ++ ys)
-all_append P [] ys h k = k
-all_append P (x ∷ xs) ys h k = (h.0, all_append P xs ys h.1 k)
-
-all_flat : {A B : Type 0} (P : A → Type 0) (Q : B → Type 0) (f : A → List B)
-    → ((a : A) → P a → AllByRecursion Q (f a)) → (xs : List A) → AllByRecursion P xs → AllByRecursion Q (flat_map f xs)
-all_flat P Q f g [] h = tt
-all_flat P Q f g (x ∷ xs) h = all_append Q (f x) (flat_map f xs) (g x h.0) (all_flat P Q f g xs h.1)
-
 -- words can say it, and its payload is bytes
 abbrev IsSound : Action → Type 0
 IsSound a = (has_words a ≡ true) × AllBelowBase 256 (fields_of a).payload
@@ -97,8 +88,8 @@ actions_sound qs b h = (
     (refl, tt),
     (
       (refl, h),
-      all_append IsSound (with_queries qs) (flat_map (with_format b) formats) (queries_sound qs)
-          (all_flat (λ f. Unit {0}) IsSound (with_format b) (format_sound b h) formats (tt, (tt, (tt, (tt, tt))))),
+      each_appended IsSound (with_queries qs) (flat_map (with_format b) formats) (queries_sound qs)
+          (each_flat (λ f. Unit {0}) IsSound (with_format b) (format_sound b h) formats (tt, (tt, (tt, (tt, tt))))),
     ),
   ),
 )
@@ -138,8 +129,8 @@ request_sound m read p path a sound k fit =
 candidates_sound : (m : Message) → IsRead m → AllByRecursion IsGoodIfFit (candidates m)
 candidates_sound m read = (
   (λ fit. read.mid),
-  all_flat IsPath IsGoodIfFit (requests m)
-      (λ p path. all_flat IsSound IsGoodIfFit (of_action m p)
+  each_flat IsPath IsGoodIfFit (requests m)
+      (λ p path. each_flat IsSound IsGoodIfFit (of_action m p)
       (λ a sound. (request_sound m read p path a sound Con, (request_sound m read p path a sound Non, tt)))
       (actions m) (actions_sound (values 15 m.options) m.payload read.payload))
       (paths_in (values 11 m.options)) (paths_sound (values 11 m.options)),

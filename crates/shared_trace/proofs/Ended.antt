@@ -2,6 +2,7 @@
 use Rattle.std.proofs.Common.{◌≡◌, ℕ, ◌<◌, ◌⊎◌, inl, inr, Bool, true, false, not, List, set, Some, slice_get}
 use Rattle.std.proofs.Common.{refl, sym, subst, ◌∙◌, arith}
 use Rattle.std.proofs.lemmas.Bool.{cases_eq, false≢true}
+use Rattle.lemmas.proofs.Lists.{set_elsewhere}
 use Rattle.scenario_image.specs.Scenario.{Scenario}
 use Rattle.trace_file.specs.declared.entry.Entry.{Entry}
 use Rattle.fleet_core.specs.Waiting.{is_waiting}
@@ -12,7 +13,6 @@ use Rattle.shared_trace.specs.declared.station.Place.TheVariants.{Parked, Out}
 use Rattle.shared_trace.specs.declared.station.Station.{Station}
 use Rattle.shared_trace.specs.Kept.{is_end}
 use Rattle.shared_trace.specs.Kept.{IsTrace, AreEnded, is_ready_in}
-use Rattle.shared_trace.proofs.Lists.{get-set_other}
 use Rattle.shared_trace.proofs.Stations.{left_is}
 
 -- a device at its end is not ready
@@ -34,7 +34,7 @@ ended_by : (stations : List Station) (low d i : ℕ) (x y z : Station) → AreEn
 ended_by stations low d i x y z ended at going less here (inl own) =
     absurd (false≢true (sym going ∙ ended d x (subst (λ j. j < low) (sym own) less) at))
 ended_by stations low d i x y z ended at going less here (inr other) =
-    ended i z less (sym (get-set_other stations d i y other) ∙ here)
+    ended i z less (sym (set_elsewhere stations d i y other) ∙ here)
 
 going_on : (b : Bool) → not b ≡ true → b ≡ false
 going_on true h = absurd (false≢true h)

@@ -3,6 +3,7 @@ use Rattle.std.proofs.Common.{◌≡◌, ℕ, ◌<◌, ◌≤◌, nat_lt, nat_le
 use Rattle.std.proofs.Common.{None, Some, slice_get, refl, sym, ap, ◌∙◌}
 use Rattle.std.proofs.lemmas.Bool.{lt-ltb, le-ltb, cases_lt}
 use Rattle.std.proofs.lemmas.Option.{slice_get_past}
+use Rattle.lemmas.proofs.Lists.{item_at}
 use Rattle.scenario_image.specs.declared.step.Step.{Step}
 use Rattle.scenario_image.specs.declared.step.Step.TheVariants as step
 use Rattle.scenario_image.specs.Scenario.{Scenario}
@@ -13,7 +14,6 @@ use Rattle.fleet_core.specs.Waiting.{is_waiting}
 use Rattle.fleet_core.specs.declared.next.Next.{Next}
 use Rattle.fleet_core.specs.declared.next.Next.TheVariants.{End, Free, Waits}
 use Rattle.shared_trace.specs.Kept.{is_end}
-use Rattle.shared_trace.proofs.Lists.{some_at}
 
 pub next_same : (p q : ℕ → ℕ) (n : Next) → ((g : ℕ) → p g ≡ q g) → may_pass p n ≡ may_pass q n
 next_same p q End h = refl
@@ -35,7 +35,7 @@ left_here (step.Need group count) = refl
 left_by : (xs : List Step) (k : ℕ) → (k < length xs) ⊎ (length xs ≤ k)
     → nat_lt k (length xs) ≡ not (is_end (next_of (slice_get xs k)))
 left_by xs k (inl h) =
-    let found = some_at xs k h in
+    let found = item_at xs k h in
     lt-ltb k (length xs) h ∙ (left_here found.0 ∙ ap (λ o. not (is_end (next_of o))) (sym found.1))
 left_by xs k (inr h) = le-ltb k (length xs) h ∙ ap (λ o. not (is_end (next_of o))) (sym (slice_get_past xs k h))
 
