@@ -12,6 +12,7 @@ use Rattle.std.specs.Net.Grammar.{IsIpText, IsSocketText}
 use Rattle.std.specs.Net.Socket.{IsPlainSocket}
 use Rattle.std.specs.declared.net.ip_addr.IpAddr.{IpAddr}
 use Rattle.std.specs.declared.net.socket_addr.SocketAddr.{SocketAddr}
+use Rattle.std.proofs.Math.Seq.{take-length}
 use Rattle.lemmas.proofs.Lists.{item_at, length_pushed, pushed_cases, take_one_more}
 use Rattle.fleet_link.specs.declared.directory.FixedServer.{FixedServer}
 use Rattle.scenario_image.specs.Scenario.{Row, Scenario}
@@ -128,10 +129,6 @@ take_before [] ys (suc k) h = absurd (omega (arith, h))
 take_before (x ∷ xs) ys zero h = refl
 take_before (x ∷ xs) ys (suc k) h = ap (λ l. x ∷ l) (take_before xs ys k (omega (arith, h)))
 
-take_whole : {X : Type 0} (xs : List X) → take (length xs) xs ≡ xs
-take_whole [] = refl
-take_whole (x ∷ xs) = ap (λ l. x ∷ l) (take_whole xs)
-
 pub none_yet : (s : Scenario) (words : List (Bor (List ℕ))) (servers : List FixedServer) → servers ≡ []
     → AreServers s (words_in (take 0 words)) servers
 none_yet s words servers none =
@@ -162,7 +159,7 @@ one_more s words servers w x are new =
     of k word server (inr at) (inl here) = absurd (omega (arith, within servers k server here, at.0, are.count))
     of k word server (inr at) (inr here) =
         let whole : take k (servers ++ x ∷ []) ≡ servers =
-        take_before servers (x ∷ []) k (omega (arith, here.0)) ∙ ap (λ n. take n servers) here.0 ∙ take_whole servers in
+        take_before servers (x ∷ []) k (omega (arith, here.0)) ∙ ap (λ n. take n servers) here.0 ∙ take-length servers in
         subst (λ l. IsNewServer s l word server) (sym whole)
         (subst (λ v. IsNewServer s servers v server) at.1 (subst (IsNewServer s servers w) here.1 new))
 

@@ -6,6 +6,7 @@ use Rattle.std.specs.List.{filter, list_any, slice_get}
 use Rattle.std.specs.Option.{option_and_then, option_map}
 use Rattle.std.proofs.lemmas.Bool.Decides.{nat_tests}
 use Rattle.std.proofs.lemmas.Option.{slice_get-map}
+use Rattle.std.proofs.Math.Bool.{and-false}
 use Rattle.lemmas.proofs.Lists.{none_found}
 use Rattle.coap_codec.specs.Message.{Message}
 use Rattle.coap_codec.specs.declared.kind.Kind.TheVariants.{Ack}
@@ -29,17 +30,13 @@ use Rattle.device_machine.proofs.Repeating.{first_con, first_non, reached}
 
 -- ---- an acknowledgement
 
-and_false : (b : Bool) → (b && false) ≡ false
-and_false true = refl
-and_false false = refl
-
 -- an observation awaits nothing that was acknowledged
 awaits_no_more : (server mid : ℕ) (o : Observation)
     → is_awaited server mid (if is_awaited server mid o then as_closed o else o) ≡ false
 awaits_no_more server mid o =
     elim (is_awaited server mid o) as (λ b. is_awaited server mid o ≡ b
     → is_awaited server mid (if b then as_closed o else o) ≡ false) [
-      | true ↦ λ e. and_false (server == o.server)
+      | true ↦ λ e. and-false (server == o.server)
       | false ↦ λ e. e
     ] refl
 

@@ -6,7 +6,7 @@ use Rattle.std.specs.List.{count_by, list_any}
 use Rattle.std.proofs.lemmas.Bool.{le-leb, eqb-true, and_parts, and_from, false_from_ne_true, both_ways, or_cases}
 use Rattle.std.proofs.lemmas.Bool.Decides.{nat_tests}
 use Rattle.std.proofs.lemmas.List.Sums.{sum_by-cons}
-use Rattle.std.proofs.lemmas.Bool.{or_left}
+use Rattle.std.proofs.lemmas.Bool.{or_left, leb-true}
 use Rattle.lemmas.proofs.Numbers.{eqb_itself}
 use Rattle.coap_codec.specs.declared.option.Opt.{Opt}
 use Rattle.device_requests.specs.Laws.{IsAmong}
@@ -22,9 +22,6 @@ use Rattle.laws_requests.proofs.Among.{among_any, any_found}
 
 -- ---- the table of recognized options
 
-pub at_most : (a b : ℕ) → nat_le a b ≡ true → a ≤ b
-at_most a b h = grind (arith, nat_tests)
-
 -- a line of the table applies
 abbrev fits : ℕ → ℕ → ℕ → ℕ → ℕ → Bool
 fits k least most n size = k == n && (nat_le least size && nat_le size most)
@@ -38,7 +35,7 @@ is_fit : (k least most n size : ℕ) → fits k least most n size ≡ true → F
 is_fit k least most n size h =
     let b = and_parts (k == n) (nat_le least size && nat_le size most) h in
     let c = and_parts (nat_le least size) (nat_le size most) b.1 in
-    record { same = eqb-true k n b.0; low = at_most least size c.0; high = at_most size most c.1 }
+    record { same = eqb-true k n b.0; low = leb-true least size c.0; high = leb-true size most c.1 }
 
 within : (least most size : ℕ) → least ≤ size → size ≤ most → (nat_le least size && nat_le size most) ≡ true
 within least most size h k = and_from (nat_le least size) (nat_le size most) (le-leb least size h) (le-leb size most k)

@@ -15,6 +15,7 @@ use Rattle.base64.specs.GeneralPurpose.{encode_of, decode_of, IsBytes}
 use Rattle.base64.specs.Engines.{standard}
 use Rattle.base64.proofs.EngineFacts.{decode_of-encode_of, decode_of_strict, IsAscii-encode_of}
 use Rattle.std.specs.Result.{IfOk, IfErr, MatchResult}
+use Rattle.std.proofs.lemmas.Bool.{and_parts, and_from}
 use Rattle.lemmas.proofs.Options.{option_map_parts}
 use Rattle.lwm2m_values.specs.declared.fault.ValueFault.{ValueFault}
 use Rattle.lwm2m_values.specs.declared.fault.ValueFault.TheVariants.{BadValue, Memory}
@@ -27,7 +28,7 @@ use Rattle.lwm2m_values.specs.Value.{kind_of, holds_bytes, IsGood, IsDecimal, Is
 use Rattle.lwm2m_values.specs.Value.{text_of}
 use Rattle.lwm2m_values.specs.Reading.{are_bytes, number_of_text, signed_of_text, flag_by, pair_of_text, opaque_of_text}
 use Rattle.lwm2m_values.specs.Reading.{spelled_by_text, value_of_text}
-use Rattle.lwm2m_values.proofs.Choices.{both, both_back, chosen, kept_if, zipped}
+use Rattle.lwm2m_values.proofs.Choices.{chosen, kept_if, zipped}
 use Rattle.lwm2m_values.proofs.GoodValue.{bytes_from, bytes_to, good_kept, good_back}
 use Rattle.lwm2m_values.proofs.OneText.{text_written}
 
@@ -38,11 +39,11 @@ are_digits t = list_all (λ d. nat_lt (digit_value d) 10) t
 
 digits_from : (t : List ℕ) → are_digits t ≡ true → AllDigits 10 t
 digits_from [] e = tt
-digits_from (c ∷ cs) e = let h = both _ _ e in (ltb-true (digit_value c) 10 h.0, digits_from cs h.1)
+digits_from (c ∷ cs) e = let h = and_parts _ _ e in (ltb-true (digit_value c) 10 h.0, digits_from cs h.1)
 
 digits_to : (t : List ℕ) → AllDigits 10 t → are_digits t ≡ true
 digits_to [] h = refl
-digits_to (c ∷ cs) h = both_back _ _ (lt-ltb (digit_value c) 10 h.0) (digits_to cs h.1)
+digits_to (c ∷ cs) h = and_from _ _ (lt-ltb (digit_value c) 10 h.0) (digits_to cs h.1)
 
 number_from : (t : List ℕ) (n : ℕ) → number_of_text t ≡ Some n → IsDecimal n t
 number_from [] n e = cc e

@@ -2,7 +2,7 @@
 use Rattle.std.proofs.Common.{◌≡◌, ℕ, ◌+◌, ◌<◌, ◌≤◌, length, arith, zero, suc, ◌==◌, Bool, true, false, cond, not, ◌&&◌}
 use Rattle.std.proofs.Common.{◌||◌, List, [], ◌∷◌, ◌++◌, Option, None, Some, filter, map, remove, slice_get, slice_set}
 use Rattle.std.proofs.Common.{IfSome, refl, sym, ap, subst, ◌∙◌, if◌then◌else◌, eqb-true}
-use Rattle.std.proofs.lemmas.Bool.{and_parts}
+use Rattle.std.proofs.lemmas.Bool.{and_parts, or_parts}
 use Rattle.std.proofs.lemmas.Nat.{mod_below}
 use Rattle.std.proofs.lemmas.Slice.Eq.{bytes_eq-Decides}
 use Rattle.std.specs.List.{AllByRecursion, IsDistinct, list_any}
@@ -125,17 +125,13 @@ numbers_fit (e ∷ es) h = (h.0.number, numbers_fit es h.1)
 abbrev pub tests_names : (Key → Key → Bool) → Type 0
 tests_names eq = (k j : Key) → eq k j ≡ (k.server == j.server && bytes_eq k.token.items j.token.items)
 
-either : (a b : Bool) → (a || b) ≡ false → (a ≡ false) × (b ≡ false)
-either true b h = cc
-either false b h = (refl, h)
-
 -- a name that no observation has is no key
 pub no_key : (eq : Key → Key → Bool) → tests_names eq → (k : Key) (es : List (Key × Observation))
     → AllByRecursion IsKeyed es → list_any (is_named k.server k.token.items) (values_of es) ≡ false
     → lookup (eq k) es ≡ None
 no_key eq law k [] h none = refl
 no_key eq law k (e ∷ es) h none =
-    let parts = either (is_named k.server k.token.items e.1) _ none in
+    let parts = or_parts (is_named k.server k.token.items e.1) _ none in
     let at : eq k e.0 ≡ false =
     law k e.0 ∙ (λ j. k.server == h.0.server j && bytes_eq k.token.items (h.0.token j)) ∙ parts.0 in
     ap (λ b. cond b (Some e.1) (lookup (eq k) es)) at ∙ no_key eq law k es h.1 parts.1
@@ -167,7 +163,7 @@ pub registered-none : (os : List Observation) (new : Observation) → list_any (
     → registered os new ≡ os ++ record new { number = 0 } ∷ []
 registered-none [] new none = refl
 registered-none (x ∷ os) new none =
-    let parts = either _ _ none in
+    let parts = or_parts _ _ none in
     ap (λ b. if b then record new { number = next_number x.number } ∷ os else x ∷ registered os new) parts.0
     ∙ ap (λ t. x ∷ t) (registered-none os new parts.1)
 

@@ -3,6 +3,7 @@ use Rattle.std.proofs.Common.{◌≡◌, ℕ, ◌==◌, Bool, true, false, not, 
 use Rattle.std.proofs.Common.{None, Some, option_map, if◌then◌else◌, refl, ap, ◌∙◌}
 use Rattle.std.specs.Option.{is_some, option_and_then, option_or}
 use Rattle.std.specs.List.{list_any}
+use Rattle.std.proofs.lemmas.Bool.{not-false}
 use Rattle.lemmas.proofs.Options.{option_map_none}
 use Rattle.lwm2m_values.specs.declared.kind.ValueKind.{ValueKind}
 use Rattle.lwm2m_values.specs.declared.value.Value.{Value}
@@ -187,10 +188,6 @@ values_when client (Part o i r n) payload format t h =
     mapped_some _ (given_to_part (definition_of client.catalog o r) n format payload)
     (to_part (definition_of client.catalog o r) (has_instance client.store (place_of o i)) n format payload t h)
 
-denied : (b : Bool) → not b ≡ false → b ≡ true
-denied true h = refl
-denied false h = cc
-
 in_format : {A : Type 0} (client : Client) (path : Path) (payload : List ℕ) (gives : Format → Option A)
     (format : Option Format)
     → ((f : Format) → write_fault client.catalog path payload f ≡ None → is_some (gives f) ≡ true)
@@ -275,8 +272,8 @@ has_fault client server path (to_write mode number payload) t s h e =
     contrary _ h
     (in_format client path payload (values_given client.catalog path payload)
     (format_at client.catalog path number)
-    (λ f none. values_when client path payload f (denied _ t) none)
-    (denied _ s) e)
+    (λ f none. values_when client path payload f (not-false _ t) none)
+    (not-false _ s) e)
 has_fault client server path (to_write_attributes queries) t s h e =
     some_or (query_fault [] (level_at client.catalog path) 1 queries) fault.Inconsistent e
 has_fault client server path (to_create number payload) t s h e =

@@ -1,7 +1,8 @@
 -- Queries from the left: those that are changes, then the first that is not.
 use Rattle.std.proofs.Common.{◌≡◌, ℕ, ◌+◌, true, false, List, [], ◌∷◌, ◌++◌, Some, Result, Ok, Err, cond}
-use Rattle.std.proofs.Common.{refl, sym, ap, ◌∙◌, map, filter, ◌==◌, ◌-◌, ◌≤◌, length, take, drop, get_or, arith}
+use Rattle.std.proofs.Common.{sym, ap, ◌∙◌, map, filter, ◌==◌, ◌-◌, ◌≤◌, length, take, drop, get_or, arith}
 use Rattle.std.proofs.lemmas.Bool.{eq-eqb}
+use Rattle.std.proofs.Math.Seq.{take-length}
 use Rattle.coap_codec.specs.declared.option.Opt.{Opt}
 use Rattle.notifier.specs.Query.{changes_of, reading_of}
 use Rattle.notifier.specs.declared.attribute.Change.{Change}
@@ -58,17 +59,13 @@ query_bad before level place q qs why h =
     read_bad (reading_of before level q) (λ c. before ++ c ∷ []) (λ cs. query_fault cs level (place + 1) qs)
     (λ e. Some (fault.Query place q e)) why h
 
-all_taken : {A : Type 0} (xs : List A) → take (length xs) xs ≡ xs
-all_taken [] = refl
-all_taken (x ∷ xs) = ap (λ ys. x ∷ ys) (all_taken xs)
-
 -- options as the first of them and the others
 pub first_and_others : (rest : List Opt) (o : Opt) → 1 ≤ length rest → o ≡ get_or rest 0 o
     → rest ≡ o ∷ take (length rest - 1) (drop 1 rest)
 first_and_others [] o h e = absurd (omega (arith, h))
 first_and_others (x ∷ xs) o h e =
     let fewer : length (x ∷ xs) - 1 ≡ length xs = omega arith in
-    ap (λ y. y ∷ xs) (sym e) ∙ ap (λ ys. o ∷ ys) (sym (all_taken xs) ∙ ap (λ n. take n xs) (sym fewer))
+    ap (λ y. y ∷ xs) (sym e) ∙ ap (λ ys. o ∷ ys) (sym (take-length xs) ∙ ap (λ n. take n xs) (sym fewer))
 
 begins_with_query : (rest : List Opt) (o : Opt) (q : List ℕ) → 1 ≤ length rest → o ≡ get_or rest 0 o
     → o.number ≡ 15 → q ≡ o.value → queries_of rest ≡ q ∷ queries_of (take (length rest - 1) (drop 1 rest))

@@ -5,7 +5,7 @@ use Rattle.std.proofs.Common.{append_assoc, arith}
 use Rattle.std.specs.Prelude.{is_some, nat_le, nat_lt}
 use Rattle.std.specs.List.{AllByRecursion, flat_map, list_all}
 use Rattle.std.specs.Ordering.{is_lt}
-use Rattle.std.proofs.lemmas.Bool.{eqb-true}
+use Rattle.std.proofs.lemmas.Bool.{eqb-true, and_parts}
 use Rattle.std.proofs.lemmas.Bool.Decides.{nat_tests}
 use Rattle.std.proofs.lemmas.List.{append-nil}
 use Rattle.byte_layout.specs.Layout.{each}
@@ -50,7 +50,7 @@ use Rattle.scenario_layout.proofs.Filling.{instance_added as more_instances, ins
 use Rattle.scenario_layout.proofs.Filling.{value_added as more_values, values_itself, values_none}
 use Rattle.scenario_layout.proofs.GoodClass.{class_good}
 use Rattle.scenario_layout.proofs.Items.{instance_made, object_vendor, value_made}
-use Rattle.scenario_layout.proofs.Ordered.{both_true, inserted_end}
+use Rattle.scenario_layout.proofs.Ordered.{inserted_end}
 use Rattle.scenario_image.specs.Layout.{path_to, path_with}
 use Rattle.scenario_image.specs.Scenario.{Scenario, class_fault}
 use Rattle.scenario_image.specs.declared.fault.ScenarioFault.TheVariants as scenario
@@ -89,7 +89,7 @@ unfolding instance
 instance_lead s o c before p same good =
     let k = with_instances c before in
     let u = with_store k (with_instance k.store p) in
-    let both = both_true (list_all (λ q. is_lt (instance_cmp q p)) before) (is_taken (instance_fault k p)) good.1 in
+    let both = and_parts (list_all (λ q. is_lt (instance_cmp q p)) before) (is_taken (instance_fault k p)) good.1 in
     let free : instance_fault k p ≡ None = taken_is _ both.1 in
     let more : instances_in u ≡ before ++ p ∷ [] =
     more_instances k p (ap (list_all (λ q. is_lt (instance_cmp q p))) same ∙ both.0)
@@ -239,7 +239,7 @@ value_lead s o c before e same good =
     let p = e.0 in
     let v = e.1 in
     let u = with_store k (with_value k.store p v) in
-    let both = both_true (list_all (λ q. is_lt (path_cmp q.0 p)) before) (is_some (kind_taken k p)) good.0.1 in
+    let both = and_parts (list_all (λ q. is_lt (path_cmp q.0 p)) before) (is_some (kind_taken k p)) good.0.1 in
     let found = some_kind (kind_taken k p) both.1 in
     let fit = of_kind_taken found.0 v (subst (λ w. (value w).Good v) found.1 good.1.0) in
     let free : value_fault_at k p v ≡ None = value_free k p v found.0 found.1 fit.0 fit.1 in
@@ -266,7 +266,7 @@ found_last : (front : List ObjectDef) (id : ℕ) (ds : List ResourceDef) → lis
     → object_of (front ++ defined id ds ∷ []) id ≡ Some (defined id ds)
 found_last [] id ds low = ap (λ b. cond b (Some (defined id ds)) None) (same_number id)
 found_last (o ∷ front) id ds low =
-    let p = both_true (ltb o.id id) (list_all (λ q. nat_lt q.id id) front) low in
+    let p = and_parts (ltb o.id id) (list_all (λ q. nat_lt q.id id) front) low in
     ap (λ b. cond b (Some o) (object_of (front ++ defined id ds ∷ []) id)) (other o.id id p.0)
     ∙ found_last front id ds p.1
 
@@ -318,7 +318,7 @@ object_lead : (s : Scenario) (c : Template) (before : List ObjectDef) (o : Objec
 unfolding object object_id resources
 object_lead s c before o num good =
     let k = with_objects c before in
-    let both = both_true (list_all (λ q. nat_lt q.id o.id) (base ++ before))
+    let both = and_parts (list_all (λ q. nat_lt q.id o.id) (base ++ before))
     (is_taken (object_fault k o.id)) good.0.1 in
     let free : object_fault k o.id ≡ None = taken_is _ both.1 in (
       opened s (with_catalog c ((base ++ before) ++ defined o.id [] ∷ [])) (Some o.id),

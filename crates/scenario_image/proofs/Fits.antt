@@ -1,10 +1,10 @@
 -- Good steps and rows are those that have bytes.
-use Rattle.std.proofs.Common.{◌≡◌, ℕ, zero, suc, ◌<◌, ◌≤◌, Bool, true, false, List, [], ◌∷◌, ◌++◌, length, Option, None}
+use Rattle.std.proofs.Common.{◌≡◌, ℕ, zero, suc, ◌<◌, ◌≤◌, true, List, [], ◌∷◌, ◌++◌, length, Option, None}
 use Rattle.std.proofs.Common.{Some, refl, sym, ap, subst, arith}
 use Rattle.std.specs.Prelude.{nat_le, ◌&&◌, IfSome, is_some}
 use Rattle.std.specs.Int.{w8, w16, w32}
 use Rattle.std.specs.List.{AllByRecursion}
-use Rattle.std.proofs.lemmas.Bool.{leb-true, le-leb, lt-ltb, ltb-true}
+use Rattle.std.proofs.lemmas.Bool.{leb-true, le-leb, lt-ltb, ltb-true, and_parts}
 use Rattle.std.proofs.lemmas.Option.{slice_get_within}
 use Rattle.byte_layout.specs.Exact.{IsBytes}
 use Rattle.byte_layout.specs.Layout.{Layout, number, raw, each}
@@ -66,14 +66,10 @@ kind_good kinds.Firmware = ((number_good w8 4 (omega arith), refl), refl)
 kind_good kinds.Post = ((number_good w8 5 (omega arith), refl), refl)
 kind_good kinds.Need = ((number_good w8 6 (omega arith), refl), refl)
 
-both : (a b : Bool) → (a && b) ≡ true → (a ≡ true) × (b ≡ true)
-both true b e = (refl, e)
-both false b e = absurd cc
-
 -- a number of four bytes that is at most the limit
 long_good : (n low limit : ℕ) → limit < 4294967296 → (nat_le low n && nat_le n limit) ≡ true → (number w32).Good n
 long_good n low limit small e =
-    let most : n ≤ limit = leb-true n limit (both (nat_le low n) (nat_le n limit) e).1 in
+    let most : n ≤ limit = leb-true n limit (and_parts (nat_le low n) (nat_le n limit) e).1 in
     let lt : n < 4294967296 = omega (arith, most, small) in
     number_good w32 n lt
 

@@ -2,7 +2,7 @@
 use Rattle.std.proofs.Common.{◌≡◌, ℕ, zero, suc, ◌-◌, ◌≤◌, nat_le, Bool, true, false, not, List, [], ◌∷◌, ◌++◌}
 use Rattle.std.proofs.Common.{length, Option, None, Some, slice_get, slice_set, if◌then◌else◌, refl, sym, ap, subst}
 use Rattle.std.proofs.Common.{◌∙◌, arith, length-append}
-use Rattle.std.proofs.lemmas.Bool.{leb-false}
+use Rattle.std.proofs.lemmas.Bool.{leb-false, not-false}
 use Rattle.std.specs.List.{AllByRecursion}
 use Rattle.std.proofs.lemmas.List.{length-set}
 use Rattle.lemmas.proofs.Lists.{item_at, each_pushed, each_weaker, each_at}
@@ -38,10 +38,6 @@ free : (b : Bool) (f : ScenarioFault) (rest : Option ScenarioFault) → (if b th
     × (rest ≡ None)
 free true f rest h = let e : Some f ≡ None = h in absurd cc
 free false f rest h = (refl, h)
-
-denied : (b : Bool) → not b ≡ false → b ≡ true
-denied true h = refl
-denied false h = let e : true ≡ false = h in absurd cc
 
 -- ---- a class more
 
@@ -106,8 +102,8 @@ longer_row classes row step good fields range ok =
           (record {
             fields = fields;
             range = range;
-            known = ap (λ c. is_known (accounts_in c) step) (sym good.stated) ∙ denied known first.0;
-            within = denied within third.0;
+            known = ap (λ c. is_known (accounts_in c) step) (sym good.stated) ∙ not-false known first.0;
+            within = not-false within third.0;
           });
     }
 
@@ -132,4 +128,4 @@ by_step classes rows new s step valid same ok fields more =
     let first = free (not (is_in_range step)) faults.Range (fault_in classes (last_row rows) step)
     (ap (λ x. step_fault x step) same ∙ ok) in
     subst (λ x. IsValid (made classes x)) (sym more)
-    (stepped classes rows (last_row rows) step valid refl fields (denied (is_in_range step) first.0) first.1)
+    (stepped classes rows (last_row rows) step valid refl fields (not-false (is_in_range step) first.0) first.1)

@@ -4,7 +4,7 @@ use Rattle.std.proofs.Common.{◌++◌, map, length, find, None, Some, refl, sym
 use Rattle.std.proofs.Common.{length-append, arith}
 use Rattle.std.specs.Prelude.{is_some, nat_le}
 use Rattle.std.specs.List.{AllByRecursion, list_all, list_any}
-use Rattle.std.proofs.lemmas.Bool.{lt-ltb}
+use Rattle.std.proofs.lemmas.Bool.{lt-ltb, and_from}
 use Rattle.std.proofs.lemmas.Bool.Decides.{nat_tests}
 use Rattle.lemmas.proofs.Lists.{each_here}
 use Rattle.lemmas.proofs.Numbers.{eqb_below}
@@ -12,7 +12,6 @@ use Rattle.byte_layout.specs.Layout.{Layout, each}
 use Rattle.object_defs.specs.Lines.{first_line}
 use Rattle.object_defs.specs.Vendor.{inserted}
 use Rattle.device_template.proofs.Ascending.{Rises}
-use Rattle.scenario_layout.proofs.Ordered.{and_true}
 
 -- ---- what holds of each item
 
@@ -103,7 +102,7 @@ rising_front (x ∷ front) n back h = (each_here (λ y. x < y) front n back h.0,
 pub all_below : {X : Type 0} (number : X → ℕ) (n : ℕ) (xs : List X) → AllByRecursion (λ m. m < n) (map number xs)
     → list_all (λ x. ltb (number x) n) xs ≡ true
 all_below number n [] h = refl
-all_below number n (x ∷ xs) h = and_true (ltb (number x) n) _ (lt-ltb (number x) n h.0) (all_below number n xs h.1)
+all_below number n (x ∷ xs) h = and_from (ltb (number x) n) _ (lt-ltb (number x) n h.0) (all_below number n xs h.1)
 
 pub map_inserted : {X : Type 0} (number : X → ℕ) (x : X) (xs : List X)
     → map number (inserted number x xs) ≡ inserted (λ a. a) (number x) (map number xs)
@@ -149,10 +148,6 @@ no_three false false false x y z h i j = refl
 
 pub below : (n m : ℕ) → nat_le m n ≡ false → n < m
 below n m h = grind (arith, nat_tests)
-
-pub not_false : (b : Bool) → not b ≡ false → b ≡ true
-not_false true h = refl
-not_false false h = absurd cc
 
 pub not_true : (b : Bool) → b ≡ true → not b ≡ false
 not_true b h = ap not h

@@ -4,7 +4,7 @@ use Rattle.std.proofs.Common.{lit<}
 use Rattle.std.specs.Prelude.{nat_lt, ◌==◌, ◌&&◌, ◌||◌}
 use Rattle.std.specs.List.{list_all}
 use Rattle.std.specs.Int.{w8, w16}
-use Rattle.std.proofs.lemmas.Bool.{ltb-true, eqb-true}
+use Rattle.std.proofs.lemmas.Bool.{ltb-true, eqb-true, and_parts}
 use Rattle.byte_layout.specs.declared.fault.Break.TheVariants.{BadField}
 use Rattle.byte_layout.specs.Layout.{Layout, number, judged, at_most, split, last}
 use Rattle.byte_layout.specs.Exact.{IsExact}
@@ -20,10 +20,6 @@ use Rattle.scenario_layout.specs.Definition.{behind_id, resource, resources}
 use Rattle.scenario_layout.proofs.ExactValue.{byte_exact, short_exact, kind_exact}
 use Rattle.scenario_layout.proofs.GoodValue.{kind_good}
 
-both_true : (a b : Bool) → (a && b) ≡ true → (a ≡ true) × (b ≡ true)
-both_true true b e = (refl, e)
-both_true false b e = absurd cc
-
 one_true : (a b : Bool) → (a || b) ≡ true → (a ≡ true) ⊎ (b ≡ true)
 one_true true b e = inl refl
 one_true false b e = inr e
@@ -37,7 +33,7 @@ ops_again (suc (suc (suc (suc zero)))) above below = refl
 ops_again (suc (suc (suc (suc (suc n))))) above below = absurd (omega arith)
 
 ops_known : (n : ℕ) → (nat_lt 0 n && nat_lt n 5) ≡ true → ops_number (ops_numbered n) ≡ n
-ops_known n e = let t = both_true (nat_lt 0 n) (nat_lt n 5) e in ops_again n (ltb-true 0 n t.0) (ltb-true n 5 t.1)
+ops_known n e = let t = and_parts (nat_lt 0 n) (nat_lt n 5) e in ops_again n (ltb-true 0 n t.0) (ltb-true n 5 t.1)
 
 ops_exact : IsExact ops
 unfolding ops

@@ -10,6 +10,7 @@ use Rattle.std.specs.FinMap.Entries.{find}
 use Rattle.std.proofs.lemmas.Bool.Decides.{nat_tests}
 use Rattle.std.proofs.lemmas.List.{map-append}
 use Rattle.std.proofs.lemmas.List.Elements.{filter-append}
+use Rattle.std.proofs.lemmas.Bool.{and_parts, and_from, not-false}
 use Rattle.lemmas.proofs.Lists.{each_weaker, each_here}
 use Rattle.lemmas.proofs.Options.{none_from_test}
 use Rattle.lemmas.proofs.Numbers.{nat_le_below}
@@ -32,10 +33,10 @@ use Rattle.device_template.specs.Built.IsBuilt.{nothing, account, object, resour
 use Rattle.scenario_layout.specs.Class.{instances_in, with_instances, instances}
 use Rattle.scenario_layout.specs.Class as layout
 use Rattle.scenario_layout.proofs.Between.{all_more, taken_more, taken_before, each_good, found_any}
-use Rattle.scenario_layout.proofs.Between.{below, not_false, not_true}
+use Rattle.scenario_layout.proofs.Between.{below, not_true}
 use Rattle.scenario_layout.proofs.Filling.{taken_none, no_entries}
 use Rattle.scenario_layout.proofs.GoodObjects.{no_fault, same_numbers}
-use Rattle.scenario_layout.proofs.Ordered.{both_true, and_true, is_true, map_units}
+use Rattle.scenario_layout.proofs.Ordered.{is_true, map_units}
 use Rattle.scenario_layout.proofs.Rising.{Ascends, keys_ascend, is_in_order, front_ascends, front_below, none_behind}
 use Rattle.scenario_layout.proofs.Rising.{insert_more, map_ascends}
 
@@ -143,8 +144,8 @@ has_instances _ (instance {class} place short built free) =
     let lines = four_lines (not (may_stand place)) (not (is_some (object_of class.catalog place.object)))
     (is_some (finite.get class.store.instances place))
     (nat_le 64 (length (instances_of class.store place.object))) _ _ _ _ free in
-    instance_more class.catalog class.store place short (has_instances class built) (not_false _ lines.0)
-    (not_false _ lines.1) (none_from_test _ lines.2) (below _ 64 lines.3)
+    instance_more class.catalog class.store place short (has_instances class built) (not-false _ lines.0)
+    (not-false _ lines.1) (none_from_test _ lines.2) (below _ 64 lines.3)
 has_instances _ (value {class} p v short good built free) = has_instances class built
 has_instances _ (notify {class} seconds built fits) = has_instances class built
 
@@ -269,8 +270,8 @@ low_entries : (p : InstancePath) (front : List InstancePath) → list_all (λ q.
     → list_all (λ (e : Entry). is_lt (instance_cmp e.0 p)) (as_entries front) ≡ true
 low_entries p [] h = refl
 low_entries p (q ∷ front) h =
-    let both = both_true (is_lt (instance_cmp q p)) _ h in
-    and_true (is_lt (instance_cmp q p)) _ both.0 (low_entries p front both.1)
+    let both = and_parts (is_lt (instance_cmp q p)) _ h in
+    and_from (is_lt (instance_cmp q p)) _ both.0 (low_entries p front both.1)
 
 instance_free : (k : Template) (front : List InstancePath) (p : InstancePath) (back : List InstancePath)
     → Ascends instance_cmp (λ q. q) (front ++ p ∷ back) → may_stand p ≡ true
@@ -304,7 +305,7 @@ unfolding layout.instance
 instance_good k front p back h all few =
     let is = each_here (λ q. IsPlace k.catalog (q, tt)) front p back all in (
       place_good p is.0 (number_small p is.1),
-      and_true _ _ (front_below instance_cmp (λ q. q) front p back h)
+      and_from _ _ (front_below instance_cmp (λ q. q) front p back h)
           (taken_none _ (instance_free k front p back h is.1 is.2 few)),
     )
   where
@@ -312,7 +313,7 @@ instance_good k front p back h all few =
     low n h = grind (arith, nat_tests)
 
     number_small : (q : InstancePath) → may_stand q ≡ true → q.instance < 65536
-    number_small q may = low q.instance (both_true _ _ (both_true (not (eqb q.object 0)) _ may).1).0
+    number_small q may = low q.instance (and_parts _ _ (and_parts (not (eqb q.object 0)) _ may).1).0
 
 pub instances_good : (c k : Template) → IsBuilt c → length c.catalog ≤ 16 → k.catalog ≡ c.catalog
     → (instances k).Good (instances_in c)

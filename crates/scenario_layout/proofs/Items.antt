@@ -1,12 +1,11 @@
 -- An item that is read and added to a class, or not.
 use Rattle.std.proofs.Common.{◌≡◌, ℕ, Bool, true, false, ◌&&◌, List, [], ◌∷◌, ◌++◌, Option, None, Some, Ok, Err}
-use Rattle.std.proofs.Common.{option_map, refl, sym, ap, subst, ◌∙◌, append_assoc, arith}
-use Rattle.std.specs.Prelude.{not, ◌≤◌, nat_lt, nat_le, length, is_some}
+use Rattle.std.proofs.Common.{option_map, refl, sym, ap, subst, ◌∙◌, append_assoc}
+use Rattle.std.specs.Prelude.{not, nat_lt, nat_le, length, is_some}
 use Rattle.std.specs.List.{list_all}
 use Rattle.std.specs.Ordering.{is_lt}
 use Rattle.std.specs.Int.{w16}
-use Rattle.std.proofs.lemmas.Bool.Decides.{nat_tests}
-use Rattle.std.proofs.lemmas.Bool.{eqb-true}
+use Rattle.std.proofs.lemmas.Bool.{eqb-true, le-leb}
 use Rattle.byte_layout.specs.declared.fault.Break.TheVariants.{BadField}
 use Rattle.byte_layout.specs.declared.fault.ReadError.{ReadError}
 use Rattle.byte_layout.specs.declared.fault.ReadError.TheVariants as errors
@@ -194,14 +193,11 @@ is_of_kind k v bytes after fits read =
     let same : kind_number (kind_of v) ≡ kind_number k = eqb-true (kind_number (kind_of v)) (kind_number k) good.0.1 in
     ap (has_kind v) (sym (number_again k) ∙ ap kind_numbered (sym same) ∙ number_again (kind_of v)) ∙ own_kind v
 
-short : (n m : ℕ) → n ≤ m → nat_le n m ≡ true
-short n m h = grind (arith, nat_tests)
-
 pub within : (v : Value) → IsGood v → has_good_length v ≡ true
-within (held.Text t) good = short (length t) 255 good.1
+within (held.Text t) good = le-leb (length t) 255 good.1
 within (held.Whole z) good = refl
 within (held.Flag b) good = refl
-within (held.Opaque b) good = short (length b) 1024 good.1
+within (held.Opaque b) good = le-leb (length b) 1024 good.1
 within (held.Moment z) good = refl
 within (held.Link o i) good = refl
 

@@ -1,7 +1,7 @@
 -- The devices before which all others are at the ends of their rows.
-use Rattle.std.proofs.Common.{◌≡◌, ℕ, ◌<◌, ◌⊎◌, inl, inr, Bool, true, false, not, List, set, Some, slice_get}
+use Rattle.std.proofs.Common.{◌≡◌, ℕ, ◌<◌, ◌⊎◌, inl, inr, true, false, List, set, Some, slice_get}
 use Rattle.std.proofs.Common.{refl, sym, subst, ◌∙◌, arith}
-use Rattle.std.proofs.lemmas.Bool.{cases_eq, false≢true}
+use Rattle.std.proofs.lemmas.Bool.{cases_eq, false≢true, not-true}
 use Rattle.lemmas.proofs.Lists.{set_elsewhere}
 use Rattle.scenario_image.specs.Scenario.{Scenario}
 use Rattle.trace_file.specs.declared.entry.Entry.{Entry}
@@ -36,10 +36,6 @@ ended_by stations low d i x y z ended at going less here (inl own) =
 ended_by stations low d i x y z ended at going less here (inr other) =
     ended i z less (sym (set_elsewhere stations d i y other) ∙ here)
 
-going_on : (b : Bool) → not b ≡ true → b ≡ false
-going_on true h = absurd (false≢true h)
-going_on false h = refl
-
 -- a device with a step left is none of those, so its station may change
 pub ended_set : (s : Scenario) (es : List Entry) (stations : List Station) (counts : List ℕ) (low d i : ℕ)
     (x y : Station) → IsTrace s es stations counts → slice_get stations d ≡ Some x → is_waiting s es d ≡ true
@@ -47,4 +43,4 @@ pub ended_set : (s : Scenario) (es : List Entry) (stations : List Station) (coun
 ended_set s es stations counts low d i x y t at waits from ended =
     subst (λ j. AreEnded (set stations j y) low) (sym from)
     (λ j z less here. ended_by stations low d j x y z ended at
-    (going_on (is_end x.next) (sym (left_is s es stations counts d x t at) ∙ waits)) less here (cases_eq d j))
+    (not-true (is_end x.next) (sym (left_is s es stations counts d x t at) ∙ waits)) less here (cases_eq d j))
