@@ -4,15 +4,16 @@ use Rattle.std.proofs.Common.{None, Some, slice_get, sym, ap, subst, ◌∙◌, 
 use Rattle.std.specs.Prelude.{fold}
 use Rattle.std.proofs.lemmas.List.Sums.{fold_push}
 use Rattle.std.proofs.lemmas.Option.{same_Some, slice_get_within}
-use Rattle.lemmas.proofs.Lists.{item_at, each_at}
+use Rattle.lemmas.proofs.Lists.{item_at}
 use Rattle.device_template.specs.Template.{Template}
 use Rattle.device_machine.specs.declared.event.Event.{Event}
 use Rattle.device_machine.specs.declared.output.Output.{Output}
 use Rattle.device_machine.specs.State.{Machine, Device, Shows}
 use Rattle.device_machine.specs.Reactions.{outputs_of, flat_after}
 use Rattle.scenario_image.specs.declared.step.Step.{Step}
-use Rattle.scenario_image.specs.Scenario.{Row, Scenario, IsGoodRow, IsValid}
+use Rattle.scenario_image.specs.Scenario.{Row, Scenario, IsValid}
 use Rattle.scenario_image.specs.Play.{state_at, shown, IsRowOf}
+use Rattle.scenario_image.proofs.RowLaws.{row_of}
 use Rattle.fleet_core.specs.Run.{steps_in, step_at, out_at}
 use Rattle.fleet_core.specs.Board.{ShowsAfter}
 use Rattle.case_text.specs.declared.item.Part.{Part}
@@ -20,22 +21,6 @@ use Rattle.case_text.specs.declared.item.Part.TheVariants as parts
 use Rattle.case_play.specs.Spots.{Spot, IsLast, IsAsked, HasStepped, HasTaken, PutsOut}
 
 -- ---- a row
-
--- a row that is there
-pub record HasRow (s : Scenario) (d : ℕ) : Type 0 where
-  pub class : Template
-  pub steps : List Step
-  pub row : IsRowOf s d class steps
-
-pub row_of : (s : Scenario) (d : ℕ) → IsValid s → d < length s.rows → HasRow s d
-row_of s d valid within =
-    let found = item_at s.rows d within in
-    let good : IsGoodRow s.classes found.0 = each_at (IsGoodRow s.classes) s.rows d found.0 valid.each found.1 in
-    record {
-      class = good.class;
-      steps = found.0.steps;
-      row = record { place = found.0.class; row = found.1; stated = good.stated };
-    }
 
 row_with : ℕ → List Step → Row
 row_with place steps = record { class = place; steps = steps }

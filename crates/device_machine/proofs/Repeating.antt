@@ -67,11 +67,11 @@ client_after k Ack reply = refl
 client_after k Rst reply = refl
 
 -- a fresh request is answered
-asked_con : (f : Machine) (server : ℕ) (m : Message) (o : Option Recorded) → is_request m.code ≡ true
+pub asked_con : (f : Machine) (server : ℕ) (m : Message) (o : Option Recorded) → is_request m.code ≡ true
     → repeat_of f server m ≡ o → on_message f server m Con ≡ on_request f server m o
 asked_con f server m o r e = rw r (ap (on_request f server m) e)
 
-asked_non : (f : Machine) (server : ℕ) (m : Message) (o : Option Recorded) → is_request m.code ≡ true
+pub asked_non : (f : Machine) (server : ℕ) (m : Message) (o : Option Recorded) → is_request m.code ≡ true
     → repeat_of f server m ≡ o → on_message f server m Non ≡ on_request f server m o
 asked_non f server m o r e = rw r (ap (on_request f server m) e)
 

@@ -162,7 +162,8 @@ pub second_left : (client : Client) (clock next_id : ℕ) (os : List Observation
 second_left client clock next_id [] = tt
 second_left client clock next_id (o ∷ os) =
     let t = turn_of client clock next_id o in
-    each_appended (IsLaterOneOf (o ∷ os)) t.left (second client clock t.next_id os).left (turn_left client clock next_id o os)
+    each_appended (IsLaterOneOf (o ∷ os)) t.left (second client clock t.next_id os).left
+    (turn_left client clock next_id o os)
     (each_weaker (IsLaterOneOf os) (IsLaterOneOf (o ∷ os)) (λ p h. inr h) (second client clock t.next_id os).left
     (second_left client clock t.next_id os))
 
@@ -193,7 +194,8 @@ pub second_sent : (client : Client) (clock next_id : ℕ) (os : List Observation
 second_sent client clock next_id [] = tt
 second_sent client clock next_id (o ∷ os) =
     let t = turn_of client clock next_id o in
-    each_appended (IsOfOneOf (o ∷ os)) t.sent (second client clock t.next_id os).sent (turn_sent client clock next_id o os)
+    each_appended (IsOfOneOf (o ∷ os)) t.sent (second client clock t.next_id os).sent
+    (turn_sent client clock next_id o os)
     (each_weaker (IsOfOneOf os) (IsOfOneOf (o ∷ os)) (λ d h. inr h) (second client clock t.next_id os).sent
     (second_sent client clock t.next_id os))
 

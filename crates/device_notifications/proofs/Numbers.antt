@@ -244,11 +244,13 @@ one_more client clock n next_id before after o rise =
     each_weaker (IsLaterOneOf before) (IsLaterOneOf others) (later_left before after) b.left
     (second_left client clock next_id before) in
     let back : (i : ℕ) → AllByRecursion (IsOfOneOf others) (second client clock i after).sent =
-    λ i. each_weaker (IsOfOneOf after) (IsOfOneOf others) (message_right before after) (second client clock i after).sent
+    λ i. each_weaker (IsOfOneOf after) (IsOfOneOf others) (message_right before after)
+    (second client clock i after).sent
     (second_sent client clock i after) in
     let all : (i : ℕ) → AllByRecursion (IsLaterOneOf others) (b.left ++ (second client clock i after).left) =
     λ i. each_appended (IsLaterOneOf others) b.left (second client clock i after).left front_left
-    (each_weaker (IsLaterOneOf after) (IsLaterOneOf others) (later_right before after) (second client clock i after).left
+    (each_weaker (IsLaterOneOf after) (IsLaterOneOf others) (later_right before after)
+    (second client clock i after).left
     (second_left client clock i after)) in
     by_all client clock b.next_id o (λ t. RisesByOne o others
     (whole client clock n b t after).sent (whole client clock n b t after).left)
@@ -278,7 +280,8 @@ one_more client clock n next_id before after o rise =
     (each_weaker (IsOfOneOf (b.left ++ a.left)) (IsOfOneOf others) (of_left others (b.left ++ a.left) (all i)) r.sent
     (seconds_sent client clock n a.next_id (b.left ++ a.left)))
     (b.next_id, present client o, refl, no_content)
-    (each_weaker (IsLaterOneOf (b.left ++ a.left)) (IsLaterOneOf others) (later_in others (b.left ++ a.left) (all i)) r.left
+    (each_weaker (IsLaterOneOf (b.left ++ a.left)) (IsLaterOneOf others)
+    (later_in others (b.left ++ a.left) (all i)) r.left
     (seconds_left client clock n a.next_id (b.left ++ a.left))))
     (λ is. quiet_one client clock n others b after o front (back b.next_id) (all b.next_id) rise)
     (λ is.
@@ -293,7 +296,8 @@ one_more client clock n next_id before after o rise =
     let r = seconds client clock n a.next_id (b.left ++ a.left) in
     let there = ends_one o clock is in
     expired_then o others b.sent a.sent r.sent r.left front (back b.next_id)
-    (each_weaker (IsOfOneOf (b.left ++ a.left)) (IsOfOneOf others) (of_left others (b.left ++ a.left) (all b.next_id)) r.sent
+    (each_weaker (IsOfOneOf (b.left ++ a.left)) (IsOfOneOf others)
+    (of_left others (b.left ++ a.left) (all b.next_id)) r.sent
     (seconds_sent client clock n a.next_id (b.left ++ a.left)))
     (not_none (open_notification o) there.0 there.1)
     (each_weaker (IsLaterOneOf (b.left ++ a.left)) (IsLaterOneOf others)

@@ -1,8 +1,9 @@
 -- What a second does to the observations, as far as it is worked out, and as far as it is done.
-use Rattle.std.proofs.Common.{◌≡◌, ℕ, zero, suc, ◌+◌, ◌<◌, ◌≤◌, List, [], ◌∷◌, ◌++◌, length, map, take, drop, slice_get}
+use Rattle.std.proofs.Common.{◌≡◌, ℕ, zero, suc, ◌+◌, ◌<◌, ◌≤◌, List, [], ◌∷◌, ◌++◌, length, take, drop, slice_get}
 use Rattle.std.proofs.Common.{slice_set}
 use Rattle.std.proofs.Common.{Some, refl, sym, ap, subst, ◌∙◌, arith}
 use Rattle.std.proofs.lemmas.List.{append-nil, append_assoc, drop_all, length-append, length-drop, map-append, take_all}
+use Rattle.std.proofs.lemmas.List.{length-map}
 use Rattle.lemmas.proofs.Lists.{take_one_more}
 use Rattle.notifier.specs.declared.observation.Observation.{Observation}
 use Rattle.notifier.specs.declared.pending.Outlook.{Outlook}
@@ -39,10 +40,6 @@ length-taken : {X : Type 0} (xs : List X) (n : ℕ) → n ≤ length xs → leng
 length-taken xs zero h = refl
 length-taken [] (suc n) h = absurd (let f : ⊥ = omega (arith, h) in f)
 length-taken (x ∷ xs) (suc n) h = ap suc (length-taken xs n (omega (arith, h)))
-
-length-mapped : {X Y : Type 0} (f : X → Y) (xs : List X) → length (map f xs) ≡ length xs
-length-mapped f [] = refl
-length-mapped f (x ∷ xs) = ap suc (length-mapped f xs)
 
 pub length-push : {X : Type 0} (xs : List X) (x : X) (n : ℕ) → length xs ≡ n → length (xs ++ x ∷ []) ≡ n + 1
 length-push [] x n h = omega (arith, h)
@@ -103,7 +100,7 @@ one_planned client clock os deeds before now after n o deed within at does h =
     ap (λ xs. said_by_all (outlooks_of client xs) (deeds ++ deed ∷ [])) first
     ∙ ap (λ ss. said_by_all ss (deeds ++ deed ∷ [])) (map-append (outlook_of client) (take n os) (o ∷ []))
     ∙ said_push (outlooks_of client (take n os)) deeds (outlook_of client o) deed
-    (length-mapped (outlook_of client) (take n os) ∙ count)
+    (length-map (take n os) (outlook_of client) ∙ count)
     ∙ ap (λ t. said_by_all (outlooks_of client (take n os)) deeds ++ t) does.said in
     record {
       each = length-push deeds deed n h.each;
@@ -218,7 +215,8 @@ left_carried clock old now next_now ys deed o place next within at h puts =
     let here : left_by_all clock (take n old) ys ++ left_by clock o deed
     ≡ left_by_all clock (take (length (ys ++ deed ∷ [])) old) (ys ++ deed ∷ []) =
     sym (left_push clock (take n old) ys o deed (length-taken old n (omega (arith, within))))
-    ∙ ap (λ xs. left_by_all clock xs (ys ++ deed ∷ [])) (sym (take_one_more old n o at) ∙ ap (λ m. take m old) (sym count)) in
+    ∙ ap (λ xs. left_by_all clock xs (ys ++ deed ∷ []))
+    (sym (take_one_more old n o at) ∙ ap (λ m. take m old) (sym count)) in
     subst (λ m. Carried old next_now (left_by_all clock (take (length (ys ++ deed ∷ [])) old) (ys ++ deed ∷ [])) next m)
     (sym count)
     (subst (λ xs. Carried old next_now xs next (n + 1)) here

@@ -49,7 +49,8 @@ pub seconds_send_after_pmin : SecondsSendAfterPmin
 seconds_send_after_pmin client clock zero next_id os = tt
 seconds_send_after_pmin client clock (suc n) next_id os =
     let t = second client (clock + 1) next_id os in
-    each_appended (IsInOneOf client clock (suc n) next_id os) t.sent (seconds client (clock + 1) n t.next_id t.left).sent
+    each_appended (IsInOneOf client clock (suc n) next_id os) t.sent
+    (seconds client (clock + 1) n t.next_id t.left).sent
     (each_weaker (IsOf client (clock + 1) os) (IsInOneOf client clock (suc n) next_id os)
     (in_first client clock n next_id os) t.sent (sends_after_pmin client (clock + 1) next_id os))
     (each_weaker (IsInOneOf client (clock + 1) n t.next_id t.left) (IsInOneOf client clock (suc n) next_id os)

@@ -7,7 +7,7 @@ use Rattle.std.specs.Option.{option_map, option_to_list}
 use Rattle.std.proofs.lemmas.Bool.{leb-true}
 use Rattle.std.proofs.lemmas.Bool.Decides.{nat_tests}
 use Rattle.std.proofs.Math.Logic.{◌⊎◌, inl, inr}
-use Rattle.lemmas.proofs.Lists.{each_appended, each_weaker}
+use Rattle.lemmas.proofs.Lists.{each_appended, each_weaker, contains_later}
 use Rattle.notifier.specs.Resending.{turn_at, turn_with}
 use Rattle.notifier.specs.Trigger.{is_due}
 use Rattle.notifier.specs.declared.observation.Observation.{Observation}
@@ -123,7 +123,7 @@ pub of_option : {X : Type 0} (x : Option X) (Q : X → Type 0) → ((y : X) → 
 of_option None Q h = tt
 of_option (Some y) Q h = (h y refl, tt)
 
-due_waits : (age pmin : ℕ) (pmax : Option ℕ) (t : Bool) → is_due age pmin pmax t ≡ true → pmin ≤ age
+pub due_waits : (age pmin : ℕ) (pmax : Option ℕ) (t : Bool) → is_due age pmin pmax t ≡ true → pmin ≤ age
 due_waits age pmin None t h = grind (arith, nat_tests)
 due_waits age pmin (Some m) t h = grind (arith, nat_tests)
 
@@ -140,9 +140,6 @@ not_due age pmin m t pmax is h above follows =
 
 pub first_of : {X : Type 0} (x : X) (xs : List X) → Contains (x ∷ xs) x
 first_of x xs = (0, omega arith, refl)
-
-later_of : {X : Type 0} (y x : X) (xs : List X) → Contains xs x → Contains (y ∷ xs) x
-later_of y x xs h = (suc h.0, omega (arith, h.1), h.2)
 
 -- ---- each datagram is some observation's
 
@@ -185,7 +182,7 @@ pub sends_after_pmin : (client : Client) (clock next_id : ℕ) (os : List Observ
 sends_after_pmin client clock next_id [] = tt
 sends_after_pmin client clock next_id (o ∷ os) =
     each_appended _ (turn_of client clock next_id o).sent _ (sent_by client clock next_id o os)
-    (each_weaker (IsOf client clock os) (IsOf client clock (o ∷ os)) (λ d h. (h.0, later_of o h.0 os h.1, h.2)) _
+    (each_weaker (IsOf client clock os) (IsOf client clock (o ∷ os)) (λ d h. (h.0, contains_later o h.0 os h.1, h.2)) _
     (sends_after_pmin client clock (turn_of client clock next_id o).next_id os))
 
 -- ---- no observation is left over its pmax

@@ -30,7 +30,7 @@ goes_waits s es d go =
     lt-ltb (made_by d es) (length (steps_in (slice_get s.rows d)))
     (slice_get_within (steps_in (slice_get s.rows d)) (made_by d es) fits.step fits.stands)
 
-none_past : {X : Type 0} (xs : List X) (i : ℕ) → slice_get xs i ≡ None → length xs ≤ i
+pub none_past : {X : Type 0} (xs : List X) (i : ℕ) → slice_get xs i ≡ None → length xs ≤ i
 none_past [] i at = omega arith
 none_past (x ∷ xs) zero at = let e : Some x ≡ None = at in absurd cc
 none_past (x ∷ xs) (suc i) at = omega (arith, none_past xs i at)

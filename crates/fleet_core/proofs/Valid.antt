@@ -1,6 +1,6 @@
 -- What a valid scenario says of the steps that are taken.
 use Rattle.std.proofs.Common.{◌≡◌, ℕ, zero, suc, ◌+◌, ◌*◌, ◌<◌, ◌≤◌, nat_le, nat_lt, Bool, true, false, List, [], ◌∷◌}
-use Rattle.std.proofs.Common.{◌++◌, length, take, Option, None, Some, slice_get, refl, ap, subst, arith}
+use Rattle.std.proofs.Common.{length, take, Option, None, Some, slice_get, refl, ap, subst, arith}
 use Rattle.std.specs.List.{AllByRecursion}
 use Rattle.std.proofs.lemmas.Bool.{leb-true, le-ltb, and_parts, or_from}
 use Rattle.std.proofs.lemmas.Option.{slice_get_within}
@@ -111,11 +111,6 @@ takes_step s d k step x is shows =
     (omega (arith, clock, early))
 
 -- ---- the state after one step more
-
-after_push : (f : Machine) (steps : List Step) (step : Step)
-    → state_after f (steps ++ step ∷ []) ≡ step_after (state_after f steps) step
-after_push f [] step = refl
-after_push f (s ∷ steps) step = after_push (step_after f s) steps step
 
 pub state-more : (steps : List Step) (k : ℕ) (step : Step) (f : Machine) → slice_get steps k ≡ Some step
     → state_after f (take (suc k) steps) ≡ step_after (state_after f (take k steps)) step

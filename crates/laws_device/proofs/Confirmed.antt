@@ -93,7 +93,11 @@ second_nons client clock next_id (o ∷ os) non h =
     let u = second client clock t.next_id os in
     let a = turn_nons client clock next_id o non h.0 in
     let b = second_nons client clock t.next_id os non h.1 in
-    record { sent = each_appended IsNon t.sent u.sent a.sent b.sent; left = each_appended IsClosed t.left u.left a.left b.left }
+    record {
+      sent = each_appended IsNon t.sent u.sent a.sent b.sent;
+      left =
+          each_appended IsClosed t.left u.left a.left b.left;
+    }
 
 seconds_nons : (client : Client) (clock n next_id : ℕ) (os : List Observation) → client.notify ≡ 0
     → AllByRecursion IsClosed os → Nons (seconds client clock n next_id os)

@@ -4,6 +4,7 @@ use Rattle.std.proofs.Common.{Result, Ok, Err, option_map, refl, sym, ap, ◌∙
 use Rattle.std.specs.Bool.{if◌then◌else◌}
 use Rattle.std.specs.List.{AllByRecursion}
 use Rattle.lemmas.proofs.Lists.{each_appended}
+use Rattle.lemmas.proofs.Tests.{either}
 use Rattle.coap_codec.specs.Message.{Message, spelling}
 use Rattle.coap_codec.specs.Reading.{reading_of}
 use Rattle.coap_codec.specs.declared.fault.CoapFault.{CoapFault}
@@ -38,11 +39,6 @@ strangers f server bytes h =
     let ignored : reaction_to f (Recv server bytes) ≡ silence f =
     ap (λ b. if b then on_datagram f server bytes (reading_of bytes) else silence f) h in
     (ap (λ r. r.outputs) ignored, ap (λ r. r.flat) ignored)
-
--- whichever of two it is
-either : {X : Type 0} (P : X → Type 0) (b : Bool) (x y : X) → P x → P y → P (if b then x else y)
-either P true x y h k = h
-either P false x y h k = k
 
 -- all that a reaction sends goes to this server
 abbrev IsAllTo : ℕ → Reaction → Type 0

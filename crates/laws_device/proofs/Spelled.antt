@@ -1,5 +1,5 @@
 -- The datagrams that a device sends of its own are messages.
-use Rattle.std.proofs.Common.{◌≡◌, ℕ, zero, suc, ◌+◌, ◌/◌, ◌%◌, ◌<◌, ◌≤◌, nat_lt, Bool, true, false}
+use Rattle.std.proofs.Common.{◌≡◌, ℕ, zero, suc, ◌+◌, ◌%◌, ◌<◌, ◌≤◌, Bool, true, false}
 use Rattle.std.proofs.Common.{List, [], ◌∷◌, ◌++◌, length, map, Option, None, Some}
 use Rattle.std.proofs.Common.{option_map, refl, subst, arith}
 use Rattle.std.specs.Bool.{if◌then◌else◌}
@@ -7,7 +7,6 @@ use Rattle.std.specs.List.{AllByRecursion}
 use Rattle.std.proofs.lemmas.Option.{same_Some, none-some}
 use Rattle.lemmas.proofs.Lists.{each_appended}
 use Rattle.coap_codec.specs.Message.{IsOptionList, IsWellFormed, Message, spelling}
-use Rattle.coap_codec.specs.Number.{shortest}
 use Rattle.coap_codec.specs.Options.{number_option}
 use Rattle.coap_codec.specs.declared.option.Opt.{Opt}
 use Rattle.coap_codec.specs.declared.kind.Kind.{Kind}
@@ -29,39 +28,16 @@ use Rattle.device_notifications.specs.Second.{Sweep, next_notification, notified
 use Rattle.device_notifications.specs.Second.{sends_nons, told, turn_of}
 use Rattle.device_notifications.specs.declared.datagram.Datagram.{Datagram}
 use Rattle.device_notifications.proofs.Turns.{by_all, of_option}
+use Rattle.device_notifications.proofs.Options.{format_follows}
 use Rattle.device_machine.specs.Reactions.{send_of, sweep_in}
 use Rattle.device_machine.specs.State.{Machine}
 use Rattle.device_machine.specs.Reactions.{Reaction}
 use Rattle.device_machine.specs.Reactions.{reaction_to}
 use Rattle.device_machine.specs.declared.event.Event.TheVariants.{Tick}
+use Rattle.device_machine.proofs.Naming.{numbered}
 use Rattle.laws_device.specs.Messages.{HasMessages}
 use Rattle.laws_device.proofs.Served.{first}
 use Rattle.laws_device.specs.Messages.{IsMessage, IsSound, SendsMessage, StartsSound}
-
--- ---- options are in order, and short
-
-short_choice : (a b c d : Bool) (n : ℕ)
-    → length (if a then [] else (if b then n ∷ [] else (if c then n / 256 ∷ n % 256 ∷ []
-    else (if d then n / 65536 ∷ n / 256 % 256 ∷ n % 256 ∷ []
-    else n / 16777216 ∷ n / 65536 % 256 ∷ n / 256 % 256 ∷ n % 256 ∷ [])))) ≤ 65804
-short_choice true b c d n = omega (arith)
-short_choice false true c d n = omega (arith)
-short_choice false false true d n = omega (arith)
-short_choice false false false true n = omega (arith)
-short_choice false false false false n = omega (arith)
-
-short_number : (n : ℕ) → length (shortest n) ≤ 65804
-short_number n = short_choice (nat_lt n 1) (nat_lt n 256) (nat_lt n 65536) (nat_lt n 16777216) n
-
-pub numbered : (before option : ℕ) (number : Option ℕ) (rest : List Opt) → before ≤ option → option ≤ 12
-    → IsOptionList before rest → IsOptionList option rest → IsOptionList before (number_option option number ++ rest)
-numbered before option None rest h k l m = l
-numbered before option (Some n) rest h k l m =
-    (record { ascends = h; in_range = omega (arith); fits = short_number n }, m)
-
-pub format_follows : (before : ℕ) (format : Option ℕ) → before ≤ 12 → IsOptionList before (format_options format)
-format_follows before None h = tt
-format_follows before (Some f) h = (record { ascends = h; in_range = omega (arith); fits = short_number f }, tt)
 
 -- ---- a message with a code of class 2, 4 or 5
 

@@ -13,12 +13,12 @@ use Rattle.device_requests.specs.Laws.{IsAmong}
 use Rattle.device_requests.specs.Options.{has_known_form, has_unknown_critical}
 use Rattle.device_requests.specs.Options.{has_unrecognized_critical, is_critical, known_options}
 use Rattle.device_requests.specs.Options.{repeats}
+use Rattle.device_requests.proofs.Among.{any_found, among-any}
 use Rattle.laws_requests.specs.Understood.{CriticalIsUnderstood, HasNo}
 use Rattle.laws_requests.specs.Understood.{IsRecognized, IsUnderstood}
 use Rattle.laws_requests.specs.Understood.{accept, content_format}
 use Rattle.laws_requests.specs.Understood.{observe}
 use Rattle.laws_requests.specs.Understood.{uri_host, uri_path, uri_port, uri_query}
-use Rattle.laws_requests.proofs.Among.{among_any, any_found}
 
 -- ---- the table of recognized options
 
@@ -241,7 +241,7 @@ understood os h before after o splits odd =
     let test = λ (x : Opt). is_critical x && not (has_known_form x) in
     let critical : is_critical o ≡ true = ap (λ (k : ℕ). k == 1) odd in
     let off : test o ≡ false =
-    false_from_ne_true (test o) (λ k. both_ways (list_any test os) p.known (among_any test o os among k)) in
+    false_from_ne_true (test o) (λ k. both_ways (list_any test os) p.known (among-any test o os among k)) in
     let r = form_means o.number (length o.value) (known_then (is_critical o) (has_known_form o) off critical) in
     record {
       recognized = r;

@@ -1,14 +1,13 @@
 -- The classes and the devices of a text's scenario are what its parts say.
-use Rattle.std.proofs.Common.{◌≡◌, ℕ, suc, ◌-◌, Bool, true, false, cond, List, []}
+use Rattle.std.proofs.Common.{◌≡◌, ℕ, Bool, true, false, cond, List, []}
 use Rattle.std.proofs.Common.{◌∷◌, ◌++◌, Option, None, Some}
-use Rattle.std.proofs.Common.{Result, Ok, Err, refl, sym, ap, subst, ◌∙◌, set, append_assoc, append-nil, arith}
-use Rattle.std.specs.List.{slice_get}
-use Rattle.lemmas.proofs.Lists.{set_pushed, last_place, item_pushed}
+use Rattle.std.proofs.Common.{Result, Ok, Err, refl, sym, ap, subst, ◌∙◌, append_assoc, append-nil}
 use Rattle.device_template.specs.Template.{Template, empty_class}
 use Rattle.device_machine.specs.declared.event.Event.TheVariants as event
 use Rattle.scenario_image.specs.Scenario.{Row, Scenario, last_row, longer, with_last}
 use Rattle.scenario_image.specs.declared.step.Step.{Step}
 use Rattle.scenario_image.specs.declared.step.Step.TheVariants as step
+use Rattle.scenario_image.proofs.RowLaws.{last_longer}
 use Rattle.scenario_words.specs.declared.cause.Cause.{Cause}
 use Rattle.scenario_words.specs.Words.{lines, words}
 use Rattle.scenario_words.specs.Reading.{◌>>=◌}
@@ -228,19 +227,6 @@ classes_from (s ∷ ss) d e h =
 
 -- ---- the rows
 
-minus_one : (n : ℕ) → suc n - 1 ≡ n
-minus_one n = omega arith
-
-is_last : (rows : List Row) (r : Row) → last_row (rows ++ r ∷ []) ≡ Some r
-is_last rows r = ap (slice_get (rows ++ r ∷ [])) (last_place rows r) ∙ item_pushed rows r
-
-with_longer : (rows : List Row) (r : Row) (x : Step)
-    → with_last (rows ++ r ∷ []) (last_row (rows ++ r ∷ [])) x ≡ rows ++ longer r x ∷ []
-with_longer rows r x =
-    ap (λ o. with_last (rows ++ r ∷ []) o x) (is_last rows r)
-    ∙ ap (λ n. set (rows ++ r ∷ []) n (longer r x)) (last_place rows r)
-    ∙ set_pushed rows r (longer r x)
-
 -- the rows from here on: those that are there, to the last of which the steps up to the next `device` belong
 abbrev RowsFrom : List Row → List Statement → List Row → Type 0
 RowsFrom there ss rows =
@@ -266,7 +252,7 @@ rows_longer : (s : Statement) (x : Step) (ss : List Statement) (there new rows :
 rows_longer s x ss there new rows same steps others h = (
   (λ none. h.0 (sym same ∙ ap (λ rs. with_last rs (last_row rs) x) none) ∙ sym others),
   (λ front r is. h.1 front (longer r x)
-      (sym same ∙ ap (λ rs. with_last rs (last_row rs) x) is ∙ with_longer front r x)
+      (sym same ∙ ap (λ rs. with_last rs (last_row rs) x) is ∙ last_longer front r x)
       ∙ ap (λ xs. front ++ record { class = r.class; steps = xs } ∷ said_rows ss)
       (append_assoc r.steps (x ∷ []) (said_steps ss) ∙ ap (λ xs. r.steps ++ xs) (sym steps))
       ∙ ap (λ rs. front ++ record { class = r.class; steps = r.steps ++ said_steps (s ∷ ss) } ∷ rs) (sym others)),

@@ -21,11 +21,12 @@ use Rattle.scenario_asm.specs.Denotes.{Denotes}
 use Rattle.scenario_asm.specs.Draft.{Draft, closed, nothing}
 use Rattle.scenario_asm.specs.Text.{assembled, effect_of, line_after, lines_after, whole, whole_of}
 use Rattle.scenario_asm.proofs.Denoting.{denotes_so, so_denotes}
+use Rattle.scenario_asm.proofs.Lines.{taken_more}
 use Rattle.laws_text.specs.WrongLine.{CanBegin, IsFirstWrong, IsRefusedAt, LaterLinesChangeNothing}
 use Rattle.laws_text.specs.WrongLine.{NothingElseEndsWrong, NothingIsMissing}
 use Rattle.laws_text.specs.WrongLine.{RefusedAtFirstWrong, StatesNothing}
 use Rattle.laws_text.proofs.Begun.{are_blank, blank_run}
-use Rattle.laws_text.proofs.Runs.{front_taken, go_on, one_more, refused_behind, run_on, stop_is, stops_at}
+use Rattle.laws_text.proofs.Runs.{front_taken, go_on, refused_behind, run_on, stop_is, stops_at}
 
 -- ---- each line of a text stands alone in a text
 
@@ -184,7 +185,7 @@ wrong_by text line w d (Ok e) taken is =
     absurd (w.wrong (can_begin (w.before ++ w.here ∷ []) e
     (front_alone text (w.before ++ w.here ∷ []) w.behind
     (w.cut ∙ sym (append_assoc w.before (w.here ∷ []) w.behind)))
-    (one_more w.before w.here 0 nothing d e taken is)))
+    (taken_more w.before w.here 0 nothing d e taken is)))
 
 wrong_refused : (text : List ℕ) (line : ℕ) → IsFirstWrong text line → IsRefusedAt text line
 wrong_refused text line w =

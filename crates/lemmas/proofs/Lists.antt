@@ -2,7 +2,9 @@
 use Rattle.std.proofs.Common.{◌≡◌, ℕ, zero, suc, ◌+◌, ◌-◌, ◌<◌, Bool, true, false, cond, ◌||◌, List, [], ◌∷◌, ◌++◌}
 use Rattle.std.proofs.Common.{None, Some, map, set, length, ◌⊎◌, inl, inr, refl, ap, subst, ◌∙◌, arith}
 use Rattle.std.proofs.Math.ListN.{take, drop}
+use Rattle.std.specs.Int.Digits.{AllBelowBase}
 use Rattle.std.specs.List.{slice_get, filter, find, flat_map, list_any, range_with_len, AllByRecursion, AllZip}
+use Rattle.std.specs.List.{Contains}
 
 -- ---- each item
 
@@ -49,6 +51,17 @@ pub each_here : {X : Type 0} (P : X → Type 0) (xs : List X) (x : X) (ys : List
     → AllByRecursion P (xs ++ x ∷ ys) → P x
 each_here P [] x ys h = h.0
 each_here P (y ∷ xs) x ys h = each_here P xs x ys h.1
+
+pub below_front : (xs ys : List ℕ) → AllBelowBase 256 (xs ++ ys) → AllBelowBase 256 xs
+below_front [] ys h = tt
+below_front (x ∷ xs) ys h = (h.0, below_front xs ys h.1)
+
+pub below_back : (xs ys : List ℕ) → AllBelowBase 256 (xs ++ ys) → AllBelowBase 256 ys
+below_back [] ys h = h
+below_back (x ∷ xs) ys h = below_back xs ys h.1
+
+pub contains_later : {X : Type 0} (y x : X) (xs : List X) → Contains xs x → Contains (y ∷ xs) x
+contains_later y x xs h = (suc h.0, omega (arith, h.1), h.2)
 
 pub same_list : {X : Type 0} (C : X → X → Type 0) → ((x y : X) → C x y → y ≡ x) → (xs ys : List X) → AllZip C xs ys
     → ys ≡ xs
@@ -156,6 +169,7 @@ empty_from_length (x ∷ xs) e = absurd (omega arith)
 pub last_place : {X : Type 0} (xs : List X) (x : X) → length (xs ++ x ∷ []) - 1 ≡ length xs
 last_place xs x = let e = length_pushed xs x in omega (arith, e)
 
+-- two lists that begin with as many items have the same fronts and the same rests
 pub same_parts : {X : Type 0} (a b r s : List X) → length a ≡ length b → a ++ r ≡ b ++ s → (a ≡ b) × (r ≡ s)
 same_parts [] [] r s n e = (refl, e)
 same_parts [] (y ∷ b) r s n e = absurd (omega arith)

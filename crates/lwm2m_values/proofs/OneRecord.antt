@@ -35,7 +35,8 @@ one_head h g k l i j n m r s p q e =
     ∙ regroup g q.first q.id_bytes q.size_bytes s q.parts in
     let first : p.first ≡ q.first = cc whole in
     let tail : p.id_bytes ++ (p.size_bytes ++ r) ≡ q.id_bytes ++ (q.size_bytes ++ s) = cc whole in
-    let ids = same_parts p.id_bytes q.id_bytes _ _ (p.id_width ∙ ap (λ x. 1 + x / 32 % 2) first ∙ sym q.id_width) tail in
+    let ids = same_parts p.id_bytes q.id_bytes _ _
+    (p.id_width ∙ ap (λ x. 1 + x / 32 % 2) first ∙ sym q.id_width) tail in
     let sizes = same_parts p.size_bytes q.size_bytes r s
     (p.size_width ∙ ap (λ x. x / 8 % 4) first ∙ sym q.size_width) ids.1 in
     let value : ℕ → List ℕ → ℕ = λ x bytes. cond (eqb (x / 8 % 4) 0) (x % 8) (number_from_digits 256 bytes) in

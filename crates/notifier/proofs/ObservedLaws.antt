@@ -1,5 +1,5 @@
 -- The observations of an insertion-ordered map whose keys are their names.
-use Rattle.std.proofs.Common.{◌≡◌, ℕ, ◌+◌, ◌<◌, ◌≤◌, length, arith, zero, suc, ◌==◌, Bool, true, false, cond, not, ◌&&◌}
+use Rattle.std.proofs.Common.{◌≡◌, ℕ, ◌+◌, ◌<◌, ◌≤◌, length, arith, zero, suc, ◌==◌, Bool, true, false, cond, ◌&&◌}
 use Rattle.std.proofs.Common.{◌||◌, List, [], ◌∷◌, ◌++◌, Option, None, Some, filter, map, remove, slice_get, slice_set}
 use Rattle.std.proofs.Common.{IfSome, refl, sym, ap, subst, ◌∙◌, if◌then◌else◌, eqb-true}
 use Rattle.std.proofs.lemmas.Bool.{and_parts, or_parts}
@@ -67,10 +67,6 @@ each-remove P (x ∷ xs) (suc i) h = (h.0, each-remove P xs i h.1)
 pub next_fits : (n m : ℕ) → m ≡ next_number n → m < 16777216
 next_fits n m next = let positive : 0 < 16777216 =
     omega arith in subst (λ (k : ℕ). k < 16777216) (sym next) (mod_below (n + 1) 16777216 positive)
-
-pub negated : (b c : Bool) → c ≡ not b → b ≡ not c
-negated true c h = sym (ap not h)
-negated false c h = sym (ap not h)
 
 -- an observation that comes in the place of another of its name
 pub keyed_set : (es : List (Key × Observation)) (i : ℕ) (o w : Observation) → AllByRecursion IsKeyed es

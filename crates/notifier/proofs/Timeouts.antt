@@ -121,7 +121,8 @@ resent s t clock some = (
       (is_at s t clock 4) (is_timed_out s t clock) h),
   λ h. chosen_by_one (is_at s t clock 1) (is_at s t clock 2) (is_at s t clock 3) (is_at s t clock 4)
       (is_timed_out s t clock)
-      (ap (λ n. nat_le n clock) (sym (all_passed s t)) ∙ nat_le_above (s + 31 * t) clock (before_the_end s t clock some h))
+      (ap (λ n. nat_le n clock) (sym (all_passed s t))
+      ∙ nat_le_above (s + 31 * t) clock (before_the_end s t clock some h))
       (tests_are s t clock h),
 )
 

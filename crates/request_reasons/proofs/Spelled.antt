@@ -1,6 +1,6 @@
 -- Queries from the left: those that are changes, then the first that is not.
-use Rattle.std.proofs.Common.{◌≡◌, ℕ, ◌+◌, true, false, List, [], ◌∷◌, ◌++◌, Some, Result, Ok, Err, cond}
-use Rattle.std.proofs.Common.{sym, ap, ◌∙◌, map, filter, ◌==◌, ◌-◌, ◌≤◌, length, take, drop, get_or, arith}
+use Rattle.std.proofs.Common.{◌≡◌, ℕ, ◌+◌, List, [], ◌∷◌, ◌++◌, Some, Result, Ok, Err}
+use Rattle.std.proofs.Common.{sym, ap, ◌∙◌, ◌-◌, ◌≤◌, length, take, drop, get_or, arith}
 use Rattle.std.proofs.lemmas.Bool.{eq-eqb}
 use Rattle.std.proofs.Math.Seq.{take-length}
 use Rattle.coap_codec.specs.declared.option.Opt.{Opt}
@@ -9,21 +9,9 @@ use Rattle.notifier.specs.declared.attribute.Change.{Change}
 use Rattle.notifier.specs.declared.attribute.Level.{Level}
 use Rattle.notifier.specs.declared.fault.QueryFault.{QueryFault}
 use Rattle.device_requests.specs.Options.{queries_of}
+use Rattle.device_requests.proofs.Queries.{taken}
 use Rattle.request_reasons.specs.Payloads.{query_fault}
 use Rattle.request_reasons.specs.declared.payload.PayloadFault.TheVariants as fault
-
--- an option that is a query, and one that is not
-pub query_next : (o : Opt) (os : List Opt) → (o.number == 15) ≡ true → queries_of (o ∷ os) ≡ o.value ∷ queries_of os
-query_next o os h =
-    ap (λ b. map (λ (x : Opt). x.value) (cond b (o ∷ filter (λ x. x.number == 15) os)
-    (filter (λ x. x.number == 15) os)))
-    h
-
-pub no_query_next : (o : Opt) (os : List Opt) → (o.number == 15) ≡ false → queries_of (o ∷ os) ≡ queries_of os
-no_query_next o os h =
-    ap (λ b. map (λ (x : Opt). x.value) (cond b (o ∷ filter (λ x. x.number == 15) os)
-    (filter (λ x. x.number == 15) os)))
-    h
 
 same_ok : {A E : Type 0} (a b : A) → ◌≡◌ {A = Result A E} (Ok a) (Ok b) → a ≡ b
 same_ok a b h = cc
@@ -71,7 +59,7 @@ begins_with_query : (rest : List Opt) (o : Opt) (q : List ℕ) → 1 ≤ length 
     → o.number ≡ 15 → q ≡ o.value → queries_of rest ≡ q ∷ queries_of (take (length rest - 1) (drop 1 rest))
 begins_with_query rest o q h e n v =
     let others = take (length rest - 1) (drop 1 rest) in
-    ap queries_of (first_and_others rest o h e) ∙ query_next o others (eq-eqb o.number 15 n)
+    ap queries_of (first_and_others rest o h e) ∙ taken o others (eq-eqb o.number 15 n)
     ∙ ap (λ x. x ∷ queries_of others) (sym v)
 
 -- what is at fault in options that begin with a query: where it is a change, what is at fault in the others after it

@@ -49,8 +49,9 @@ use Rattle.scenario_layout.proofs.Defined.{defined_end, not_refused_at}
 use Rattle.scenario_layout.proofs.Filling.{instance_added as more_instances, instances_itself, instances_none}
 use Rattle.scenario_layout.proofs.Filling.{value_added as more_values, values_itself, values_none}
 use Rattle.scenario_layout.proofs.GoodClass.{class_good}
-use Rattle.scenario_layout.proofs.Items.{instance_made, object_vendor, value_made}
+use Rattle.scenario_layout.proofs.Items.{instance_made, object_vendor, value_made, number_again}
 use Rattle.scenario_layout.proofs.Ordered.{inserted_end}
+use Rattle.scenario_layout.proofs.GoodEntries.{plain_short}
 use Rattle.scenario_image.specs.Layout.{path_to, path_with}
 use Rattle.scenario_image.specs.Scenario.{Scenario, class_fault}
 use Rattle.scenario_image.specs.declared.fault.ScenarioFault.TheVariants as scenario
@@ -63,7 +64,7 @@ use Rattle.scenario_asm.specs.Draft.{Draft, closed}
 use Rattle.scenario_asm.specs.Effect.{class_begun, effect}
 use Rattle.scenario_asm.specs.Denotes.{Lead}
 use Rattle.scenario_asm.proofs.Canonical.{lead_append}
-use Rattle.scenario_asm.proofs.ClassValues.{plain_short, same_fit, short_told, too_long}
+use Rattle.scenario_asm.proofs.ClassValues.{same_fit, short_told, too_long}
 use Rattle.scenario_asm.proofs.Opened.{opened, taken_is, items_lead, accounts_lead, notify_lead}
 
 -- ---- instances
@@ -124,14 +125,6 @@ five_lines : (a b d e g : Bool)
 five_lines true true d e g h = (refl, refl)
 five_lines false b d e g h = absurd cc
 five_lines true false d e g h = absurd cc
-
-number_again : (k : ValueKind) → kind_numbered (kind_number k) ≡ k
-number_again kinds.Text = refl
-number_again kinds.Whole = refl
-number_again kinds.Flag = refl
-number_again kinds.Opaque = refl
-number_again kinds.Moment = refl
-number_again kinds.Link = refl
 
 up_to : (n m : ℕ) → n < suc m → nat_le n m ≡ true
 up_to n m h = grind (arith, nat_tests)

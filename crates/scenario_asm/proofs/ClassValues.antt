@@ -27,6 +27,7 @@ use Rattle.device_template.specs.Values.{is_set_at_start, with_value_at}
 use Rattle.lwm2m_values.specs.Value.{has_good_length}
 use Rattle.device_template.specs.declared.fault.TemplateFault.{TemplateFault}
 use Rattle.device_template.specs.declared.fault.TemplateFault.TheVariants as template
+use Rattle.scenario_layout.proofs.GoodEntries.{plain_short}
 use Rattle.scenario_words.specs.ValueWords.{IsTooLong}
 use Rattle.scenario_words.specs.declared.cause.Cause.{Cause}
 use Rattle.scenario_words.specs.declared.cause.Cause.TheVariants.{Range, Duplicate, Limit, Memory}
@@ -58,14 +59,6 @@ not_long (held.Moment z) h = refl
 not_long (held.Link o i) h = refl
 
 -- ---- the empty value of a kind fits where a value of the kind does
-
-pub plain_short : (k : ValueKind) → has_good_length (plain k) ≡ true
-plain_short kind.Text = refl
-plain_short kind.Whole = refl
-plain_short kind.Flag = refl
-plain_short kind.Opaque = refl
-plain_short kind.Moment = refl
-plain_short kind.Link = refl
 
 same_kind : (v : Value) (k : ValueKind) → has_kind (plain (kind_of v)) k ≡ has_kind v k
 same_kind (held.Text t) kind.Text = refl

@@ -1,30 +1,31 @@
 -- The statements of devices add their rows.
-use Rattle.std.proofs.Common.{All, ◌≡◌, ℕ, suc, ◌+◌, ◌-◌, ◌<◌, ◌≤◌, Bool, true, false, cond, eqb, List, [], ◌∷◌, ◌++◌}
+use Rattle.std.proofs.Common.{All, ◌≡◌, ℕ, suc, ◌+◌, ◌<◌, ◌≤◌, Bool, true, false, cond, eqb, List, [], ◌∷◌, ◌++◌}
 use Rattle.std.proofs.Common.{map, length, Option, None, Some, Result, Ok, Err, option_map, refl, sym, ap, subst, ◌∙◌}
-use Rattle.std.proofs.Common.{set, append_assoc, arith}
+use Rattle.std.proofs.Common.{append_assoc, arith}
 use Rattle.std.specs.Prelude.{not, nat_le, nat_lt}
 use Rattle.std.specs.List.{AllByRecursion, flat_map, list_any, slice_get}
 use Rattle.std.proofs.lemmas.Bool.Decides.{nat_tests}
 use Rattle.std.proofs.lemmas.List.{append-nil}
 use Rattle.std.proofs.lemmas.Option.{slice_get_within}
-use Rattle.lemmas.proofs.Lists.{set_pushed, last_place, item_pushed, length_pushed}
+use Rattle.lemmas.proofs.Lists.{length_pushed}
 use Rattle.lemmas.proofs.Numbers.{nat_le_below}
 use Rattle.object_defs.specs.Lines.{first_line}
 use Rattle.device_template.specs.Template.{Template}
 use Rattle.device_machine.specs.declared.event.Event.TheVariants as event
 use Rattle.scenario_image.specs.Scenario.{IsGoodRow, IsGoodStep, Row, Scenario, accounts_in, accounts_of, fault_in}
-use Rattle.scenario_image.specs.Scenario.{is_known, is_within_limits, last_row, longer, row_fault, step_fault}
-use Rattle.scenario_image.specs.Scenario.{with_last, with_row, with_step}
+use Rattle.scenario_image.specs.Scenario.{is_known, is_within_limits, last_row, row_fault, step_fault}
+use Rattle.scenario_image.specs.Scenario.{with_row, with_step}
 use Rattle.scenario_image.specs.declared.fault.ScenarioFault.TheVariants as scenario
 use Rattle.scenario_image.specs.declared.step.Step.{Step}
 use Rattle.scenario_image.specs.declared.step.Step.TheVariants as step
+use Rattle.scenario_image.proofs.RowLaws.{last_longer, last_is}
 use Rattle.scenario_words.specs.declared.cause.Cause.{Cause}
 use Rattle.scenario_words.specs.declared.cause.Cause.TheVariants.{Range}
 use Rattle.scenario_mnemonics.specs.Denoting.{mnemonic_of}
-use Rattle.scenario_mnemonics.specs.Messages.{datagram_of, fits_mnemonic, IsGood}
+use Rattle.scenario_mnemonics.specs.Messages.{datagram_of, IsGood}
 use Rattle.scenario_mnemonics.specs.declared.mnemonic.Mnemonic.{Mnemonic}
 use Rattle.scenario_mnemonics.specs.declared.mnemonic.Mnemonic.TheVariants as mnemonic
-use Rattle.scenario_mnemonics.proofs.Candidates.{denotes}
+use Rattle.scenario_mnemonics.proofs.Candidates.{denotes, good_fits}
 use Rattle.scenario_statements.specs.declared.statement.Statement.TheVariants as says
 use Rattle.scenario_asm.specs.Canonical.{of_datagram, of_row, of_step}
 use Rattle.scenario_asm.proofs.Numbers.{bytes_all}
@@ -45,19 +46,6 @@ abbrev pub shut : Scenario → Draft
 shut s = record { begun = true; scenario = s; open_class = None; object = None }
 
 -- ---- the last of some rows
-
-minus_one : (n : ℕ) → suc n - 1 ≡ n
-minus_one n = omega arith
-
-is_last : (rows : List Row) (r : Row) → last_row (rows ++ r ∷ []) ≡ Some r
-is_last rows r = ap (slice_get (rows ++ r ∷ [])) (last_place rows r) ∙ item_pushed rows r
-
-last_is : (rows : List Row) (r : Row) (x : Step)
-    → with_last (rows ++ r ∷ []) (last_row (rows ++ r ∷ [])) x ≡ rows ++ longer r x ∷ []
-last_is rows r x =
-    ap (λ o. with_last (rows ++ r ∷ []) o x) (is_last rows r)
-    ∙ ap (λ n. set (rows ++ r ∷ []) n (longer r x)) (last_place rows r)
-    ∙ set_pushed rows r (longer r x)
 
 above_none : (n : ℕ) → nat_lt 0 (suc n) ≡ true
 above_none n = grind (arith, nat_tests)
@@ -80,7 +68,7 @@ is_free : (cs : List Template) (rows : List Row) (class : ℕ) (past : List Step
 is_free cs rows class past x t at good short =
     ap (λ b. cond (not b) (Some scenario.Range) (fault_in cs (last_row (rows ++ row_with class past ∷ [])) x))
     good.range
-    ∙ ap (λ o. fault_in cs o x) (is_last rows (row_with class past))
+    ∙ ap (λ o. fault_in cs o x) (last_is rows (row_with class past))
     ∙ free_lines (is_known (accounts_of cs class) x) (nat_le 4096 (length past)) (is_within_limits x)
     (ap (λ o. is_known (accounts_in o) x) at ∙ good.known) (nat_le_below (length past) 4096 short) good.within
 
@@ -91,20 +79,16 @@ added : (cs : List Template) (rows : List Row) (class : ℕ) (past : List Step) 
 added cs rows class past x t at good short =
     ap (λ f. unless (option_map scenario_cause f) (shut (with_step (script cs (rows ++ row_with class past ∷ [])) x)))
     (is_free cs rows class past x t at good short)
-    ∙ ap (λ rs. Ok (shut (script cs rs))) (last_is rows (row_with class past) x)
+    ∙ ap (λ rs. Ok (shut (script cs rs))) (last_longer rows (row_with class past) x)
 
 known_server : (cs : List Template) (rows : List Row) (class : ℕ) (past : List Step) (server : ℕ) (t : Template)
     → slice_get cs class ≡ Some t → list_any (λ account. eqb account server) t.accounts ≡ true
     → has_server (shut (script cs (rows ++ row_with class past ∷ []))) server ≡ true
 known_server cs rows class past server t at known =
     ap (λ o. knows (script cs (rows ++ row_with class past ∷ [])) server (option_map (λ (r : Row). r.class) o))
-    (is_last rows (row_with class past))
+    (last_is rows (row_with class past))
     ∙ ap (λ o. list_any (λ account. eqb account server) (accounts_in o)) at
     ∙ known
-
-does_fit : (m : Mnemonic) → IsGood m → fits_mnemonic m ≡ true
-does_fit (mnemonic.Request r) good = good.fits
-does_fit (mnemonic.Reset mid) good = refl
 
 -- what stands before a step, and after it
 abbrev here : List Template → List Row → ℕ → List Step → Draft
@@ -127,7 +111,7 @@ by_mnemonic d e server bytes m begun known good same h =
     ap (λ b. needs b (needs (has_server d server)
     (fitting m (step_added (step.Event (event.Recv server (datagram_of m))) d)))) begun
     ∙ of_server d e server _ known
-    (ap (λ b. cond b (step_added (step.Event (event.Recv server (datagram_of m))) d) (Err Range)) (does_fit m good)
+    (ap (λ b. cond b (step_added (step.Event (event.Recv server (datagram_of m))) d) (Err Range)) (good_fits m good)
     ∙ ap (λ bs. step_added (step.Event (event.Recv server bs)) d) same
     ∙ h)
 

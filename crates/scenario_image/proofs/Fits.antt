@@ -17,14 +17,13 @@ use Rattle.object_defs.specs.Path.{full_path}
 use Rattle.object_defs.specs.declared.path.Path.{Path}
 use Rattle.object_defs.specs.declared.path.Path.TheVariants.{Object, Instance, Resource, Part as ResourcePart}
 use Rattle.object_defs.specs.declared.path.FullPath.{FullPath}
-use Rattle.scenario_layout.specs.Value.{path, part_number, text, opaque, value}
-use Rattle.std.specs.Str.{IsUtf8}
-use Rattle.std.proofs.lemmas.Str.{IsUtf8-from_is_utf8}
+use Rattle.scenario_layout.specs.Value.{path, part_number, opaque, value}
 use Rattle.lemmas.proofs.Lists.{item_at}
-use Rattle.scenario_layout.proofs.GoodValue.{path_good, value_good, good_value}
+use Rattle.scenario_layout.proofs.GoodValue.{path_good, value_good, good_value, good_text}
 use Rattle.device_template.specs.Template.{Template}
 use Rattle.lwm2m_values.specs.Value.{has_good_length}
 use Rattle.device_machine.specs.declared.event.Event.TheVariants.{Recv, Put, Firmware, Tick}
+use Rattle.scenario_layout.proofs.Items.{within as short_value}
 use Rattle.scenario_image.specs.declared.kind.StepKind.{StepKind}
 use Rattle.scenario_image.specs.declared.kind.StepKind.TheVariants as kinds
 use Rattle.scenario_image.specs.declared.step.Step.{Step}
@@ -101,21 +100,6 @@ short_path p h = record {
   resource = number_below w16 p.resource h.1.1.0;
   part = short_part p.part h.1.1.1.0;
 }
-
-short_value : (v : Value) → IsGood v → has_good_length v ≡ true
-short_value (values.Text t) good = le-leb (length t) 255 good.1
-short_value (values.Whole z) good = refl
-short_value (values.Flag b) good = refl
-short_value (values.Opaque b) good = le-leb (length b) 1024 good.1
-short_value (values.Moment z) good = refl
-short_value (values.Link o i) good = refl
-
-good_text : (t : List ℕ) → text.Good t → IsUtf8 t × (length t ≤ 255)
-unfolding text
-good_text t h = (
-  IsUtf8-from_is_utf8 t h.1,
-  (let below : length t < 256 = number_below w8 (length t) h.0.0 in omega arith),
-)
 
 good_opaque : (b : List ℕ) → opaque.Good b → length b ≤ 1024
 unfolding opaque

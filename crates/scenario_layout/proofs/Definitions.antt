@@ -1,10 +1,10 @@
 -- The layout of definitions is exact, and which definitions have bytes.
-use Rattle.std.proofs.Common.{◌≡◌, ℕ, zero, suc, ◌<◌, ◌⊎◌, Bool, true, false, List, refl, ap, ◌∙◌, inl, inr, arith}
+use Rattle.std.proofs.Common.{◌≡◌, ℕ, zero, suc, ◌<◌, Bool, true, false, List, refl, ap, ◌∙◌, inl, inr, arith}
 use Rattle.std.proofs.Common.{lit<}
 use Rattle.std.specs.Prelude.{nat_lt, ◌==◌, ◌&&◌, ◌||◌}
 use Rattle.std.specs.List.{list_all}
 use Rattle.std.specs.Int.{w8, w16}
-use Rattle.std.proofs.lemmas.Bool.{ltb-true, eqb-true, and_parts}
+use Rattle.std.proofs.lemmas.Bool.{ltb-true, eqb-true, and_parts, or_cases}
 use Rattle.byte_layout.specs.declared.fault.Break.TheVariants.{BadField}
 use Rattle.byte_layout.specs.Layout.{Layout, number, judged, at_most, split, last}
 use Rattle.byte_layout.specs.Exact.{IsExact}
@@ -19,10 +19,6 @@ use Rattle.scenario_layout.specs.Definition.{ops, ops_number, ops_numbered, flag
 use Rattle.scenario_layout.specs.Definition.{behind_id, resource, resources}
 use Rattle.scenario_layout.proofs.ExactValue.{byte_exact, short_exact, kind_exact}
 use Rattle.scenario_layout.proofs.GoodValue.{kind_good}
-
-one_true : (a b : Bool) → (a || b) ≡ true → (a ≡ true) ⊎ (b ≡ true)
-one_true true b e = inl refl
-one_true false b e = inr e
 
 ops_again : (n : ℕ) → 0 < n → n < 5 → ops_number (ops_numbered n) ≡ n
 ops_again zero above below = absurd (omega arith)
@@ -47,7 +43,7 @@ flags_below R n e = ltb-true n 4 e
 flags_below W n e = ltb-true n 4 e
 flags_below RW n e = ltb-true n 4 e
 flags_below E n e =
-    elim (one_true (n == 0) (n == 2) e) [
+    elim (or_cases (n == 0) (n == 2) e) [
       | inl h ↦ (let is : n ≡ 0 = eqb-true n 0 h in omega arith)
       | inr h ↦ (let is : n ≡ 2 = eqb-true n 2 h in omega arith)
     ]

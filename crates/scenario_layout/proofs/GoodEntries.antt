@@ -285,7 +285,7 @@ has_values _ (notify {class} seconds built fits) = has_values class built
 
 -- ---- their bytes
 
-plain_short : (k : ValueKind) → has_good_length (plain k) ≡ true
+pub plain_short : (k : ValueKind) → has_good_length (plain k) ≡ true
 plain_short kinds.Text = refl
 plain_short kinds.Whole = refl
 plain_short kinds.Flag = refl

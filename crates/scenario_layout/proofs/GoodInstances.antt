@@ -8,7 +8,7 @@ use Rattle.std.specs.Ordering.{is_lt}
 use Rattle.std.specs.FinMap as finite
 use Rattle.std.specs.FinMap.Entries.{find}
 use Rattle.std.proofs.lemmas.Bool.Decides.{nat_tests}
-use Rattle.std.proofs.lemmas.List.{map-append}
+use Rattle.std.proofs.lemmas.List.{map-append, length-map}
 use Rattle.std.proofs.lemmas.List.Elements.{filter-append}
 use Rattle.std.proofs.lemmas.Bool.{and_parts, and_from, not-false}
 use Rattle.lemmas.proofs.Lists.{each_weaker, each_here}
@@ -222,15 +222,11 @@ all_keys : (c : List ObjectDef) (es : List Entry) → AllByRecursion (IsPlace c)
 all_keys c [] h = tt
 all_keys c (e ∷ es) h = (h.0.2, all_keys c es h.1)
 
-length_mapped : {A B : Type 0} (f : A → B) (xs : List A) → length (map f xs) ≡ length xs
-length_mapped f [] = refl
-length_mapped f (x ∷ xs) = ap suc (length_mapped f xs)
-
 keys_few : (c : List ObjectDef) (es : List Entry) → HasInstances c es → length c ≤ 16
     → length (map (λ (e : Entry). e.0) es) < 65536
 keys_few c es h small =
     let all = at_most_64 c (map (λ e. e.0) es) (all_keys c es h.each)
-    (λ o. subst (λ n. n ≤ 64) (length_mapped (λ p. p.instance) (of_object o (map (λ e. e.0) es))) (h.few o)) in
+    (λ o. subst (λ n. n ≤ 64) (length-map (of_object o (map (λ e. e.0) es)) (λ p. p.instance)) (h.few o)) in
     omega (arith, all, small)
 
 -- ---- their bytes

@@ -23,6 +23,7 @@ use Rattle.object_defs.specs.declared.definition.Ops.TheVariants.{R, W, RW, E}
 use Rattle.object_defs.specs.declared.definition.ObjectDef.{ObjectDef}
 use Rattle.object_defs.specs.declared.definition.ResourceDef.{ResourceDef}
 use Rattle.object_defs.specs.declared.fault.CatalogFault.{CatalogFault}
+use Rattle.object_defs.proofs.LookUps.{vendor_is}
 use Rattle.scenario_layout.specs.Definition.{flags_of, flags_fit, kind_fits, resources}
 use Rattle.scenario_layout.specs.Definition as defs
 use Rattle.scenario_layout.proofs.Definitions.{resource_good}
@@ -229,11 +230,6 @@ each_more (o ∷ os) id d short all free =
       | true ↦ λ e. ((all.0.0, definitions_more o d short all.0.1 e), all.1)
       | false ↦ λ e. (all.0, each_more os id d short all.1 e)
     ] free
-
-vendor_is : (b : Bool) (d : ResourceDef) (o : Option ObjectDef) → resource_fault_in d (cond b o None) ≡ None
-    → (b ≡ true) × (resource_fault_in d o ≡ None)
-vendor_is true d o h = (refl, h)
-vendor_is false d o h = absurd cc
 
 resource_more : (catalog : List ObjectDef) (id : ℕ) (d : ResourceDef) → d.id < 65536 → HasObjects catalog
     → resource_fault catalog id d ≡ None → HasObjects (with_resource catalog id d)

@@ -39,6 +39,7 @@ use Rattle.scenario_layout.specs.Growing.{grown, IsLast}
 use Rattle.scenario_layout.specs.Class.{objects_in, instances_in, values_in, with_accounts, with_objects}
 use Rattle.scenario_layout.specs.Class.{with_instances, with_values, is_taken, account, instance, entry, value_path}
 use Rattle.byte_layout.proofs.Layouts.{bytes_behind}
+use Rattle.device_template.proofs.OwnKinds.{own_kind}
 use Rattle.scenario_layout.proofs.ExactClass.{value_path_exact}
 use Rattle.scenario_layout.proofs.Ordered.{inserted_end, last_push}
 use Rattle.scenario_layout.proofs.Filling.{passed, failed, taken_none, instance_test, instances_itself, values_itself}
@@ -169,21 +170,13 @@ unfolding entry
 entry_read c u bytes p rest k v after read some held more = rw (read, same_kind c p, some, held, more) refl
 
 -- a value that was read for a kind is of that kind, and within its limits
-number_again : (k : ValueKind) → kind_numbered (kind_number k) ≡ k
+pub number_again : (k : ValueKind) → kind_numbered (kind_number k) ≡ k
 number_again kinds.Text = refl
 number_again kinds.Whole = refl
 number_again kinds.Flag = refl
 number_again kinds.Opaque = refl
 number_again kinds.Moment = refl
 number_again kinds.Link = refl
-
-own_kind : (v : Value) → has_kind v (kind_of v) ≡ true
-own_kind (held.Text t) = refl
-own_kind (held.Whole z) = refl
-own_kind (held.Flag b) = refl
-own_kind (held.Opaque b) = refl
-own_kind (held.Moment z) = refl
-own_kind (held.Link o i) = refl
 
 pub is_of_kind : (k : ValueKind) (v : Value) (bytes after : List ℕ) → IsBytes bytes
     → (value (Some k)).read bytes ≡ Ok (v, after) → has_kind v k ≡ true

@@ -10,7 +10,7 @@ use Rattle.std.specs.Str.{bytes_eq}
 use Rattle.std.specs.Fmt.{decimal}
 use Rattle.std.proofs.lemmas.Bool.{and_from, and_parts, cases_Bool}
 use Rattle.std.proofs.lemmas.Slice.Eq.{bytes_eq-Decides}
-use Rattle.lemmas.proofs.Lists.{each_appended, each_flat}
+use Rattle.lemmas.proofs.Lists.{each_appended, each_flat, below_front, below_back}
 use Rattle.coap_codec.specs.declared.fault.CoapFault.{CoapFault}
 use Rattle.coap_codec.specs.Message.{Message, header_bytes, options_bytes, spelling}
 use Rattle.coap_codec.specs.Reading.{reading_of}
@@ -40,7 +40,7 @@ use Rattle.scenario_mnemonics.specs.Inside.{mnemonic_found}
 use Rattle.scenario_mnemonics.proofs.OptionOrder.{well_formed}
 use Rattle.scenario_mnemonics.proofs.Values.{path_found, queries_found}
 use Rattle.scenario_mnemonics.proofs.Denoted.{one_mnemonic}
-use Rattle.scenario_mnemonics.proofs.Fitting.{below, first_below, last_below, payload_below, found_denotes}
+use Rattle.scenario_mnemonics.proofs.Fitting.{below, payload_below, found_denotes}
 
 -- the actions of one format, and those of these queries and this payload
 abbrev with_format : List ℕ → Format → List Action
@@ -159,7 +159,7 @@ abbrev Has : {A : Type 0} → List A → A → Type 0
 Has [] k = ⊥
 Has (x ∷ xs) k = (x ≡ k) ⊎ Has xs k
 
-good_fits : (k : Mnemonic) → IsGood k → fits_mnemonic k ≡ true
+pub good_fits : (k : Mnemonic) → IsGood k → fits_mnemonic k ≡ true
 good_fits (mnemonic.Request r) h = h.fits
 good_fits (mnemonic.Reset mid) h = refl
 
@@ -276,13 +276,13 @@ bytes_read : (bytes : List ℕ) (m : Message) → All (λ b. b < 256) bytes → 
 bytes_read bytes m h e =
     let spells = spelled_from_reading bytes m h e in
     let all : AllBelowBase 256 (spelling m) = subst (AllBelowBase 256) spells.parts (below bytes h) in
-    let behind_header = last_below (header_bytes m) _ all in
+    let behind_header = below_back (header_bytes m) _ all in
     record {
       mid = spells.well_formed.mid;
       short = spells.well_formed.token;
-      token = first_below m.token _ behind_header;
+      token = below_front m.token _ behind_header;
       payload = payload_below m.payload
-          (last_below (options_bytes 0 m.options) _ (last_below m.token _ behind_header));
+          (below_back (options_bytes 0 m.options) _ (below_back m.token _ behind_header));
     }
 
 mnemonic_good : (bytes : List ℕ) (k : Mnemonic) (r : Result Message CoapFault) → All (λ b. b < 256) bytes

@@ -29,7 +29,7 @@ pub split_nowhere : (p : ℕ → Bool) (bs : List ℕ) → position p bs ≡ Non
 split_nowhere p bs h =
     one_part p bs (ltb-false _ _ (no_choice (ltb (position_or_len p bs) (length bs)) (position_or_len p bs) h))
 
-first_part : (b : Bool) (x : ℕ) (ps : List (List ℕ)) → (y : List ℕ) × (ys : List (List ℕ))
+pub first_part : (b : Bool) (x : ℕ) (ps : List (List ℕ)) → (y : List ℕ) × (ys : List (List ℕ))
     × (cond b ([] ∷ ps) (onto_first x ps) ≡ y ∷ ys)
 first_part true x ps = ([], ps, refl)
 first_part false x [] = (x ∷ [], [], refl)

@@ -3,10 +3,11 @@ use Rattle.std.specs.List.{AllByRecursion}
 use Rattle.std.specs.Map.{values_of}
 use Rattle.indexmap.proofs.CallerLemmas.{insert_entry-new}
 use Rattle.lemmas.proofs.Lists.{each_pushed}
+use Rattle.notifier.proofs.ObservedLaws.{values-append}
 use Rattle.device_machine.specs.Records.{HasOwnKey}
 use Rattle.device_machine.specs.declared.records.RecordKey.{RecordKey}
 use Rattle.device_machine.specs.contracts.records.RecordKeyPartialEq.TheImpl.{eq-value}
-use Rattle.device_machine.proofs.Keyed.{found, values-append}
+use Rattle.device_machine.proofs.Keyed.{found}
 use Rattle.device_machine.proofs.records.add.Goals as goal
 
 key : (c : goal.Joined-branch-2) → RecordKey

@@ -3,8 +3,8 @@ use Rattle.std.specs.List.{AllByRecursion}
 use Rattle.std.specs.Map.{values_of}
 use Rattle.indexmap.proofs.CallerLemmas.{filter-RetainsPairs}
 use Rattle.lemmas.proofs.Lists.{each_filtered}
+use Rattle.notifier.proofs.ObservedLaws.{values-filter}
 use Rattle.device_machine.specs.Records.{HasOwnKey, is_recalled}
-use Rattle.device_machine.proofs.Keyed.{values-filter}
 use Rattle.device_machine.proofs.records.keep_recalled.Goals as goal
 
 kept : (c : goal.After-retain)
