@@ -1,5 +1,5 @@
 -- What a debugger keeps, at its start, at another place and with other breakpoints.
-use Rattle.std.proofs.Common.{◌≡◌, ℕ, ◌+◌, ◌-◌, ◌*◌, ◌<◌, ◌≤◌, ◌↔◌, List, [], length, take, get_or, nat_lt, true}
+use Rattle.std.proofs.Common.{◌≡◌, ℕ, ◌+◌, ◌-◌, ◌*◌, ◌<◌, ◌≤◌, ◌↔◌, List, length, take, get_or, nat_lt, true}
 use Rattle.std.proofs.Common.{false, replicate, Option, None, Some, slice_get, slice_set, refl, sym, ap, subst, ◌∙◌}
 use Rattle.std.proofs.Common.{arith, slice_range}
 use Rattle.std.proofs.lemmas.List.{length-replicate, length-set}

@@ -1,6 +1,6 @@
 -- How many events devices take in a move.
 use Rattle.std.proofs.Common.{◌≡◌, ℕ, zero, suc, ◌+◌, ◌-◌, ◌*◌, ◌/◌, ◌<◌, ◌≤◌, ◌⊎◌, inl, inr, nat_lt, cond, List}
-use Rattle.std.proofs.Common.{[], ◌++◌, length, take, drop, filter, Some, slice_get, slice_index, slice_range}
+use Rattle.std.proofs.Common.{◌++◌, length, take, drop, filter, Some, slice_get, slice_index, slice_range}
 use Rattle.std.proofs.Common.{refl, sym, ap, subst, ◌∙◌, arith, add-one, length-append}
 use Rattle.std.proofs.lemmas.Bool.{le-leb, lt-leb, lt-ltb, cases_lt}
 use Rattle.std.proofs.lemmas.List.{take-append-drop, take-take, drop-take}

@@ -1,11 +1,12 @@
 -- The scenario of a session, played back.
 use Rattle.std.proofs.Common.{◌≡◌, ℕ, zero, suc, ◌+◌, ◌<◌, ◌≤◌, Bool, true, false, ◌⊎◌, inl, inr, List, []}
 use Rattle.std.proofs.Common.{◌∷◌, ◌++◌, length, take, filter, Option, None, Some, slice_get, refl, sym, ap, subst}
-use Rattle.std.proofs.Common.{◌∙◌, append-nil, arith}
+use Rattle.std.proofs.Common.{◌∙◌, append-nil, get_or, arith}
 use Rattle.std.specs.List.{flat_map, AllByRecursion}
 use Rattle.std.proofs.lemmas.Bool.{cases_lt}
-use Rattle.std.proofs.lemmas.Grind.{flat_map-append}
+use Rattle.std.proofs.lemmas.Grind.{flat_map-append, take_at_read}
 use Rattle.std.proofs.lemmas.List.{take_all}
+use Rattle.std.proofs.lemmas.List.Elements.{filter-append}
 use Rattle.lemmas.proofs.Lists.{each_at, item_at, take_none, take_one_more}
 use Rattle.device_machine.specs.declared.event.Event.TheVariants.{Recv, Put, Firmware, Tick}
 use Rattle.device_machine.specs.declared.output.Output.{Output}
@@ -123,6 +124,18 @@ plays_back s played before after slots now broken saved h is es complete e slot 
     sent_then (before e) (after e) _ (sent_by (start r.class) serving.steps) [] serving.failures es e serving.told
     (row_sends saved e r.class slot.recording.steps.items es row live complete
     ∙ ap (sent_by (start r.class)) (sym items))
+
+-- ---- the steps that are played
+
+-- those so far, and one more
+pub own_more : (steps own more : List Step) (i : ℕ) (x : Step) → own ≡ filter is_own (take i steps)
+    → more ≡ own ++ filter is_own (x ∷ []) → i < length steps → x ≡ get_or steps i x
+    → more ≡ filter is_own (take (i + 1) steps)
+own_more steps own more i x so_far is l e =
+    let taken : take (i + 1) steps ≡ take i steps ++ x ∷ [] =
+    (take_at_read steps i x l).1 ∙ ap (λ y. take i steps ++ y ∷ []) (sym e) in
+    is ∙ ap (λ xs. xs ++ filter is_own (x ∷ [])) so_far ∙ sym (filter-append is_own (take i steps) (x ∷ []))
+    ∙ ap (filter is_own) (sym taken)
 
 -- ---- steps without a change
 

@@ -1,5 +1,5 @@
 -- A clone of a value, and of what a store keeps, is that value.
-use Rattle.std.proofs.Common.{◌≡◌, ℕ, List, [], ap, ◌∙◌, rules}
+use Rattle.std.proofs.Common.{◌≡◌, ℕ, List, ap, ◌∙◌, rules}
 use Rattle.std.specs.List.{AllZip}
 use Rattle.lemmas.proofs.Lists.{same_list}
 use Rattle.lwm2m_values.specs.declared.value.Value.{Value}

@@ -1,5 +1,5 @@
 -- The bytes at the front are one record's: a head is read in one way, and so is a record.
-use Rattle.std.proofs.Common.{◌≡◌, ℕ, ◌+◌, ◌/◌, ◌%◌, ◌<◌, List, [], ◌∷◌, ◌++◌, length, drop, take-append-drop, cond}
+use Rattle.std.proofs.Common.{◌≡◌, ℕ, ◌+◌, ◌/◌, ◌%◌, ◌<◌, List, ◌∷◌, ◌++◌, length, drop, take-append-drop, cond}
 use Rattle.std.proofs.Common.{eqb, refl, sym, ap, ◌∙◌, arith, length-append}
 use mathlib.Core.List.{append_assoc}
 use Rattle.std.specs.List.{IsFirstAndRest, IsSplitAt}

@@ -8,7 +8,7 @@ use Rattle.std.proofs.lemmas.Bool.{ltb-true, eqb-true, and_parts, or_cases}
 use Rattle.byte_layout.specs.declared.fault.Break.TheVariants.{BadField}
 use Rattle.byte_layout.specs.Layout.{Layout, number, judged, at_most, split, last}
 use Rattle.byte_layout.specs.Exact.{IsExact}
-use Rattle.byte_layout.proofs.Fields.{number_good}
+use Rattle.byte_layout.proofs.Fields.{number_good, byte_exact, short_exact}
 use Rattle.byte_layout.proofs.Layouts.{fits_exact, at_most_exact, split_exact, last_exact}
 use Rattle.byte_layout.proofs.Lists.{counted_exact}
 use Rattle.object_defs.specs.declared.definition.Ops.{Ops}
@@ -17,7 +17,7 @@ use Rattle.object_defs.specs.declared.definition.ResourceDef.{ResourceDef}
 use Rattle.scenario_layout.specs.Value.{kind}
 use Rattle.scenario_layout.specs.Definition.{ops, ops_number, ops_numbered, flags_of, flags_fit, kind_fits, definition}
 use Rattle.scenario_layout.specs.Definition.{behind_id, resource, resources}
-use Rattle.scenario_layout.proofs.ExactValue.{byte_exact, short_exact, kind_exact}
+use Rattle.scenario_layout.proofs.ExactValue.{kind_exact}
 use Rattle.scenario_layout.proofs.GoodValue.{kind_good}
 
 ops_again : (n : ℕ) → 0 < n → n < 5 → ops_number (ops_numbered n) ≡ n

@@ -10,6 +10,7 @@ use Rattle.byte_layout.specs.Layout.{number, at_most, last}
 use Rattle.byte_layout.specs.Exact.{IsExact}
 use Rattle.byte_layout.proofs.Layouts.{fits_exact, at_most_exact, done_exact, split_exact, last_exact}
 use Rattle.byte_layout.proofs.Lists.{counted_exact}
+use Rattle.byte_layout.proofs.Fields.{byte_exact, short_exact}
 use Rattle.lwm2m_values.specs.declared.value.Value.{Value}
 use Rattle.object_defs.specs.Base.{base}
 use Rattle.object_defs.specs.Path.{path_cmp, instance_cmp}
@@ -18,7 +19,7 @@ use Rattle.object_defs.specs.declared.path.FullPath.{FullPath}
 use Rattle.object_defs.specs.declared.path.InstancePath.{InstancePath}
 use Rattle.scenario_layout.specs.Value.{place, path, value}
 use Rattle.scenario_layout.specs.Definition.{resources}
-use Rattle.scenario_layout.proofs.ExactValue.{byte_exact, short_exact, place_exact, path_exact, value_exact}
+use Rattle.scenario_layout.proofs.ExactValue.{place_exact, path_exact, value_exact}
 use Rattle.scenario_layout.proofs.Definitions.{resources_exact}
 use Rattle.device_template.specs.Template.{Template, most_accounts, account_fault, object_fault, instance_fault}
 use Rattle.device_template.specs.Template.{kind_taken, empty_class, is_notify, with_notify}

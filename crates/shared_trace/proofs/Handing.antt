@@ -11,6 +11,7 @@ use Rattle.scenario_image.specs.Scenario.{Scenario}
 use Rattle.trace_file.specs.declared.entry.Entry.{Entry}
 use Rattle.fleet_core.specs.Run.{made_by, is_enabled, IsRun}
 use Rattle.fleet_core.specs.Board.{HoldsAfter, Holding, ShowsAfter}
+use Rattle.fleet_core.proofs.Ends.{goes_waits}
 use Rattle.ticket_lock.specs.Log.{Adds}
 use Rattle.shared_trace.specs.declared.station.Place.TheVariants.{Parked, Out}
 use Rattle.shared_trace.specs.declared.station.Station.{Station}
@@ -20,7 +21,6 @@ use Rattle.shared_trace.specs.Trace.{Traced, IsPlaced, IsReady, with_out, has_st
 use Rattle.shared_trace.specs.Kept.{IsTrace, IsStation, AreEnded, IsOnWay, IsJob, is_parked, places_of}
 use Rattle.shared_trace.specs.Kept.{table_length}
 use Rattle.shared_trace.proofs.Lists.{from_map, map-set, same_some}
-use Rattle.shared_trace.proofs.Nexts.{enabled_waits}
 use Rattle.shared_trace.proofs.Open.{open_same, open_has}
 use Rattle.shared_trace.proofs.Stations.{traced}
 use Rattle.shared_trace.proofs.Ended.{ended_set}
@@ -65,7 +65,7 @@ out_station s es stations counts d w i x y z shown h out made next at (inl own) 
     subst (λ j. IsStation s es j z) own
     (subst (IsStation s es d) (set_gives stations d y z
     (subst (λ j. slice_get (set stations d y) j ≡ Some z) (sym own) at)) (record {
-      placed = subst (IsPlaced s es d) (sym out) (enabled_waits s es d h.enabled);
+      placed = subst (IsPlaced s es d) (sym out) (goes_waits s es d h.enabled);
       made = made ∙ (h.trace.each d x h.at).made;
       next = next ∙ (h.trace.each d x h.at).next;
       known = λ parked. absurd (false≢true (sym (ap is_parked out) ∙ parked));
@@ -91,7 +91,7 @@ pub out_ended : (s : Scenario) (es : List Entry) (stations : List Station) (coun
     (shown : Holding) → IsHanded s es stations counts d x shown
     → i ≡ d → AreEnded stations low → AreEnded (set stations i y) low
 out_ended s es stations counts low d i x y shown h from ended =
-    ended_set s es stations counts low d i x y h.trace h.at (enabled_waits s es d h.enabled) from ended
+    ended_set s es stations counts low d i x y h.trace h.at (goes_waits s es d h.enabled) from ended
 
 pub out_view : (v : Traced) (s : Scenario) (es : List Entry) (stations : List Station) (stops : Stops) (d w i : ℕ)
     (y : Station) → traced s es stations stops ≡ v

@@ -1,6 +1,6 @@
 -- What a device's next step asks for, and what the scenario says of it.
-use Rattle.std.proofs.Common.{◌≡◌, ℕ, ◌<◌, ◌≤◌, nat_lt, nat_le, ◌⊎◌, inl, inr, true, false, not, List, length, Option}
-use Rattle.std.proofs.Common.{None, Some, slice_get, refl, sym, ap, ◌∙◌}
+use Rattle.std.proofs.Common.{◌≡◌, ℕ, ◌<◌, ◌≤◌, nat_lt, nat_le, ◌⊎◌, inl, inr, true, false, not, List, length}
+use Rattle.std.proofs.Common.{Some, slice_get, refl, sym, ap, ◌∙◌}
 use Rattle.std.proofs.lemmas.Bool.{lt-ltb, le-ltb, cases_lt}
 use Rattle.std.proofs.lemmas.Option.{slice_get_past}
 use Rattle.lemmas.proofs.Lists.{item_at}
@@ -44,16 +44,6 @@ pub waiting_is : (s : Scenario) (es : List Entry) (d : ℕ)
     → is_waiting s es d ≡ not (is_end (next_of (step_at s d (made_by d es))))
 waiting_is s es d =
     let xs = steps_in (slice_get s.rows d) in left_by xs (made_by d es) (cases_lt (made_by d es) (length xs))
-
-passes_left : (p : ℕ → ℕ) (o : Option Step) → may_pass p (next_of o) ≡ true → not (is_end (next_of o)) ≡ true
-passes_left p None h = h
-passes_left p (Some (step.Event event)) h = refl
-passes_left p (Some (step.Post group)) h = refl
-passes_left p (Some (step.Need group count)) h = refl
-
--- a device that can step is not at the end of its row
-pub enabled_waits : (s : Scenario) (es : List Entry) (d : ℕ) → is_enabled s es d ≡ true → is_waiting s es d ≡ true
-enabled_waits s es d go = waiting_is s es d ∙ passes_left (λ g. posts_of s g es) (step_at s d (made_by d es)) go
 
 pub past_waiting : (s : Scenario) (es : List Entry) (d : ℕ) → length s.rows ≤ d → is_waiting s es d ≡ false
 past_waiting s es d past =
