@@ -17,17 +17,17 @@ use Rattle.instance_store.proofs.InstanceLaws.{under, keys_of-under, find-under,
 use Rattle.access_control.specs.Rights.{speaks_of, control_of}
 use Rattle.access_control.specs.Laws.{is_there, IsLowest}
 
-abbrev Numbers : Type 0
+abbrev pub Numbers : Type 0
 Numbers = List (ℕ × Unit {0})
 
-abbrev Has : Numbers → ℕ → Type 0
+abbrev pub Has : Numbers → ℕ → Type 0
 Has ns n = is_some (find nat_cmp n ns) ≡ true
 
 -- it is among the numbers, passes, and no lower one among them does
-record Lowest (test : ℕ → Bool) (ns : Numbers) (j : ℕ) : Type 0 where
-  there : Has ns j
-  passes : test j ≡ true
-  lowest : (k : ℕ) → k < j → Has ns k → test k ≡ false
+pub record Lowest (test : ℕ → Bool) (ns : Numbers) (j : ℕ) : Type 0 where
+  pub there : Has ns j
+  pub passes : test j ≡ true
+  pub lowest : (k : ℕ) → k < j → Has ns k → test k ≡ false
 
 passed_by : (m : ℕ) (e : ℕ × Unit {0}) (es : Numbers) → m < e.0 → find nat_cmp m (e ∷ es) ≡ find nat_cmp m es
 passed_by m e es h = ap (λ b. cond b (Some e.1) (find nat_cmp m es)) (no_tie_below m e.0 h)
@@ -67,12 +67,12 @@ found_head test e es j false fails sorted h rest =
       lowest = λ k l has. fails_at test e es k (eq_by_cmp nat_cmp k e.0) refl fails (low.lowest k l) has;
     }
 
-found : (test : ℕ → Bool) (ns : Numbers) (j : ℕ) → T (is_sorted nat_cmp ns)
+pub found : (test : ℕ → Bool) (ns : Numbers) (j : ℕ) → T (is_sorted nat_cmp ns)
     → first_that test (map (λ x. x.0) ns) ≡ Some j → Lowest test ns j
 found test [] j sorted h = let f : ⊥ = cc in absurd f
 found test (e ∷ es) j sorted h = found_head test e es j (test e.0) refl sorted h (found test es j (T_second _ _ sorted))
 
-missed : (test : ℕ → Bool) (ns : Numbers) → first_that test (map (λ x. x.0) ns) ≡ None → (k : ℕ) → Has ns k
+pub missed : (test : ℕ → Bool) (ns : Numbers) → first_that test (map (λ x. x.0) ns) ≡ None → (k : ℕ) → Has ns k
     → test k ≡ false
 missed test [] h k has = let f : ⊥ = cc in absurd f
 missed test (e ∷ es) h k has =

@@ -1,37 +1,28 @@
 -- Answers beside what is output, and the line that is named.
 use Rattle.std.proofs.Common.{◌≡◌, ℕ, ◌<◌, ◌≤◌, ◌⊎◌, inl, inr, Bool, true, false, List, length, Option, None, Some}
 use Rattle.std.proofs.Common.{Result, Ok, Err, IfOk, slice_get, refl, sym, ap, subst, ◌∙◌, arith}
-use Rattle.std.proofs.lemmas.Bool.{cases_lt}
 use Rattle.std.proofs.lemmas.Option.{slice_get_within}
 use Rattle.device_machine.specs.declared.output.Output.{Output}
 use Rattle.scenario_image.specs.Scenario.{Scenario}
 use Rattle.case_text.specs.declared.answer.Answer.{Answer}
 use Rattle.case_text.specs.declared.item.Item.{Item}
+use Rattle.fleet_core.proofs.Ends.{none_past}
 use Rattle.case_play.specs.declared.walk.Walk.{Walk}
 use Rattle.case_play.specs.Outputs.{width_before, States, IsSoOr, IsFirstWrong}
 use Rattle.case_play.specs.Spots.{Spot, spot_after, PutsOut}
 use Rattle.case_play.specs.Holds.{has_right, has_wrong, HoldBy, Hold, IsAnswered, IsWrongIn}
 use Rattle.case_play.specs.Holds.{line_or, IsNamed}
 use Rattle.case_play.specs.Walks.{IsAt, IsCompared, IsChecked}
-use Rattle.case_play.proofs.Rows.{some_at, puts_same}
+use Rattle.case_play.proofs.Rows.{puts_same}
 
 -- ---- answers that are all so, and a first that is not
-
-past_or : {X : Type 0} (xs : List X) (i : ℕ) → slice_get xs i ≡ None → (i < length xs) ⊎ (length xs ≤ i)
-    → length xs ≤ i
-past_or xs i none (inl less) =
-    let found = some_at xs i less in let e : Some found.0 ≡ None = sym found.1 ∙ none in absurd cc
-past_or xs i none (inr le) = le
-
-is_past : {X : Type 0} (xs : List X) (i : ℕ) → slice_get xs i ≡ None → length xs ≤ i
-is_past xs i none = past_or xs i none (cases_lt i (length xs))
 
 so_everywhere : (answers : List Answer) (outputs : List Output) (i : ℕ) (o : Option Answer)
     → slice_get answers i ≡ o → i ≤ length answers → States answers outputs
     → IsSoOr o outputs (width_before answers i)
 so_everywhere answers outputs i (Some answer) at within states = states.each i answer at
 so_everywhere answers outputs i None at within states =
-    let past : length answers ≤ i = is_past answers i at in
+    let past : length answers ≤ i = none_past answers i at in
     let end : i ≡ length answers = omega (arith, within, past) in
     states.all ∙ ap (width_before answers) (sym end)
 
@@ -112,7 +103,7 @@ named_at own i line answers outputs (Some answer) at right first is =
 named_at own i line answers outputs None at right first is =
     inr (
       λ other wrong.
-          let past : length answers ≤ i = is_past answers i at in
+          let past : length answers ≤ i = none_past answers i at in
           let within : wrong.place < length answers =
           slice_get_within answers wrong.place wrong.answer wrong.stands in
           first_same answers outputs wrong.place i wrong.first first (omega (arith, past, within)),

@@ -1,46 +1,26 @@
 -- What the rows of a scenario say at a spot, which is one thing.
-use Rattle.std.proofs.Common.{◌≡◌, ℕ, zero, suc, ◌-◌, ◌<◌, ◌≤◌, Bool, false, List, [], ◌∷◌, ◌++◌, length}
-use Rattle.std.proofs.Common.{None, Some, slice_get, refl, sym, ap, subst, ◌∙◌, arith}
+use Rattle.std.proofs.Common.{◌≡◌, ℕ, ◌-◌, ◌<◌, ◌≤◌, Bool, false, List, [], ◌∷◌, ◌++◌, length}
+use Rattle.std.proofs.Common.{None, Some, slice_get, sym, ap, subst, ◌∙◌, arith}
 use Rattle.std.specs.Prelude.{fold}
 use Rattle.std.proofs.lemmas.List.Sums.{fold_push}
 use Rattle.std.proofs.lemmas.Option.{same_Some, slice_get_within}
+use Rattle.lemmas.proofs.Lists.{item_at}
 use Rattle.device_template.specs.Template.{Template}
 use Rattle.device_machine.specs.declared.event.Event.{Event}
 use Rattle.device_machine.specs.declared.output.Output.{Output}
 use Rattle.device_machine.specs.State.{Machine, Device, Shows}
 use Rattle.device_machine.specs.Reactions.{outputs_of, flat_after}
 use Rattle.scenario_image.specs.declared.step.Step.{Step}
-use Rattle.scenario_image.specs.Scenario.{Row, Scenario, IsGoodRow, IsValid}
+use Rattle.scenario_image.specs.Scenario.{Row, Scenario, IsValid}
 use Rattle.scenario_image.specs.Play.{state_at, shown, IsRowOf}
+use Rattle.scenario_image.proofs.RowLaws.{row_of}
 use Rattle.fleet_core.specs.Run.{steps_in, step_at, out_at}
 use Rattle.fleet_core.specs.Board.{ShowsAfter}
-use Rattle.fleet_core.proofs.Valid.{all_at}
 use Rattle.case_text.specs.declared.item.Part.{Part}
 use Rattle.case_text.specs.declared.item.Part.TheVariants as parts
 use Rattle.case_play.specs.Spots.{Spot, IsLast, IsAsked, HasStepped, HasTaken, PutsOut}
 
 -- ---- a row
-
-pub some_at : {X : Type 0} (xs : List X) (i : ℕ) → i < length xs → (x : X) × (slice_get xs i ≡ Some x)
-some_at [] i h = absurd (omega (arith, h))
-some_at (z ∷ zs) zero h = (z, refl)
-some_at (z ∷ zs) (suc i) h = some_at zs i (omega (arith, h))
-
--- a row that is there
-pub record HasRow (s : Scenario) (d : ℕ) : Type 0 where
-  pub class : Template
-  pub steps : List Step
-  pub row : IsRowOf s d class steps
-
-pub row_of : (s : Scenario) (d : ℕ) → IsValid s → d < length s.rows → HasRow s d
-row_of s d valid within =
-    let found = some_at s.rows d within in
-    let good : IsGoodRow s.classes found.0 = all_at (IsGoodRow s.classes) s.rows d found.0 valid.each found.1 in
-    record {
-      class = good.class;
-      steps = found.0.steps;
-      row = record { place = found.0.class; row = found.1; stated = good.stated };
-    }
 
 row_with : ℕ → List Step → Row
 row_with place steps = record { class = place; steps = steps }
@@ -152,7 +132,7 @@ shown_is x f shows = ap (λ b. device_with b x.flat) shows.ready ∙ ap (device_
 none_past : {X : Type 0} (xs : List X) (i : ℕ) → slice_get xs i ≡ None → (k : ℕ) (x : X) → i ≤ k
     → slice_get xs k ≡ Some x → ⊥
 none_past xs i none k x le at =
-    let found = some_at xs i (omega (arith, le, slice_get_within xs k x at)) in
+    let found = item_at xs i (omega (arith, le, slice_get_within xs k x at)) in
     let e : Some found.0 ≡ None = sym found.1 ∙ none in cc
 
 -- after the end of the row there is no step

@@ -1,14 +1,15 @@
 -- Lists that are read part by part.
-use Rattle.std.proofs.Common.{◌≡◌, ℕ, zero, suc, ◌-◌, ◌<◌, ◌==◌, Bool, true, false, cond, List, [], ◌∷◌, ◌++◌}
+use Rattle.std.proofs.Common.{◌≡◌, ℕ, zero, suc, ◌-◌, ◌<◌, ◌==◌, false, cond, List, [], ◌∷◌, ◌++◌}
 use Rattle.std.proofs.Common.{replicate, Result, Ok, Err, refl, sym, ap, ◌∙◌, append_assoc, arith}
 use Rattle.std.specs.Prelude.{codes}
-use Rattle.std.specs.List.{repeat, slice_split, onto_first}
+use Rattle.std.specs.List.{repeat, slice_split}
 use Rattle.std.specs.Str.{bytes_eq}
 use Rattle.scenario_words.specs.declared.cause.Cause.{Cause}
 use Rattle.scenario_words.specs.declared.cause.Cause.TheVariants.{Token}
 use Rattle.scenario_words.specs.Words.{parts}
 use Rattle.scenario_words.specs.Reading.{◌>>=◌, word_by}
 use Rattle.scenario_words.specs.Number.{number_of}
+use Rattle.scenario_words.proofs.Cuts.{first_part}
 use Rattle.case_text.specs.BytesWords.{hex_up_to_at, text_hex, word_hex}
 use Rattle.case_text.specs.Digits.{piece_of, pieces_of}
 use Rattle.case_text.specs.Stating.{devices_of}
@@ -80,12 +81,6 @@ pub next_device : (ws behind : List (List ℕ)) (all : List ℕ) (n : ℕ) (tota
 next_device [] behind all n total read so_far = absurd cc
 next_device (w ∷ ws) behind all n total read so_far =
     next_device_by (number_of 0 65535 w) ws behind all n total read so_far
-
-first_part : (b : Bool) (x : ℕ) (ps : List (List ℕ)) → (y : List ℕ) × (ys : List (List ℕ))
-    × (cond b ([] ∷ ps) (onto_first x ps) ≡ y ∷ ys)
-first_part true x ps = ([], ps, refl)
-first_part false x [] = (x ∷ [], [], refl)
-first_part false x (p ∷ ps) = (x ∷ p, ps, refl)
 
 -- there is a part
 pub some_part : (c : ℕ) (bs : List ℕ) → (y : List ℕ) × (ys : List (List ℕ)) × (parts c bs ≡ y ∷ ys)

@@ -13,13 +13,13 @@ use Rattle.coap_codec.specs.Fault.{token_length, header_fault, last_number, Brea
 use Rattle.coap_codec.specs.Reading.{kind_of, read_options, message_of, read_behind, reading_of}
 use Rattle.coap_codec.proofs.Completeness.{with_all-ok, with_all-err, read_all, read_payload, read_fault}
 
-kind_number_below : (k : Kind) → kind_number k < 4
+pub kind_number_below : (k : Kind) → kind_number k < 4
 kind_number_below Con = omega arith
 kind_number_below Non = omega arith
 kind_number_below Ack = omega arith
 kind_number_below Rst = omega arith
 
-kind_again : (k : Kind) → kind_of (kind_number k) ≡ k
+pub kind_again : (k : Kind) → kind_of (kind_number k) ≡ k
 kind_again Con = refl
 kind_again Non = refl
 kind_again Ack = refl
@@ -65,7 +65,7 @@ read_tail m steps good enough =
     ∙ with_all-ok m.options m.payload
 
 -- what stands after an empty code is nothing
-empty_tail : (os : List Opt) (p : List ℕ) → length os ≡ 0 → length p ≡ 0
+pub empty_tail : (os : List Opt) (p : List ℕ) → length os ≡ 0 → length p ≡ 0
     → length (options_bytes 0 os ++ payload_bytes p) ≡ 0
 empty_tail [] [] a b = refl
 empty_tail [] (x ∷ p) a b = absurd (omega arith)

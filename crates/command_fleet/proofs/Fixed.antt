@@ -5,13 +5,14 @@ use Rattle.std.proofs.Common.{Option, None, Some, length, take, drop, slice_get,
 use Rattle.std.proofs.Common.{sym}
 use Rattle.std.proofs.Common.{ap, subst, ◌∙◌, IfNone}
 use Rattle.std.proofs.lemmas.List.Folds.{list_any-append}
-use Rattle.std.proofs.lemmas.List.{drop_more, map-append, take-append-drop, take_all, take_more}
+use Rattle.std.proofs.lemmas.List.{drop_more, map-append, take-append-drop, take_all, take_more, take-append-le}
 use Rattle.std.proofs.NetLemmas.Theorems.{IsSocketText_unique}
 use Rattle.std.specs.List.{after_first, before_first, list_any}
 use Rattle.std.specs.Net.Grammar.{IsIpText, IsSocketText}
 use Rattle.std.specs.Net.Socket.{IsPlainSocket}
 use Rattle.std.specs.declared.net.ip_addr.IpAddr.{IpAddr}
 use Rattle.std.specs.declared.net.socket_addr.SocketAddr.{SocketAddr}
+use Rattle.std.proofs.Math.Seq.{take-length}
 use Rattle.lemmas.proofs.Lists.{item_at, length_pushed, pushed_cases, take_one_more}
 use Rattle.fleet_link.specs.declared.directory.FixedServer.{FixedServer}
 use Rattle.scenario_image.specs.Scenario.{Row, Scenario}
@@ -30,10 +31,6 @@ pub no_port : (text : List ℕ) (place : SocketAddr) → IsSocketText text place
 no_port text place spelled none ip port (other, spells, same, plain, some) =
     let is : other ≡ place = IsSocketText_unique text other place spells spelled in
     none port (subst (λ p. IsPlainSocket p port) is plain) some
-
-pub if_none : {X : Type 0} (r : Option X) (P : Type 0) → P → IfNone r P
-if_none None P p = p
-if_none (Some x) P p = tt
 
 -- neither an address nor an address with a port
 pub no_place : (text : List ℕ) → ((ip : IpAddr) → IsIpText text ip → ⊥)
@@ -125,17 +122,6 @@ within [] k x at = let e : None ≡ Some x = at in absurd cc
 within (y ∷ ys) zero x at = omega arith
 within (y ∷ ys) (suc k) x at = omega (arith, within ys k x at)
 
-take_before : {X : Type 0} (xs ys : List X) (k : ℕ) → k ≤ length xs → take k (xs ++ ys) ≡ take k xs
-take_before [] [] zero h = refl
-take_before [] (y ∷ ys) zero h = refl
-take_before [] ys (suc k) h = absurd (omega (arith, h))
-take_before (x ∷ xs) ys zero h = refl
-take_before (x ∷ xs) ys (suc k) h = ap (λ l. x ∷ l) (take_before xs ys k (omega (arith, h)))
-
-take_whole : {X : Type 0} (xs : List X) → take (length xs) xs ≡ xs
-take_whole [] = refl
-take_whole (x ∷ xs) = ap (λ l. x ∷ l) (take_whole xs)
-
 pub none_yet : (s : Scenario) (words : List (Bor (List ℕ))) (servers : List FixedServer) → servers ≡ []
     → AreServers s (words_in (take 0 words)) servers
 none_yet s words servers none =
@@ -161,12 +147,13 @@ one_more s words servers w x are new =
     of k word server (inl at) (inl here) =
         let below = within servers k server here in
         subst (λ l. IsNewServer s l word server)
-        (sym (take_before servers (x ∷ []) k (omega (arith, below)))) (are.each k word server at here)
+        (sym (take-append-le k servers (x ∷ []) (omega (arith, below)))) (are.each k word server at here)
     of k word server (inl at) (inr here) = absurd (omega (arith, within words k word at, here.0, are.count))
     of k word server (inr at) (inl here) = absurd (omega (arith, within servers k server here, at.0, are.count))
     of k word server (inr at) (inr here) =
         let whole : take k (servers ++ x ∷ []) ≡ servers =
-        take_before servers (x ∷ []) k (omega (arith, here.0)) ∙ ap (λ n. take n servers) here.0 ∙ take_whole servers in
+        take-append-le k servers (x ∷ []) (omega (arith, here.0)) ∙ ap (λ n. take n servers) here.0
+        ∙ take-length servers in
         subst (λ l. IsNewServer s l word server) (sym whole)
         (subst (λ v. IsNewServer s servers v server) at.1 (subst (IsNewServer s servers w) here.1 new))
 

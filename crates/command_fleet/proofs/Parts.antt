@@ -1,29 +1,15 @@
 -- The devices of `A-B`, the rows of a part of a scenario, and the end of a session.
 use Rattle.std.proofs.Common.{ℕ, ◌≡◌, ◌<◌, ◌==◌, ◌⊎◌, ◌+◌, ◌%◌, zero, suc, Bool, List, [], ◌∷◌, ◌++◌, length}
-use Rattle.std.proofs.Common.{filter, take, get_or, slice_get, Option, IfNone, None, Some, option_map, arith, ap, subst}
+use Rattle.std.proofs.Common.{slice_get, Option, IfNone, None, Some, option_map, arith, ap, subst}
 use Rattle.std.proofs.Common.{sym, ◌∙◌, refl, inl, inr}
-use Rattle.std.proofs.lemmas.Grind.{take_at_read}
-use Rattle.std.proofs.lemmas.List.Elements.{filter-append}
 use Rattle.std.specs.List.{after_first, before_first}
 use Rattle.command_line.specs.Words.{SpellsNumber}
-use Rattle.fleet_link.specs.Playing.{is_own}
 use Rattle.lemmas.proofs.Lists.{item_pushed, length_pushed}
-use Rattle.scenario_image.specs.declared.step.Step.{Step}
 use Rattle.scenario_image.specs.Scenario.{Row}
 use Rattle.command_fleet.specs.declared.devices.Devices.{Devices}
 use Rattle.command_fleet.specs.Devices.{IsRange, row_to_play}
 
 -- ---- the rows of a part
-
--- the steps so far that are played, and one more
-pub own_more : (steps own more : List Step) (i : ℕ) (x : Step) → own ≡ filter is_own (take i steps)
-    → more ≡ own ++ filter is_own (x ∷ []) → i < length steps → x ≡ get_or steps i x
-    → more ≡ filter is_own (take (i + 1) steps)
-own_more steps own more i x so_far is l e =
-    let taken : take (i + 1) steps ≡ take i steps ++ x ∷ [] =
-    (take_at_read steps i x l).1 ∙ ap (λ y. take i steps ++ y ∷ []) (sym e) in
-    is ∙ ap (λ xs. xs ++ filter is_own (x ∷ [])) so_far ∙ sym (filter-append is_own (take i steps) (x ∷ []))
-    ∙ ap (filter is_own) (sym taken)
 
 -- each of the first rows of a part is that of its device
 abbrev pub AreRows : List Row → Devices → ℕ → Bool → ℕ → List Row → Type 0

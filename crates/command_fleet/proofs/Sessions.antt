@@ -17,12 +17,12 @@ use Rattle.scenario_image.specs.declared.fault.ScenarioFault.{ScenarioFault}
 use Rattle.scenario_image.specs.declared.fault.ScenarioFault.TheVariants as session
 use Rattle.scenario_image.specs.Image.{IsImageIn}
 use Rattle.scenario_image.specs.Scenario.{Scenario}
+use Rattle.live_link.proofs.Turned.{none_read}
 use Rattle.fleet_link.specs.declared.directory.FixedServer.{FixedServer}
 use Rattle.fleet_link.specs.declared.slot.Slot.{Slot}
 use Rattle.fleet_link.specs.Saved.{IsSaved}
 use Rattle.fleet_link.specs.Serving.{AreAt, AreRepeated, IsFleet}
 use Rattle.fleet_link.specs.Timing.{AreAsked}
-use Rattle.fleet_link.proofs.Told.{read_none}
 use Rattle.fleet_link.specs.Traffic.{Traffic, no_traffic}
 use Rattle.command_files.specs.Fault.{session_fault, IsReadingFault, IsWritingFault}
 use Rattle.command_files.specs.Files.{Grows, Made}
@@ -245,9 +245,9 @@ pub none_asked : (read asked : Option (List ℕ)) (first : Option ℕ) (now : �
     → AreAsked read read asked asked first now 0
 none_asked read asked first now none zero = record {
   readings = [];
-  read = read_none read;
+  read = none_read read;
   seconds = [];
-  asked = read_none asked;
+  asked = none_read asked;
   are = record { count = refl; each = λ k l. absurd (omega (arith, l)) };
   often = omega arith;
   first_is = none;

@@ -239,7 +239,3 @@ refused_if (Err e) refuses telling json notes shown is why =
 pub if_both : {T E : Type 0} (r : Result T E) (P Q R : Type 0) → OnOk r Q → OnOk r R → (Q → R → P) → OnOk r P
 if_both (Ok x) P Q R q s f = f q s
 if_both (Err e) P Q R q s f = tt
-
-pub always : {T E : Type 0} (r : Result T E) (P : Type 0) → P → OnOk r P
-always (Ok x) P p = p
-always (Err e) P p = tt

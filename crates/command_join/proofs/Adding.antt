@@ -1,28 +1,11 @@
 -- Rows that are added to a scenario, step by step.
-use Rattle.std.proofs.Common.{ℕ, ◌≡◌, ◌+◌, ◌-◌, ◌<◌, List, [], ◌∷◌, ◌++◌, length, take, get_or, Some, slice_get}
-use Rattle.std.proofs.Common.{append_assoc, refl, sym, ap, ◌∙◌, arith}
+use Rattle.std.proofs.Common.{ℕ, ◌≡◌, ◌+◌, ◌<◌, List, [], ◌∷◌, ◌++◌, length, take, get_or, Some, slice_get}
+use Rattle.std.proofs.Common.{append_assoc, sym, ap, ◌∙◌}
 use Rattle.std.proofs.lemmas.List.{take_more}
-use Rattle.std.specs.List.{slice_set}
-use Rattle.lemmas.proofs.Lists.{item_pushed, length_pushed, take_one_more}
+use Rattle.lemmas.proofs.Lists.{take_one_more}
 use Rattle.scenario_image.specs.declared.step.Step.{Step}
-use Rattle.scenario_image.specs.Scenario.{Row, Scenario, last_row, longer, with_last, with_step}
-
-set_pushed : {X : Type 0} (xs : List X) (x y : X) → slice_set (xs ++ x ∷ []) (length xs) y ≡ xs ++ y ∷ []
-set_pushed [] x y = refl
-set_pushed (z ∷ xs) x y = ap (λ l. z ∷ l) (set_pushed xs x y)
-
-last_place : {X : Type 0} (xs : List X) (x : X) → length (xs ++ x ∷ []) - 1 ≡ length xs
-last_place xs x = omega (arith, length_pushed xs x)
-
--- a step more of the last row
-last_longer : (rows : List Row) (row : Row) (step : Step)
-    → with_last (rows ++ row ∷ []) (last_row (rows ++ row ∷ [])) step ≡ rows ++ longer row step ∷ []
-last_longer rows row step =
-    let last : last_row (rows ++ row ∷ []) ≡ Some row =
-    ap (slice_get (rows ++ row ∷ [])) (last_place rows row) ∙ item_pushed rows row in
-    ap (λ o. with_last (rows ++ row ∷ []) o step) last
-    ∙ ap (λ n. slice_set (rows ++ row ∷ []) n (longer row step)) (last_place rows row)
-    ∙ set_pushed rows row (longer row step)
+use Rattle.scenario_image.specs.Scenario.{Row, Scenario, last_row, with_last, with_step}
+use Rattle.scenario_image.proofs.RowLaws.{last_longer}
 
 -- a row of a class with these steps
 abbrev pub row_with : ℕ → List Step → Row

@@ -10,10 +10,6 @@ use Rattle.command_join.specs.Slices.{first_in, first_of, last_in, last_of}
 use Rattle.command_join.specs.declared.slice.Devices.{Devices}
 use Rattle.command_join.specs.declared.slice.Slice.{Slice}
 
-pub if_none : {X : Type 0} (r : Option X) (P : Type 0) → P → IfNone r P
-if_none None P p = p
-if_none (Some x) P p = tt
-
 -- words whose parts are no devices are no range
 pub no_range : (text first last : List ℕ) (r : Option Devices) → first ≡ before_first (λ b. b == 45) text
     → last ≡ after_first (λ b. b == 45) text

@@ -5,15 +5,7 @@ use Rattle.std.specs.List.{onto_first}
 use Rattle.std.proofs.lemmas.Bool.{cases_eq}
 use Rattle.scenario_words.specs.Words.{Mode, gap, plain, quoted, scan, words}
 use Rattle.scenario_words.proofs.WordLaws.{gap_byte, gap_comment, gap_space, plain_byte, plain_space, quoted_byte}
-use Rattle.scenario_words.proofs.WordLaws.{quoted_quote}
-
-onto_some : (b : ℕ) (ps : List (List ℕ)) → onto_first b ps ≡ [] → ⊥
-onto_some b [] e = cc
-onto_some b (p ∷ ps) e = cc
-
-chosen_some : (t : Bool) (b : ℕ) (x : List ℕ) (xs ps : List (List ℕ)) → cond t (x ∷ xs) (onto_first b ps) ≡ [] → ⊥
-chosen_some true b x xs ps e = cc
-chosen_some false b x xs ps e = onto_some b ps e
+use Rattle.scenario_words.proofs.WordLaws.{quoted_quote, mode_some, onto_some, chosen_some}
 
 -- what is left of a word is there, if it is empty
 plain_some : (bs : List ℕ) → scan plain bs ≡ [] → ⊥
@@ -23,10 +15,6 @@ plain_some (b ∷ bs) e = chosen_some (eqb b 32) b [] (scan gap bs) (scan plain 
 quoted_some : (bs : List ℕ) → scan quoted bs ≡ [] → ⊥
 quoted_some [] e = cc
 quoted_some (b ∷ bs) e = onto_some b (scan (cond (eqb b 34) plain quoted) bs) e
-
-mode_some : (q : Bool) (bs : List ℕ) → scan (cond q quoted plain) bs ≡ [] → ⊥
-mode_some true bs e = quoted_some bs e
-mode_some false bs e = plain_some bs e
 
 -- the first word without its first byte
 under : (b : ℕ) (ps : List (List ℕ)) (w : List ℕ) (ws : List (List ℕ)) → (ps ≡ [] → ⊥) → onto_first b ps ≡ w ∷ ws

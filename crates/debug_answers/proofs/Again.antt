@@ -8,10 +8,10 @@ use Rattle.scenario_words.specs.declared.cause.Cause.{Cause}
 use Rattle.scenario_words.specs.declared.cause.Cause.TheVariants.{UnknownWord}
 use Rattle.scenario_words.specs.Reading.{◌>>=◌, Reads}
 use Rattle.scenario_words.specs.Number.{number_of}
-use Rattle.scenario_words.specs.PathWord.{IsPath, path_of}
+use Rattle.scenario_words.specs.PathWord.{IsPath}
 use Rattle.object_defs.specs.Path.{path_text}
 use Rattle.scenario_words.proofs.NumberLaws.{number_of-law}
-use Rattle.scenario_words.proofs.PathLaws.{path_law}
+use Rattle.scenario_words.proofs.PathLaws.{path_again}
 use Rattle.debug_answers.specs.declared.command.Command.{Command}
 use Rattle.debug_answers.specs.declared.command.Command.TheVariants as command
 use Rattle.debug_answers.specs.declared.command.Point.{Point}
@@ -23,9 +23,6 @@ use Rattle.debug_answers.proofs.Found.{found}
 
 number_again : (high n : ℕ) → high < 2 ^ 64 → n ≤ high → number_of 0 high (decimal n) ≡ Ok n
 number_again high n small h = (number_of-law 0 high n (decimal n) small).1 (refl, omega arith, h)
-
-path_again : (p : Path) → IsPath p → path_of (path_text p) ≡ Ok p
-path_again p h = (path_law (path_text p) p).1 (refl, h)
 
 only_again : (high n : ℕ) → high < 2 ^ 64 → n ≤ high → only_number high (decimal n ∷ []) ≡ Ok n
 only_again high n small h = rw (number_again high n small h) refl

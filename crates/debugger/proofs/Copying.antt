@@ -4,6 +4,7 @@ use Rattle.std.proofs.Common.{length, take, get_or, None, Some, slice_get, slice
 use Rattle.std.proofs.Common.{arith, length-append}
 use Rattle.std.proofs.lemmas.List.Sums.{sum_by-take-le}
 use Rattle.std.proofs.lemmas.Option.{slice_get_within, slice_get_read}
+use Rattle.lemmas.proofs.Lists.{pushed_cases}
 use Rattle.device_template.specs.Template.{Template}
 use Rattle.device_machine.specs.State.{Device, Shows}
 use Rattle.scenario_image.specs.declared.step.Step.{Step}
@@ -17,7 +18,6 @@ use Rattle.debugger.specs.declared.copies.Copies.{Copies}
 use Rattle.debugger.specs.Copies.{HasCopies, AreCopiedTo, AreCopied}
 use Rattle.debugger.specs.Session.{AreCounted}
 use Rattle.debugger.specs.Moves.{HasSteps}
-use Rattle.debugger.proofs.Moving.{pushed}
 
 -- ---- the copies of one device
 
@@ -55,7 +55,7 @@ first_next s d n copies more copy machine old before now copied added =
     record {
       count = omega (arith, ap length is, length-append copies (machine ∷ []), before.count);
       shown = λ k x h. shown_next s d n k copies x machine old before now
-          (pushed copies machine k x (ap (λ l. slice_get l k) (sym is) ∙ h));
+          (pushed_cases copies machine k x (ap (λ l. slice_get l k) (sym is) ∙ h));
       last = subst (λ j. ShowsAfter s d j machine) next now;
     }
 
@@ -125,7 +125,7 @@ pub more_copied : (s : Scenario) (counts : List ℕ) (all more : List Copies) (n
     → more ≡ all ++ y ∷ [] → AreCopiedTo s counts more
 more_copied s counts all more n y before count here added =
     subst (AreCopiedTo s counts) (sym added)
-    (record { each = λ d x h. copied_at s counts all n d y x before count here (pushed all y d x h) })
+    (record { each = λ d x h. copied_at s counts all n d y x before count here (pushed_cases all y d x h) })
 
 -- those of the device at an index
 pub sources_at : (s : Scenario) (counts : List ℕ) (all : List Copies) (d : ℕ) (x : Copies) → AreCopiedTo s counts all

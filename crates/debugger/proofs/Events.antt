@@ -2,12 +2,12 @@
 use Rattle.std.proofs.Common.{◌≡◌, ℕ, zero, suc, ◌+◌, ◌≤◌, Bool, true, false, cond, List, [], ◌∷◌, ◌++◌, length, take}
 use Rattle.std.proofs.Common.{filter, Some, slice_get, refl, ap, ◌∙◌, arith, length-append}
 use Rattle.std.proofs.lemmas.List.Elements.{filter-append}
+use Rattle.lemmas.proofs.Lists.{take_one_more}
 use Rattle.scenario_image.specs.declared.step.Step.{Step}
 use Rattle.scenario_image.specs.Play.{is_event}
 use Rattle.scenario_image.specs.Scenario.{Scenario}
 use Rattle.fleet_core.specs.Run.{step_at, steps_in}
 use Rattle.debugger.specs.Replayed.{events_by}
-use Rattle.debugger.proofs.Runs.{take_next}
 
 -- ---- of a list
 
@@ -73,7 +73,7 @@ few_more_taken p (suc a) (suc b) (x ∷ xs) le =
 pub events_next : (s : Scenario) (d k : ℕ) (step : Step) → step_at s d k ≡ Some step
     → events_by s d (k + 1) ≡ events_by s d k + cond (is_event step) 1 0
 events_next s d k step at =
-    ap (λ l. length (filter is_event l)) (take_next (steps_in (slice_get s.rows d)) k step at)
+    ap (λ l. length (filter is_event l)) (take_one_more (steps_in (slice_get s.rows d)) k step at)
     ∙ filter_push is_event (take k (steps_in (slice_get s.rows d))) step
 
 pub events_few : (s : Scenario) (d k : ℕ) → events_by s d k ≤ k

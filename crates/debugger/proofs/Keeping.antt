@@ -1,10 +1,11 @@
 -- What a debugger keeps, at its start, at another place and with other breakpoints.
-use Rattle.std.proofs.Common.{◌≡◌, ℕ, ◌+◌, ◌-◌, ◌*◌, ◌<◌, ◌≤◌, ◌↔◌, List, [], ◌∷◌, length, take, get_or, nat_lt, true}
+use Rattle.std.proofs.Common.{◌≡◌, ℕ, ◌+◌, ◌-◌, ◌*◌, ◌<◌, ◌≤◌, ◌↔◌, List, length, take, get_or, nat_lt, true}
 use Rattle.std.proofs.Common.{false, replicate, Option, None, Some, slice_get, slice_set, refl, sym, ap, subst, ◌∙◌}
 use Rattle.std.proofs.Common.{arith, slice_range}
 use Rattle.std.proofs.lemmas.List.{length-replicate, length-set}
 use Rattle.std.proofs.lemmas.Bool.{ltb-true, ltb-false}
 use Rattle.std.proofs.lemmas.Option.{slice_get_within, slice_get_read}
+use Rattle.lemmas.proofs.Lists.{take_none}
 use Rattle.lwm2m_values.specs.declared.value.Value.{Value}
 use Rattle.object_defs.specs.Path.{full_path}
 use Rattle.object_defs.specs.declared.path.Path.{Path}
@@ -28,10 +29,6 @@ use Rattle.debugger.specs.Breaks.{IsTaken, AreAllTaken, IsAdded, IsRemoved}
 use Rattle.debugger.proofs.Rows.{value_is, observations_are}
 use Rattle.debugger.proofs.Numbers.{free_not_all, all_taken}
 use Rattle.debugger.proofs.Replaying.{few_on, replayed_back, steps_back, steps_on}
-
-take_none : {X : Type 0} (xs : List X) → take 0 xs ≡ []
-take_none [] = refl
-take_none (x ∷ xs) = refl
 
 pub kept_start : (s : Scenario) (es : List Entry) (made : List ℕ) (devices : List Device)
     (breaks : List (Option Break)) (copies : List Copies) → IsRun s es

@@ -1,20 +1,19 @@
 -- The devices that a move replaces.
-use Rattle.std.proofs.Common.{◌≡◌, ℕ, zero, suc, ◌+◌, ◌<◌, ◌≤◌, ◌⊎◌, inl, inr, List, [], ◌∷◌, ◌++◌, length, take, set}
+use Rattle.std.proofs.Common.{◌≡◌, ℕ, ◌+◌, ◌<◌, ◌≤◌, ◌⊎◌, inl, inr, List, [], ◌∷◌, ◌++◌, length, take, set}
 use Rattle.std.proofs.Common.{get_or, Option, None, Some, slice_get, slice_index, refl, sym, ap, subst, ◌∙◌, arith}
 use Rattle.std.proofs.lemmas.Bool.{cases_eq, cases_lt}
 use Rattle.std.proofs.lemmas.List.{length-set}
 use Rattle.std.proofs.lemmas.Option.{slice_get_within, slice_get_read}
+use Rattle.lemmas.proofs.Lists.{item_at, pushed_cases, item_pushed, item_before, item_set, set_elsewhere, each_at}
 use Rattle.device_machine.specs.State.{Device}
 use Rattle.scenario_image.specs.Scenario.{Row, Scenario, IsGoodRow, IsValid}
 use Rattle.trace_file.specs.declared.entry.Entry.{Entry}
 use Rattle.fleet_core.specs.Run.{steps_in, step_at, made_by, IsRun}
 use Rattle.fleet_core.specs.Board.{ShowsAfter}
-use Rattle.fleet_core.proofs.Valid.{all_at}
 use Rattle.debugger.specs.Session.{AreAt, AreCounted}
 use Rattle.debugger.specs.declared.moves.Moved.{Moved}
 use Rattle.debugger.specs.Moves.{HasSteps, IsMoved, IsAmong, IsReady, AreMoved}
 use Rattle.debugger.proofs.Runs.{has_steps}
-use Rattle.debugger.proofs.Rows.{some_at}
 
 -- ---- counts
 
@@ -25,23 +24,6 @@ counted_steps s es n made run counted d within = subst (HasSteps s d) (sym (coun
     (has_steps s es d n run)
 
 -- ---- one device more
-
-pub pushed : {X : Type 0} (xs : List X) (y : X) (k : ℕ) (x : X) → slice_get (xs ++ y ∷ []) k ≡ Some x
-    → (slice_get xs k ≡ Some x) ⊎ ((k ≡ length xs) × (y ≡ x))
-pushed [] y zero x h = let e : Some y ≡ Some x = h in inr (refl, cc)
-pushed [] y (suc k) x h = let e : None ≡ Some x = h in absurd cc
-pushed (z ∷ xs) y zero x h = inl h
-pushed (z ∷ xs) y (suc k) x h = elim (pushed xs y k x h) [ inl g ↦ inl g | inr g ↦ inr (ap suc g.0, g.1) ]
-
-at_end : {X : Type 0} (xs : List X) (x : X) → slice_get (xs ++ x ∷ []) (length xs) ≡ Some x
-at_end [] x = refl
-at_end (y ∷ ys) x = at_end ys x
-
-get_before : {X : Type 0} (xs : List X) (y : X) (k : ℕ) (x : X) → slice_get xs k ≡ Some x
-    → slice_get (xs ++ y ∷ []) k ≡ Some x
-get_before [] y k x h = let e : None ≡ Some x = h in absurd cc
-get_before (z ∷ xs) y zero x h = h
-get_before (z ∷ xs) y (suc k) x h = get_before xs y k x h
 
 pub none_moved : (s : Scenario) (counts : List ℕ) (devices : List Device) (moved : List Moved) → moved ≡ []
     → AreMoved s counts devices 0 moved
@@ -86,7 +68,7 @@ among_more : (moved : List Moved) (y : Moved) (d : ℕ) → IsAmong moved d → 
 among_more moved y d is = record {
   index = is.index;
   one = is.one;
-  stands = get_before moved y is.index is.one is.stands;
+  stands = item_before moved y is.index is.one is.stands;
   own = is.own;
 }
 
@@ -103,7 +85,7 @@ rest_more s counts devices moved n d y x before own less h (inl low) =
     still s counts moved d x y (before.rest d x low h)
 rest_more s counts devices moved n d y x before own less h (inr high) =
     let last : n ≡ d = omega (arith, less, high) in
-    inr (record { index = length moved; one = y; stands = at_end moved y; own = own ∙ last })
+    inr (record { index = length moved; one = y; stands = item_pushed moved y; own = own ∙ last })
 
 -- one that is replaced
 pub moved_more : (s : Scenario) (counts : List ℕ) (devices : List Device) (moved more : List Moved) (n steps : ℕ)
@@ -112,22 +94,9 @@ pub moved_more : (s : Scenario) (counts : List ℕ) (devices : List Device) (mov
 moved_more s counts devices moved more n steps y before within is added =
     subst (AreMoved s counts devices (n + 1)) (sym added) (record {
       each = λ i m h. each_more s counts (length devices) moved y m i before.each
-          (ready_is s counts (length devices) n steps y is within) (pushed moved y i m h);
+          (ready_is s counts (length devices) n steps y is within) (pushed_cases moved y i m h);
       rest = λ d x less h. rest_more s counts devices moved n d y x before is.device less h (cases_lt d n);
     })
-
-pub get-set_same : {X : Type 0} (xs : List X) (i : ℕ) (y : X) → i < length xs → slice_get (set xs i y) i ≡ Some y
-get-set_same [] i y h = absurd (omega (arith, h))
-get-set_same (z ∷ zs) zero y h = refl
-get-set_same (z ∷ zs) (suc i) y h = get-set_same zs i y (omega (arith, h))
-
-pub get-set_other : {X : Type 0} (xs : List X) (i j : ℕ) (y : X) → (i ≡ j → ⊥)
-    → slice_get (set xs i y) j ≡ slice_get xs j
-get-set_other [] i j y h = refl
-get-set_other (z ∷ zs) zero zero y h = absurd (h refl)
-get-set_other (z ∷ zs) zero (suc j) y h = refl
-get-set_other (z ∷ zs) (suc i) zero y h = refl
-get-set_other (z ∷ zs) (suc i) (suc j) y h = get-set_other zs i j y (λ e. h (ap suc e))
 
 -- ---- one place after another, from the last
 
@@ -144,7 +113,7 @@ left_still : (s : Scenario) (counts : List ℕ) (now rest : List Moved) (o : Mov
 left_still s counts now rest o d x added other (inl shows) = inl shows
 left_still s counts now rest o d x added other (inr is) =
     inr (among_less now rest o d added other is
-    (pushed rest o is.index is.one (ap (λ l. slice_get l is.index) (sym added) ∙ is.stands)))
+    (pushed_cases rest o is.index is.one (ap (λ l. slice_get l is.index) (sym added) ∙ is.stands)))
 
 left_rest : (s : Scenario) (counts : List ℕ) (devices : List Device) (now rest : List Moved) (o : Moved) (d : ℕ)
     (x : Device) → AreMoved s counts devices (length devices) now → now ≡ rest ++ o ∷ []
@@ -153,12 +122,12 @@ left_rest : (s : Scenario) (counts : List ℕ) (devices : List Device) (now rest
 left_rest s counts devices now rest o d x are added ready h (inl own) =
     let room : d < length devices = let less : o.device < length devices = ready.within in omega (arith, less, own) in
     let e : Some o.machine ≡ Some x =
-    sym (ap (λ j. slice_get (set devices j o.machine) d) own ∙ get-set_same devices d o.machine room) ∙ h in
+    sym (ap (λ j. slice_get (set devices j o.machine) d) own ∙ item_set devices d o.machine room) ∙ h in
     let same : o.machine ≡ x = cc in
     inl (subst (ShowsAfter s d (slice_index counts d)) same
     (subst (λ j. ShowsAfter s j (slice_index counts j) o.machine) own ready.shows))
 left_rest s counts devices now rest o d x are added ready h (inr other) =
-    let old : slice_get devices d ≡ Some x = sym (get-set_other devices o.device d o.machine other) ∙ h in
+    let old : slice_get devices d ≡ Some x = sym (set_elsewhere devices o.device d o.machine other) ∙ h in
     left_still s counts now rest o d x added other (are.rest d x (slice_get_within devices d x old) old)
 
 -- with one put in its place
@@ -166,10 +135,10 @@ pub settled_one : (s : Scenario) (counts : List ℕ) (devices : List Device) (no
     → AreMoved s counts devices (length devices) now → now ≡ rest ++ o ∷ []
     → AreMoved s counts (set devices o.device o.machine) (length (set devices o.device o.machine)) rest
 settled_one s counts devices now rest o are added =
-    let ready = are.each (length rest) o (ap (λ l. slice_get l (length rest)) added ∙ at_end rest o) in
+    let ready = are.each (length rest) o (ap (λ l. slice_get l (length rest)) added ∙ item_pushed rest o) in
     record {
       each = λ i m h. subst (λ n. IsReady s counts n m) (sym (length-set devices o.device o.machine))
-          (are.each i m (ap (λ l. slice_get l i) added ∙ get_before rest o i m h));
+          (are.each i m (ap (λ l. slice_get l i) added ∙ item_before rest o i m h));
       rest = λ d x less h. left_rest s counts devices now rest o d x are added ready h (cases_eq o.device d);
     }
 
@@ -177,7 +146,7 @@ settled_one s counts devices now rest o are added =
 pub settled_room : (s : Scenario) (counts : List ℕ) (devices : List Device) (now rest : List Moved) (o : Moved)
     → AreMoved s counts devices (length devices) now → now ≡ rest ++ o ∷ [] → o.device < length devices
 settled_room s counts devices now rest o are added =
-    (are.each (length rest) o (ap (λ l. slice_get l (length rest)) added ∙ at_end rest o)).within
+    (are.each (length rest) o (ap (λ l. slice_get l (length rest)) added ∙ item_pushed rest o)).within
 
 all_left : (s : Scenario) (counts : List ℕ) (now : List Moved) (d : ℕ) (x : Device) → now ≡ []
     → ShowsAfter s d (slice_index counts d) x ⊎ IsAmong now d → ShowsAfter s d (slice_index counts d) x
@@ -196,7 +165,7 @@ settled_all s counts devices now are none = record {
 
 pub no_step : (s : Scenario) (d k to : ℕ) → HasSteps s d to → k < to → None ≡ step_at s d k → ⊥
 no_step s d k to row less none =
-    let found = some_at (steps_in (slice_get s.rows d)) k (omega (arith, less, row)) in
+    let found = item_at (steps_in (slice_get s.rows d)) k (omega (arith, less, row)) in
     let e : None ≡ Some found.0 = none ∙ found.1 in cc
 
 few_in : (o : Option Row) → ((r : Row) → o ≡ Some r → length r.steps ≤ 4096) → length (steps_in o) ≤ 4096
@@ -207,7 +176,7 @@ few_in (Some r) each = each r refl
 pub few_steps : (s : Scenario) (d k : ℕ) → IsValid s → HasSteps s d k → k ≤ 4096
 few_steps s d k valid row =
     let most : length (steps_in (slice_get s.rows d)) ≤ 4096 =
-    few_in (slice_get s.rows d) (λ r at. (all_at (IsGoodRow s.classes) s.rows d r valid.each at).count) in
+    few_in (slice_get s.rows d) (λ r at. (each_at (IsGoodRow s.classes) s.rows d r valid.each at).count) in
     omega (arith, most, row)
 
 -- the device at an index

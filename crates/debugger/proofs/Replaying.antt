@@ -1,10 +1,11 @@
 -- How many events devices take in a move.
 use Rattle.std.proofs.Common.{◌≡◌, ℕ, zero, suc, ◌+◌, ◌-◌, ◌*◌, ◌/◌, ◌<◌, ◌≤◌, ◌⊎◌, inl, inr, nat_lt, cond, List}
-use Rattle.std.proofs.Common.{[], ◌∷◌, ◌++◌, length, take, drop, filter, Some, slice_get, slice_index, slice_range}
+use Rattle.std.proofs.Common.{◌++◌, length, take, drop, filter, Some, slice_get, slice_index, slice_range}
 use Rattle.std.proofs.Common.{refl, sym, ap, subst, ◌∙◌, arith, add-one, length-append}
 use Rattle.std.proofs.lemmas.Bool.{le-leb, lt-leb, lt-ltb, cases_lt}
 use Rattle.std.proofs.lemmas.List.{take-append-drop, take-take, drop-take}
 use Rattle.std.proofs.lemmas.List.Elements.{filter-append}
+use Rattle.lemmas.proofs.Lists.{item_at, take_none, take_one_more}
 use Rattle.scenario_image.specs.Play.{is_event}
 use Rattle.scenario_image.specs.Scenario.{Scenario, IsValid}
 use Rattle.trace_file.specs.declared.entry.Entry.{Entry}
@@ -14,8 +15,7 @@ use Rattle.debugger.specs.Session.{Session, AreCounted}
 use Rattle.debugger.specs.Replayed.{devices_between, events_among, events_by, is_event_at, GoesBack, IsLatestCopy}
 use Rattle.debugger.specs.Replayed.{IsReplayedBack}
 use Rattle.debugger.specs.Moves.{HasSteps, steps_between, steps_of, steps_to}
-use Rattle.debugger.proofs.Runs.{fits_at, made_own, made_else, step_before, take_next}
-use Rattle.debugger.proofs.Rows.{some_at}
+use Rattle.debugger.proofs.Runs.{fits_at, made_own, made_else, step_before}
 use Rattle.debugger.proofs.Counting.{entry_row}
 use Rattle.debugger.proofs.Events.{events_apart, events_few, events_next, events_order, few_taken, filter_push}
 use Rattle.debugger.proofs.Moving.{few_steps}
@@ -108,17 +108,13 @@ events_parts s es from to order =
     ∙ ap length (filter-append p (take from es) (slice_range es from to))
     ∙ length-append (filter p (take from es)) (filter p (slice_range es from to))
 
-take_nothing : {X : Type 0} (xs : List X) → take 0 xs ≡ []
-take_nothing [] = refl
-take_nothing (x ∷ xs) = refl
-
 -- with one entry more
 among_next : (s : Scenario) (es : List Entry) (n : ℕ) (e : Entry) → slice_get es n ≡ Some e
     → (fits : Fits s (take n es) e)
     → events_among s (take (suc n) es) ≡ events_among s (take n es) + cond (is_event fits.step) 1 0
 among_next s es n e at fits =
     let p = λ (x : Entry). is_event_at (step_at s x.device x.step) in
-    ap (λ k. events_among s (take k es)) (sym (add-one n)) ∙ ap (events_among s) (take_next es n e at)
+    ap (λ k. events_among s (take k es)) (sym (add-one n)) ∙ ap (events_among s) (take_one_more es n e at)
     ∙ filter_push p (take n es) e
     ∙ ap (λ b. events_among s (take n es) + cond b 1 0) (ap is_event_at fits.stands)
 
@@ -140,10 +136,10 @@ pub all_events : (s : Scenario) (es : List Entry) (n : ℕ) → IsRun s es → n
 all_events s es zero run within =
     total_none (λ d. events_by s d (made_by d (take 0 es))) (length s.rows)
     (λ d less. let few = events_few s d (made_by d (take 0 es)) in
-    let none = ap (made_by d) (take_nothing es) in omega (arith, few, none))
-    ∙ sym (ap (events_among s) (take_nothing es))
+    let none = ap (made_by d) (take_none es) in omega (arith, few, none))
+    ∙ sym (ap (events_among s) (take_none es))
 all_events s es (suc n) run within =
-    let found = some_at es n (omega (arith, within)) in
+    let found = item_at es n (omega (arith, within)) in
     let one : suc n ≡ n + 1 = sym (add-one n) in
     let fits = fits_at s es n found.0 run found.1 in
     total_adds (λ d. events_by s d (made_by d (take n es))) (λ d. events_by s d (made_by d (take (suc n) es)))

@@ -1,37 +1,15 @@
 -- What a device shows that has made the first steps of its row.
-use Rattle.std.proofs.Common.{◌≡◌, ℕ, zero, suc, ◌<◌, ◌≤◌, List, [], ◌∷◌, length, None, Some, slice_get, refl, sym, ap}
-use Rattle.std.proofs.Common.{◌∙◌, arith}
+use Rattle.std.proofs.Common.{◌≡◌, ℕ, ◌<◌, ◌≤◌, length, None, Some, sym, ap}
+use Rattle.std.proofs.Common.{◌∙◌}
 use Rattle.std.proofs.lemmas.Option.{slice_get_past}
 use Rattle.object_defs.specs.Path.{full_path}
 use Rattle.object_defs.specs.declared.path.Path.{Path}
-use Rattle.device_template.specs.Template.{Template}
 use Rattle.device_machine.specs.State.{Machine, Device, value_in}
-use Rattle.scenario_image.specs.declared.step.Step.{Step}
-use Rattle.scenario_image.specs.Scenario.{Scenario, IsGoodRow, IsValid}
-use Rattle.scenario_image.specs.Play.{state_at, IsRowOf}
+use Rattle.scenario_image.specs.Scenario.{Scenario, IsValid}
+use Rattle.scenario_image.specs.Play.{state_at}
+use Rattle.scenario_image.proofs.RowLaws.{row_of}
 use Rattle.fleet_core.specs.Board.{ShowsAfter}
-use Rattle.fleet_core.proofs.Valid.{all_at}
 use Rattle.debugger.specs.Shown.{ShowsState, state_with, state_in_row, state_of, value_of, observations_of}
-
-pub some_at : {X : Type 0} (xs : List X) (i : ℕ) → i < length xs → (x : X) × (slice_get xs i ≡ Some x)
-some_at [] i h = absurd (omega (arith, h))
-some_at (z ∷ zs) zero h = (z, refl)
-some_at (z ∷ zs) (suc i) h = some_at zs i (omega (arith, h))
-
-record HasRow (s : Scenario) (d : ℕ) : Type 0 where
-  pub class : Template
-  pub steps : List Step
-  pub row : IsRowOf s d class steps
-
-row_of : (s : Scenario) (d : ℕ) → IsValid s → d < length s.rows → HasRow s d
-row_of s d valid within =
-    let found = some_at s.rows d within in
-    let good : IsGoodRow s.classes found.0 = all_at (IsGoodRow s.classes) s.rows d found.0 valid.each found.1 in
-    record {
-      class = good.class;
-      steps = found.0.steps;
-      row = record { place = found.0.class; row = found.1; stated = good.stated };
-    }
 
 -- the state of a row's device, and that a device shows it
 pub record IsShown (s : Scenario) (d k : ℕ) (x : Device) : Type 0 where

@@ -1,7 +1,8 @@
 -- The first entries of a run, and how many are a device's.
-use Rattle.std.proofs.Common.{◌≡◌, ℕ, zero, suc, ◌+◌, List, [], ◌∷◌, ◌++◌, take, drop, None, Some, slice_get, sym, ap}
-use Rattle.std.proofs.Common.{subst, ◌∙◌, arith, add-one}
+use Rattle.std.proofs.Common.{◌≡◌, ℕ, suc, ◌+◌, List, [], take, drop, Some, slice_get, sym, ap}
+use Rattle.std.proofs.Common.{subst, ◌∙◌, arith}
 use Rattle.std.proofs.lemmas.List.{take-append-drop}
+use Rattle.lemmas.proofs.Lists.{take_one_more}
 use Rattle.scenario_image.specs.Scenario.{Scenario}
 use Rattle.trace_file.specs.declared.entry.Entry.{Entry}
 use Rattle.fleet_core.specs.Run.{made_by, out_at, Fits, IsRun}
@@ -10,16 +11,6 @@ use Rattle.fleet_core.proofs.Ends.{made_most}
 use Rattle.debugger.specs.Shown.{latest}
 use Rattle.debugger.specs.Moves.{HasSteps}
 
-take_suc : {X : Type 0} (xs : List X) (i : ℕ) (x : X) → slice_get xs i ≡ Some x → take (suc i) xs ≡ take i xs ++ x ∷ []
-take_suc [] i x h = let e : None ≡ Some x = h in absurd cc
-take_suc (y ∷ ys) zero x h = let e : Some y ≡ Some x = h in let f : y ≡ x = cc in ap (λ z. z ∷ []) f
-take_suc (y ∷ ys) (suc i) x h = ap (λ l. y ∷ l) (take_suc ys i x h)
-
--- the first elements, with the one that follows them
-pub take_next : {X : Type 0} (xs : List X) (i : ℕ) (x : X) → slice_get xs i ≡ Some x
-    → take (i + 1) xs ≡ take i xs ++ x ∷ []
-take_next xs i x h = ap (λ n. take n xs) (add-one i) ∙ take_suc xs i x h
-
 -- the first entries of a run are a run
 pub run_to : (s : Scenario) (es : List Entry) (n : ℕ) → IsRun s es → IsRun s (take n es)
 run_to s es n run = run_left s (take n es) (drop n es) (subst (IsRun s) (sym (take-append-drop n es)) run)
@@ -27,17 +18,17 @@ run_to s es n run = run_left s (take n es) (drop n es) (subst (IsRun s) (sym (ta
 -- each entry fits those before it
 pub fits_at : (s : Scenario) (es : List Entry) (i : ℕ) (e : Entry) → IsRun s es → slice_get es i ≡ Some e
     → Fits s (take i es) e
-fits_at s es i e run at = run_last s (take i es) e (subst (IsRun s) (take_next es i e at) (run_to s es (i + 1) run))
+fits_at s es i e run at = run_last s (take i es) e (subst (IsRun s) (take_one_more es i e at) (run_to s es (i + 1) run))
 
 -- an entry of the device is one more
 pub made_own : (es : List Entry) (d i : ℕ) (e : Entry) → slice_get es i ≡ Some e → e.device ≡ d
     → made_by d (take (i + 1) es) ≡ suc (made_by d (take i es))
-made_own es d i e at own = ap (made_by d) (take_next es i e at) ∙ made_same d (take i es) e own
+made_own es d i e at own = ap (made_by d) (take_one_more es i e at) ∙ made_same d (take i es) e own
 
 -- another device's entry is none more
 pub made_else : (es : List Entry) (d i : ℕ) (e : Entry) → slice_get es i ≡ Some e → (e.device ≡ d → ⊥)
     → made_by d (take (i + 1) es) ≡ made_by d (take i es)
-made_else es d i e at other = ap (made_by d) (take_next es i e at) ∙ made_other d (take i es) e other
+made_else es d i e at other = ap (made_by d) (take_one_more es i e at) ∙ made_other d (take i es) e other
 
 -- the step of an entry is the count of its device's entries before it
 pub step_before : (s : Scenario) (es : List Entry) (d i : ℕ) (e : Entry) → IsRun s es → slice_get es i ≡ Some e

@@ -1,24 +1,20 @@
 -- Sums over the numbers below a limit.
-use Rattle.std.proofs.Common.{◌≡◌, ℕ, zero, suc, ◌+◌, ◌*◌, ◌<◌, ◌≤◌, ◌⊎◌, inl, inr, ◌∷◌, [], ◌++◌, refl, sym, ap, subst}
+use Rattle.std.proofs.Common.{◌≡◌, ℕ, zero, suc, ◌+◌, ◌*◌, ◌<◌, ◌≤◌, ◌⊎◌, inl, inr, refl, sym, ap, subst}
 use Rattle.std.proofs.Common.{◌∙◌, arith, add-one}
 use Rattle.std.specs.List.{range_with_len, sum_by}
 use Rattle.std.proofs.lemmas.Bool.{cases_eq}
 use Rattle.std.proofs.lemmas.List.Sums.{sum_by_push}
+use Rattle.lemmas.proofs.Lists.{range_next}
 
 -- the sum of a function at the numbers below n
 abbrev pub total : (ℕ → ℕ) → ℕ → ℕ
 total f n = sum_by f (range_with_len 0 n)
 
-range_last : (a n : ℕ) → range_with_len a (suc n) ≡ range_with_len a n ++ (a + n) ∷ []
-range_last a zero = ap (λ k. k ∷ []) (omega arith)
-range_last a (suc n) =
-    ap (λ l. a ∷ l) (range_last (a + 1) n ∙ ap (λ k. range_with_len (a + 1) n ++ k ∷ []) (omega arith))
-
 -- with one number more
 pub total_suc : (f : ℕ → ℕ) (n : ℕ) → total f (suc n) ≡ total f n + f n
 total_suc f n =
     let z : 0 + n ≡ n = omega arith in
-    ap (sum_by f) (range_last 0 n)
+    ap (sum_by f) (range_next 0 n)
     ∙ (sum_by_push f (range_with_len 0 n) (0 + n) ∙ ap (λ k. total f n + f k) z)
 
 pub total_more : (f : ℕ → ℕ) (n : ℕ) → total f (n + 1) ≡ total f n + f n

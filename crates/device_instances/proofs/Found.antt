@@ -5,6 +5,7 @@ use Rattle.std.specs.List.{find}
 use Rattle.std.specs.Option.{option_or, IfSome, IfNone}
 use Rattle.std.proofs.lemmas.List.Folds.{find-append}
 use Rattle.std.proofs.lemmas.Bool.{not_from_false, not_from_true, not-true, not-false}
+use Rattle.lemmas.proofs.Options.{no_choice}
 use Rattle.instance_store.specs.Stored.{Stored, has_instance}
 use Rattle.device_instances.specs.Numbers.{below, is_free, instance_at, smallest_free, IsSmallestFree, AllAreTaken}
 
@@ -61,10 +62,6 @@ both_none : (a b : Option ℕ) → option_or a b ≡ None → (a ≡ None) × (b
 both_none None b h = (refl, h)
 both_none (Some x) b h = cc
 
-fails_alone : (b : Bool) (n : ℕ) → cond b (Some n) None ≡ None → b ≡ false
-fails_alone true n h = cc
-fails_alone false n h = refl
-
 all_fail : (p : ℕ → Bool) (n : ℕ) → find p (below n) ≡ None → (k : ℕ) → k < n → p k ≡ false
 unfolding below
 all_fail p zero h k l = absurd (omega arith)
@@ -73,7 +70,7 @@ all_fail p (suc n) h k l =
     elim (ltb k n) as (λ b. ltb k n ≡ b → p k ≡ false) [
       | true ↦ λ t. all_fail p n parts.0 k (ltb-true k n t)
       | false ↦ λ t. let e : k ≡ n =
-          omega (arith, ltb-false k n t) in subst (λ m. p m ≡ false) (sym e) (fails_alone (p n) n parts.1)
+          omega (arith, ltb-false k n t) in subst (λ m. p m ≡ false) (sym e) (no_choice (p n) n parts.1)
     ] refl
 
 pub all_taken : (stored : Stored) (object : ℕ) → smallest_free stored object ≡ None → AllAreTaken stored object

@@ -6,6 +6,8 @@ use Rattle.std.specs.List.{filter, list_any, slice_get}
 use Rattle.std.specs.Option.{option_and_then, option_map}
 use Rattle.std.proofs.lemmas.Bool.Decides.{nat_tests}
 use Rattle.std.proofs.lemmas.Option.{slice_get-map}
+use Rattle.std.proofs.Math.Bool.{and-false}
+use Rattle.lemmas.proofs.Lists.{none_found}
 use Rattle.coap_codec.specs.Message.{Message}
 use Rattle.coap_codec.specs.declared.kind.Kind.TheVariants.{Ack}
 use Rattle.object_defs.specs.declared.path.Path.{Path}
@@ -28,17 +30,13 @@ use Rattle.device_machine.proofs.Repeating.{first_con, first_non, reached}
 
 -- ---- an acknowledgement
 
-and_false : (b : Bool) → (b && false) ≡ false
-and_false true = refl
-and_false false = refl
-
 -- an observation awaits nothing that was acknowledged
 awaits_no_more : (server mid : ℕ) (o : Observation)
     → is_awaited server mid (if is_awaited server mid o then as_closed o else o) ≡ false
 awaits_no_more server mid o =
     elim (is_awaited server mid o) as (λ b. is_awaited server mid o ≡ b
     → is_awaited server mid (if b then as_closed o else o) ≡ false) [
-      | true ↦ λ e. and_false (server == o.server)
+      | true ↦ λ e. and-false (server == o.server)
       | false ↦ λ e. e
     ] refl
 
@@ -119,14 +117,6 @@ others f server bytes m a reading k h =
     reached f server bytes m a reading ∙ ap (on_message f server m) k ∙ ignored_by f server m h
 
 -- ---- a Read that says Observe 0 or 1
-
-none_found : {X : Type 0} (p : X → Bool) (xs : List X) → list_any p xs ≡ false → find p xs ≡ None
-none_found p [] h = refl
-none_found p (x ∷ xs) h =
-    elim (p x) as (λ b. (b || list_any p xs) ≡ false → cond b (Some x) (find p xs) ≡ None) [
-      | true ↦ λ k. cc
-      | false ↦ λ k. none_found p xs k
-    ] h
 
 none_of_them : {X : Type 0} (p : X → Bool) (xs : List X) → find p (filter (λ x. not (p x)) xs) ≡ None
 none_of_them p [] = refl

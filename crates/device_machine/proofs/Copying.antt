@@ -9,6 +9,7 @@ use Rattle.std.specs.Cmp.Derive.{both_true}
 use Rattle.std.specs.Option.{option_or}
 use Rattle.std.proofs.lemmas.Bool.{eqb-true}
 use Rattle.std.proofs.lemmas.Bool.Decides.{nat_tests}
+use Rattle.lemmas.proofs.Tests.{and_first}
 use Rattle.coap_codec.specs.Fault.{HasEarlyFault, HasFault, amount, header_fault, option_fault, place_fault}
 use Rattle.coap_codec.specs.Fault.{is_empty_message, token_length, width}
 use Rattle.coap_codec.specs.Message.{Message, Spells, kind_number, options_bytes, payload_bytes, spelling}
@@ -18,9 +19,9 @@ use Rattle.coap_codec.specs.declared.fault.CoapFault.TheVariants.{OptionCut, Opt
 use Rattle.coap_codec.specs.declared.fault.CoapFault.TheVariants.{PayloadEmpty, Memory}
 use Rattle.coap_codec.specs.declared.kind.Kind.{Kind}
 use Rattle.coap_codec.specs.declared.kind.Kind.TheVariants.{Con, Non, Ack, Rst}
-use Rattle.coap_codec.specs.declared.option.Opt.{Opt}
 use Rattle.coap_codec.specs.Reading.{reading_of}
 use Rattle.coap_codec.proofs.Soundness.{AreBytes, reading_of_there}
+use Rattle.coap_codec.proofs.OneReading.{kind_number_below, empty_tail}
 use Rattle.device_requests.specs.Client.{has_account}
 use Rattle.device_machine.specs.Memory.{claims_non_confirmable, datagram_takes_memory, early_fault, is_copied}
 use Rattle.device_machine.specs.Memory.{is_ignored}
@@ -155,18 +156,6 @@ alone a b c d rest none h t zero =
     let code : (b == 0) ≡ true = eq-eqb b 0 zero in
     rw (four, version, token, code) refl
 
-below_four : (k : Kind) → kind_number k < 4
-below_four Con = omega arith
-below_four Non = omega arith
-below_four Ack = omega arith
-below_four Rst = omega arith
-
-empty_tail : (os : List Opt) (p : List ℕ) → length os ≡ 0 → length p ≡ 0
-    → length (options_bytes 0 os ++ payload_bytes p) ≡ 0
-empty_tail [] [] a b = refl
-empty_tail [] (x ∷ p) a b = absurd (omega arith)
-empty_tail (o ∷ os) p a b = absurd (omega arith)
-
 abbrev claims_type : Kind → List ℕ → Bool
 claims_type kind bytes =
     nat_le 4 (length bytes) && (slice_index bytes 0 / 64 == 1 && slice_index bytes 0 / 16 % 4 == kind_number kind)
@@ -176,7 +165,7 @@ type_claimed : (bytes : List ℕ) (m : Message) (kind : Kind) → Spells bytes m
 type_claimed bytes m kind spells is =
     let k : ℕ = kind_number m.kind in
     let t : ℕ = length m.token in
-    let below : k < 4 = below_four m.kind in
+    let below : k < 4 = kind_number_below m.kind in
     let short : t ≤ 8 = spells.well_formed.token in
     subst (λ b. claims_type kind b ≡ true) (sym spells.parts)
     (subst (λ x. claims_type x (spelling m) ≡ true) is
@@ -188,7 +177,7 @@ bare : (bytes : List ℕ) (m : Message) → Spells bytes m → m.code ≡ 0 → 
 bare bytes m spells zero =
     let k : ℕ = kind_number m.kind in
     let t : ℕ = length m.token in
-    let below : k < 4 = below_four m.kind in
+    let below : k < 4 = kind_number_below m.kind in
     let e : (length m.token ≡ 0) × (length m.options ≡ 0) × (length m.payload ≡ 0) = spells.well_formed.empty zero in
     let tail : List ℕ = options_bytes 0 m.options ++ payload_bytes m.payload in
     let no_tail : length tail ≡ 0 = empty_tail m.options m.payload e.1 e.2 in
@@ -268,10 +257,6 @@ ignored f server bytes all e =
 
 -- ---- a message that takes memory is a CON, or a NON that is copied
 
-first_true : (a b : Bool) → (a && b) ≡ true → a ≡ true
-first_true true b h = refl
-first_true false b h = h
-
 or_last : (c n k : Bool) → n ≡ true → k ≡ true → (c || (n && k)) ≡ true
 or_last true n k h e = refl
 or_last false n k h e = rw (h, e) refl
@@ -284,7 +269,7 @@ grows_of f server bytes m Con spells whole k g =
 grows_of f server bytes m Non spells whole k g =
     or_last (claims_confirmable bytes) (claims_non_confirmable bytes) (is_copied bytes)
     (type_claimed bytes m Non spells k)
-    (copies bytes whole (not_bare bytes m spells (first_true (is_request m.code) _ g)))
+    (copies bytes whole (not_bare bytes m spells (and_first (is_request m.code) _ g)))
 grows_of f server bytes m Ack spells whole k g = absurd cc
 grows_of f server bytes m Rst spells whole k g = absurd cc
 

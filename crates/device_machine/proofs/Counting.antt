@@ -6,6 +6,7 @@ use Rattle.std.specs.Option.{option_map_or}
 use Rattle.std.specs.Str.{bytes_eq}
 use Rattle.std.proofs.lemmas.Bool.Decides.{Decides-eqb}
 use Rattle.std.proofs.lemmas.Slice.Eq.{bytes_eq-Decides}
+use Rattle.std.proofs.lemmas.Bool.{and_from}
 use Rattle.coap_codec.specs.Message.{Message, spelling}
 use Rattle.coap_codec.specs.declared.kind.Kind.TheVariants.{Con, Non, Ack}
 use Rattle.notifier.specs.Observed.{cancelled, is_named, next_number, number_for, registered}
@@ -25,10 +26,10 @@ use Rattle.device_machine.specs.State.{Machine, Kept, with_client, with_observat
 use Rattle.device_machine.specs.Reactions.{acted, location_options, on_noted, on_outcome, reply_to, response, sent_to}
 use Rattle.device_machine.specs.Laws.{IsCounted, RegistrationsCount, number_noted}
 use Rattle.device_machine.proofs.Refusing.{observations_after}
-use Rattle.device_machine.proofs.Repeating.{all_true, first_con, first_non}
+use Rattle.device_machine.proofs.Repeating.{first_con, first_non}
 
 pub named_self : (o : Observation) → is_named o.server o.token o ≡ true
-named_self o = all_true (o.server == o.server) (bytes_eq o.token o.token) ((Decides-eqb o.server o.server).1 refl)
+named_self o = and_from (o.server == o.server) (bytes_eq o.token o.token) ((Decides-eqb o.server o.server).1 refl)
     ((bytes_eq-Decides o.token o.token).1 refl)
 
 -- of the list that begins with an observation, the number of its name is its own

@@ -1,10 +1,11 @@
 -- Requests in a map whose keys are theirs, and the first second in which one of them no longer lives.
-use Rattle.std.proofs.Common.{◌≡◌, ℕ, ◌+◌, ◌-◌, ◌<◌, min, nat_lt, ◌==◌, Bool, true, false, cond, ◌&&◌, List, []}
-use Rattle.std.proofs.Common.{◌∷◌, ◌++◌, Some, filter, find, fold, refl, ap, ◌∙◌, arith, rules}
+use Rattle.std.proofs.Common.{◌≡◌, ℕ, ◌+◌, ◌-◌, ◌<◌, min, nat_lt, ◌==◌, Bool, true, cond, ◌&&◌, List, []}
+use Rattle.std.proofs.Common.{◌∷◌, ◌++◌, Some, filter, find, fold, refl, ◌∙◌, arith, rules}
 use Rattle.std.specs.List.{AllByRecursion, AllZip}
 use Rattle.std.specs.Map.{lookup, values_of}
 use Rattle.std.proofs.lemmas.Bool.Decides.{nat_tests}
 use Rattle.std.proofs.lemmas.List.Sums.{fold-append}
+use Rattle.lemmas.proofs.Numbers.{eqb_turned}
 use Rattle.coap_codec.specs.Message.{kind_number}
 use Rattle.coap_codec.specs.declared.kind.Kind.{Kind}
 use Rattle.device_machine.specs.State.{is_live, lifetime}
@@ -18,9 +19,6 @@ use Rattle.device_machine.specs.contracts.records.RecordKeyClone.TheImpl.{is_clo
 -- the test by which keys are looked up
 abbrev pub tests_keys : (RecordKey → RecordKey → Bool) → Type 0
 tests_keys eq = (k j : RecordKey) → eq k j ≡ is_same_key k j
-
-eqb_turned : (a b : ℕ) → (a == b) ≡ (b == a)
-eqb_turned a b = grind (arith, nat_tests)
 
 turned : (server mid n : ℕ) (r : Recorded)
     → (server == r.server && (mid == r.mid && n == kind_number r.kind))
@@ -39,36 +37,6 @@ found eq law server mid n kind number (e ∷ es) h =
     law key e.0 ∙ (λ j. server == h.0.server j && (mid == h.0.mid j && number j == h.0.kind j))
     ∙ turned server mid (kind_number kind) e.1 in
     λ j. cond (at j) (Some e.1) (found eq law server mid n kind number es h.1 j)
-
--- ---- the values of a map
-
-pub values-filter : {K X : Type 0} (p : X → Bool) (es : List (K × X))
-    → values_of (filter (λ e. p e.1) es) ≡ filter p (values_of es)
-values-filter p [] = refl
-values-filter p (e ∷ es) =
-    elim (p e.1) as (λ b. values_of (cond b (e ∷ filter (λ x. p x.1) es) (filter (λ x. p x.1) es))
-    ≡ cond b (e.1 ∷ filter p (values_of es)) (filter p (values_of es))) [
-      | true ↦ ap (λ t. e.1 ∷ t) (values-filter p es)
-      | false ↦ values-filter p es
-    ]
-
-pub values-append : {K X : Type 0} (es : List (K × X)) (e : K × X) → values_of (es ++ e ∷ []) ≡ values_of es ++ e.1 ∷ []
-values-append [] e = refl
-values-append (x ∷ es) e = ap (λ t. x.1 ∷ t) (values-append es e)
-
-pub each-filter : {X : Type 0} (P : X → Type 0) (q : X → Bool) (xs : List X) → AllByRecursion P xs
-    → AllByRecursion P (filter q xs)
-each-filter P q [] h = tt
-each-filter P q (x ∷ xs) h =
-    elim (q x) as (λ b. AllByRecursion P (cond b (x ∷ filter q xs) (filter q xs))) [
-      | true ↦ (h.0, each-filter P q xs h.1)
-      | false ↦ each-filter P q xs h.1
-    ]
-
-pub each-append : {X : Type 0} (P : X → Type 0) (xs : List X) (x : X) → AllByRecursion P xs → P x
-    → AllByRecursion P (xs ++ x ∷ [])
-each-append P [] x h p = (p, tt)
-each-append P (y ∷ ys) x h p = (h.0, each-append P ys x h.1 p)
 
 -- ---- the first end
 

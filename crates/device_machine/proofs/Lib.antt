@@ -1,11 +1,11 @@
 mod Answering
 pub mod Closing
 mod Copying
-mod Counting
+pub mod Counting
 mod Keyed
 mod Lives
-mod Living
-mod Naming
+pub mod Living
+pub mod Naming
 mod Places
 mod Putting
 mod Recalled

@@ -1,41 +1,22 @@
 -- The options of an answer are in order, and short.
-use Rattle.std.proofs.Common.{ℕ, ◌/◌, ◌%◌, ◌<◌, ◌≤◌, nat_lt, Bool, true, false, List, [], ◌∷◌, ◌++◌, length, Option}
+use Rattle.std.proofs.Common.{ℕ, ◌<◌, ◌≤◌, List, ◌++◌, length, Option}
 use Rattle.std.proofs.Common.{None, Some, arith}
-use Rattle.std.specs.Bool.{if◌then◌else◌}
 use Rattle.std.specs.Fmt.{decimal}
 use Rattle.std.proofs.lemmas.Fmt.{length-decimal-le}
 use Rattle.coap_codec.specs.Message.{IsOptionList}
-use Rattle.coap_codec.specs.Number.{shortest}
 use Rattle.coap_codec.specs.declared.option.Opt.{Opt}
 use Rattle.object_defs.specs.declared.path.InstancePath.{InstancePath}
 use Rattle.device_notifications.specs.Message.{format_options}
 use Rattle.coap_codec.specs.Options.{number_option}
+use Rattle.device_notifications.proofs.Options.{format_follows, short_number}
 use Rattle.device_machine.specs.Reactions.{IsShort, answer_options, location_options}
 
-short_choice : (a b c d : Bool) (n : ℕ)
-    → length (if a then [] else (if b then n ∷ [] else (if c then n / 256 ∷ n % 256 ∷ []
-    else (if d then n / 65536 ∷ n / 256 % 256 ∷ n % 256 ∷ []
-    else n / 16777216 ∷ n / 65536 % 256 ∷ n / 256 % 256 ∷ n % 256 ∷ [])))) ≤ 65804
-short_choice true b c d n = omega (arith)
-short_choice false true c d n = omega (arith)
-short_choice false false true d n = omega (arith)
-short_choice false false false true n = omega (arith)
-short_choice false false false false n = omega (arith)
-
-short_number : (n : ℕ) → length (shortest n) ≤ 65804
-short_number n = short_choice (nat_lt n 1) (nat_lt n 256) (nat_lt n 65536) (nat_lt n 16777216) n
-
 -- an option with a number, after one of no greater number and before others
-numbered : (before option : ℕ) (number : Option ℕ) (rest : List Opt) → before ≤ option → option ≤ 12
+pub numbered : (before option : ℕ) (number : Option ℕ) (rest : List Opt) → before ≤ option → option ≤ 12
     → IsOptionList before rest → IsOptionList option rest → IsOptionList before (number_option option number ++ rest)
 numbered before option None rest h k l m = l
 numbered before option (Some n) rest h k l m =
     (record { ascends = h; in_range = omega (arith); fits = short_number n }, m)
-
--- Content-Format, the last option
-format_follows : (before : ℕ) (format : Option ℕ) → before ≤ 12 → IsOptionList before (format_options format)
-format_follows before None h = tt
-format_follows before (Some f) h = (record { ascends = h; in_range = omega (arith); fits = short_number f }, tt)
 
 -- Location-Path and Content-Format after an option of no greater number
 location_follows : (before : ℕ) (location : Option InstancePath) (format : Option ℕ) → before ≤ 8 → IsShort location

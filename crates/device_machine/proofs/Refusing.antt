@@ -29,7 +29,7 @@ use Rattle.device_requests.specs.Laws.{is_refusal}
 use Rattle.device_machine.proofs.Living.{clock_after}
 use Rattle.device_machine.proofs.Repeating.{first_con, first_non, client_after, reached}
 
-not_content : (code : Code) → is_refusal code ≡ true → is_content_code code ≡ false
+pub not_content : (code : Code) → is_refusal code ≡ true → is_content_code code ≡ false
 not_content Created h = refl
 not_content Deleted h = refl
 not_content Changed h = refl

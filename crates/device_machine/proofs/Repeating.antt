@@ -3,6 +3,7 @@ use Rattle.std.proofs.Common.{◌≡◌, ℕ, ◌+◌, ◌-◌, ◌<◌, nat_lt,
 use Rattle.std.proofs.Common.{Option, None, Some, option_map, Ok, refl, sym, ap, subst, ◌∙◌, arith}
 use Rattle.std.specs.List.{filter, find, list_any}
 use Rattle.std.proofs.lemmas.Bool.Decides.{nat_tests}
+use Rattle.std.proofs.lemmas.Bool.{and_from}
 use Rattle.coap_codec.specs.Message.{Message, spelling, kind_number}
 use Rattle.coap_codec.specs.Reading.{reading_of}
 use Rattle.coap_codec.specs.declared.kind.Kind.{Kind}
@@ -66,11 +67,11 @@ client_after k Ack reply = refl
 client_after k Rst reply = refl
 
 -- a fresh request is answered
-asked_con : (f : Machine) (server : ℕ) (m : Message) (o : Option Recorded) → is_request m.code ≡ true
+pub asked_con : (f : Machine) (server : ℕ) (m : Message) (o : Option Recorded) → is_request m.code ≡ true
     → repeat_of f server m ≡ o → on_message f server m Con ≡ on_request f server m o
 asked_con f server m o r e = rw r (ap (on_request f server m) e)
 
-asked_non : (f : Machine) (server : ℕ) (m : Message) (o : Option Recorded) → is_request m.code ≡ true
+pub asked_non : (f : Machine) (server : ℕ) (m : Message) (o : Option Recorded) → is_request m.code ≡ true
     → repeat_of f server m ≡ o → on_message f server m Non ≡ on_request f server m o
 asked_non f server m o r e = rw r (ap (on_request f server m) e)
 
@@ -78,9 +79,6 @@ asked_non f server m o r e = rw r (ap (on_request f server m) e)
 pub reached : (f : Machine) (server : ℕ) (bytes : List ℕ) (m : Message) → has_account f.kept.client server ≡ true
     → reading_of bytes ≡ Ok m → reaction_to f (Recv server bytes) ≡ on_message f server m m.kind
 reached f server bytes m a r = rw (a, r) refl
-
-pub all_true : (a b : Bool) → a ≡ true → b ≡ true → (a && b) ≡ true
-all_true a b h k = rw (h, k) refl
 
 same_test : (server : ℕ) (m n : Message) (r : Recorded) → n.kind ≡ m.kind → n.mid ≡ m.mid
     → is_same server n r ≡ is_same server m r
@@ -100,7 +98,7 @@ found_at clock server seconds m n xs e es ek ei et first short k i =
     λ r. both _ _ _ _ (live_later clock seconds r.second (lifetime r.kind)) (same_test server m n r k i) in
     let lives : is_live (clock + seconds) e ≡ true = rw (et, ek) (fresh_lives clock seconds (lifetime m.kind) short) in
     let same : is_same server n e ≡ true = rw (es, ek, ei, k, i) (same_id server m.mid m.mid m.kind m.kind refl refl) in
-    find_last _ xs e (find_none _ _ weaker xs first) (all_true _ _ lives same)
+    find_last _ xs e (find_none _ _ weaker xs first) (and_from _ _ lives same)
 
 -- what a repeat finds after a fresh request and some seconds
 pub found : (f : Machine) (server seconds : ℕ) (m n : Message) (client : Client) (left : List Observation)

@@ -1,9 +1,10 @@
 -- What the turn of an observation does to it, by its turn and its evaluation.
-use Rattle.std.proofs.Common.{◌≡◌, ℕ, Bool, true, false, List, [], ◌∷◌, ◌++◌, map, slice_get, Option, None, Some}
-use Rattle.std.proofs.Common.{refl, sym, ap, subst, ◌∙◌, zero, suc}
+use Rattle.std.proofs.Common.{◌≡◌, ℕ, Bool, true, false, List, [], ◌∷◌, ◌++◌, slice_get, Option, None, Some}
+use Rattle.std.proofs.Common.{refl, sym, ap, subst, ◌∙◌}
 use Rattle.std.proofs.lemmas.List.{append-nil}
 use Rattle.std.specs.Bool.{if◌then◌else◌}
 use Rattle.std.specs.Option.{option_map, option_to_list}
+use Rattle.lemmas.proofs.Lists.{item_mapped}
 use Rattle.notifier.specs.Observed.{notified}
 use Rattle.notifier.specs.Resending.{turn_at}
 use Rattle.notifier.specs.declared.observation.Observation.{Observation}
@@ -38,12 +39,6 @@ pub turn_is : (os : List Observation) (place clock : ℕ) (o : Observation) (t :
 turn_is os place clock o t at is =
     some_turn (turn_at o clock) t (ap (λ x. option_map (λ y. turn_at y clock) x) (sym at) ∙ is)
 
-at_map : {X Y : Type 0} (f : X → Y) (xs : List X) (i : ℕ) (x : X) → slice_get xs i ≡ Some x
-    → slice_get (map f xs) i ≡ Some (f x)
-at_map f [] i x h = cc
-at_map f (y ∷ ys) zero x h = let same : y ≡ x = cc in ap (λ z. Some (f z)) same
-at_map f (y ∷ ys) (suc i) x h = at_map f ys i x h
-
 some_outlook : (s r : Outlook) → Some s ≡ Some r → s ≡ r
 some_outlook s r h = cc
 
@@ -53,7 +48,7 @@ pub outlook_is : (client : Client) (os : List Observation) (said : List Outlook)
     → s ≡ outlook_of client o
 outlook_is client os said place o s known at is =
     some_outlook s (outlook_of client o)
-    (sym is ∙ ap (λ xs. slice_get xs place) known ∙ at_map (outlook_of client) os place o at)
+    (sym is ∙ ap (λ xs. slice_get xs place) known ∙ item_mapped (outlook_of client) os place o at)
 
 -- a turn that does nothing
 does_still : (client : Client) (clock : ℕ) (o : Observation) (t : Sweep) (now : Outbox) → quiet now.next_id (o ∷ []) ≡ t

@@ -157,7 +157,7 @@ finished client clock count now end all os ss before box since within at known r
 
 -- ---- where one of the seconds acts, all of them do
 
-no_more_then : (client : Client) (clock n next_id : ℕ) (os : List Observation)
+pub no_more_then : (client : Client) (clock n next_id : ℕ) (os : List Observation)
     → length (seconds client clock n next_id os).left ≤ length os
 no_more_then client clock zero next_id os = omega arith
 no_more_then client clock (suc n) next_id os =

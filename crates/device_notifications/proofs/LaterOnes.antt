@@ -5,6 +5,7 @@ use Rattle.std.specs.Bool.{if◌then◌else◌}
 use Rattle.std.specs.List.{AllByRecursion}
 use Rattle.std.specs.Option.{option_map}
 use Rattle.std.proofs.Math.Logic.{inl, inr}
+use Rattle.lemmas.proofs.Lists.{each_appended, each_weaker}
 use Rattle.coap_codec.specs.Message.{spelling}
 use Rattle.coap_codec.specs.declared.kind.Kind.{Kind}
 use Rattle.coap_codec.specs.declared.kind.Kind.TheVariants.{Con, Non}
@@ -19,7 +20,7 @@ use Rattle.device_notifications.specs.Laws.{IsLater, IsLaterOneOf, IsMessageOf, 
 use Rattle.device_notifications.specs.Message.{datagram_of, format_options, observe_options, open_notification}
 use Rattle.device_notifications.specs.Second.{next_notification, notified_kind, present, second, seconds, sends_nons}
 use Rattle.device_notifications.specs.Second.{told, turn_of}
-use Rattle.device_notifications.proofs.Turns.{both, by_all, of_option, weaker}
+use Rattle.device_notifications.proofs.Turns.{by_all, of_option}
 
 -- ---- an observation, later
 
@@ -122,7 +123,7 @@ later_right (o ∷ more) os p h = inr (later_right more os p h)
 pub own : (os : List Observation) → AllByRecursion (IsLaterOneOf os) os
 own [] = tt
 own (o ∷ os) =
-    (inl (itself o), weaker (IsLaterOneOf os) (IsLaterOneOf (o ∷ os)) (λ p h. inr h) os (own os))
+    (inl (itself o), each_weaker (IsLaterOneOf os) (IsLaterOneOf (o ∷ os)) (λ p h. inr h) os (own os))
 
 -- its messages are of one of them
 message_later : (os : List Observation) (q : Observation) (d : Datagram) → IsLaterOneOf os q → IsMessageOf q d
@@ -161,8 +162,9 @@ pub second_left : (client : Client) (clock next_id : ℕ) (os : List Observation
 second_left client clock next_id [] = tt
 second_left client clock next_id (o ∷ os) =
     let t = turn_of client clock next_id o in
-    both (IsLaterOneOf (o ∷ os)) t.left (second client clock t.next_id os).left (turn_left client clock next_id o os)
-    (weaker (IsLaterOneOf os) (IsLaterOneOf (o ∷ os)) (λ p h. inr h) (second client clock t.next_id os).left
+    each_appended (IsLaterOneOf (o ∷ os)) t.left (second client clock t.next_id os).left
+    (turn_left client clock next_id o os)
+    (each_weaker (IsLaterOneOf os) (IsLaterOneOf (o ∷ os)) (λ p h. inr h) (second client clock t.next_id os).left
     (second_left client clock t.next_id os))
 
 pub seconds_left : (client : Client) (clock n next_id : ℕ) (os : List Observation)
@@ -170,7 +172,7 @@ pub seconds_left : (client : Client) (clock n next_id : ℕ) (os : List Observat
 seconds_left client clock zero next_id os = own os
 seconds_left client clock (suc n) next_id os =
     let t = second client (clock + 1) next_id os in
-    weaker (IsLaterOneOf t.left) (IsLaterOneOf os) (later_in os t.left (second_left client (clock + 1) next_id os))
+    each_weaker (IsLaterOneOf t.left) (IsLaterOneOf os) (later_in os t.left (second_left client (clock + 1) next_id os))
     (seconds client (clock + 1) n t.next_id t.left).left (seconds_left client (clock + 1) n t.next_id t.left)
 
 turn_sent : (client : Client) (clock next_id : ℕ) (o : Observation) (os : List Observation)
@@ -192,8 +194,9 @@ pub second_sent : (client : Client) (clock next_id : ℕ) (os : List Observation
 second_sent client clock next_id [] = tt
 second_sent client clock next_id (o ∷ os) =
     let t = turn_of client clock next_id o in
-    both (IsOfOneOf (o ∷ os)) t.sent (second client clock t.next_id os).sent (turn_sent client clock next_id o os)
-    (weaker (IsOfOneOf os) (IsOfOneOf (o ∷ os)) (λ d h. inr h) (second client clock t.next_id os).sent
+    each_appended (IsOfOneOf (o ∷ os)) t.sent (second client clock t.next_id os).sent
+    (turn_sent client clock next_id o os)
+    (each_weaker (IsOfOneOf os) (IsOfOneOf (o ∷ os)) (λ d h. inr h) (second client clock t.next_id os).sent
     (second_sent client clock t.next_id os))
 
 pub seconds_sent : (client : Client) (clock n next_id : ℕ) (os : List Observation)
@@ -201,7 +204,7 @@ pub seconds_sent : (client : Client) (clock n next_id : ℕ) (os : List Observat
 seconds_sent client clock zero next_id os = tt
 seconds_sent client clock (suc n) next_id os =
     let t = second client (clock + 1) next_id os in
-    both (IsOfOneOf os) t.sent (seconds client (clock + 1) n t.next_id t.left).sent
+    each_appended (IsOfOneOf os) t.sent (seconds client (clock + 1) n t.next_id t.left).sent
     (second_sent client (clock + 1) next_id os)
-    (weaker (IsOfOneOf t.left) (IsOfOneOf os) (of_left os t.left (second_left client (clock + 1) next_id os))
+    (each_weaker (IsOfOneOf t.left) (IsOfOneOf os) (of_left os t.left (second_left client (clock + 1) next_id os))
     (seconds client (clock + 1) n t.next_id t.left).sent (seconds_sent client (clock + 1) n t.next_id t.left))

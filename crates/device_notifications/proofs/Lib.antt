@@ -1,11 +1,11 @@
-mod Deeding
+pub mod Deeding
 pub mod Differing
 pub mod Jumps
 mod LaterOnes
 mod MessageIds
 mod Nons
 pub mod Numbers
-mod Options
+pub mod Options
 mod Places
 mod Planning
 mod Reaching

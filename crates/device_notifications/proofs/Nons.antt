@@ -2,6 +2,7 @@
 use Rattle.std.proofs.Common.{◌≡◌, ℕ, zero, suc, ◌+◌, ◌==◌, true, List, [], ◌∷◌, None, Some, refl, sym, ap, subst, ◌∙◌}
 use Rattle.std.specs.Bool.{if◌then◌else◌}
 use Rattle.std.specs.List.{AllByRecursion}
+use Rattle.lemmas.proofs.Lists.{each_appended}
 use Rattle.coap_codec.specs.declared.kind.Kind.TheVariants.{Con, Non}
 use Rattle.notifier.specs.Observed.{next_number, notified}
 use Rattle.notifier.specs.Resending.{turn_with}
@@ -15,7 +16,6 @@ use Rattle.device_notifications.specs.Outbox.{id_after}
 use Rattle.device_notifications.specs.Report.{report_of}
 use Rattle.device_notifications.specs.Second.{evaluation_of, next_notification, second, turn_as, turn_by}
 use Rattle.device_notifications.specs.Second.{turn_of}
-use Rattle.device_notifications.proofs.Turns.{both}
 
 as_non : (client : Client) (clock next_id : ℕ) (o : Observation) (v : Evaluation) → client.notify ≡ 0
     → turn_by client clock next_id o v ≡ turn_with_nons client clock next_id o v
@@ -52,7 +52,7 @@ closed_in_second : (client : Client) (clock next_id : ℕ) (os : List Observatio
     → AllByRecursion IsClosed os → AllByRecursion IsClosed (second client clock next_id os).left
 closed_in_second client clock next_id [] off closed = tt
 closed_in_second client clock next_id (o ∷ os) off closed =
-    both IsClosed (turn_of client clock next_id o).left _ (closed_in_turn client clock next_id o off closed.0)
+    each_appended IsClosed (turn_of client clock next_id o).left _ (closed_in_turn client clock next_id o off closed.0)
     (closed_in_second client clock (turn_of client clock next_id o).next_id os off closed.1)
 
 pub stays_closed : StaysClosedWithNons

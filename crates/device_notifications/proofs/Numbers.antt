@@ -6,6 +6,7 @@ use Rattle.std.specs.Option.{option_to_list}
 use Rattle.std.proofs.lemmas.List.{append_assoc}
 use Rattle.std.proofs.lemmas.List.Elements.{Contains-append_right}
 use Rattle.std.proofs.Math.Logic.{inl, inr}
+use Rattle.lemmas.proofs.Lists.{each_appended, each_weaker}
 use Rattle.coap_codec.specs.declared.kind.Kind.TheVariants.{Non}
 use Rattle.notifier.specs.declared.observation.Observation.{Observation}
 use Rattle.device_requests.specs.Client.{Client}
@@ -16,7 +17,7 @@ use Rattle.device_notifications.specs.Message.{datagram_of, open_notification}
 use Rattle.device_notifications.specs.Outbox.{id_after}
 use Rattle.device_notifications.specs.Second.{Sweep, and_then, beside, next_notification, notified_kind, present, quiet}
 use Rattle.device_notifications.specs.Second.{second, seconds, told, turn_of}
-use Rattle.device_notifications.proofs.Turns.{both, by_all, ends_one, first_of, resends_one, weaker}
+use Rattle.device_notifications.proofs.Turns.{by_all, ends_one, first_of, resends_one}
 use Rattle.device_notifications.proofs.LaterOnes.{same_message, later_than, itself, told_later, opens_it, later_in}
 use Rattle.device_notifications.proofs.LaterOnes.{later_left, later_right, of_left, message_left, message_right}
 use Rattle.device_notifications.proofs.LaterOnes.{second_left, seconds_left, second_sent, seconds_sent}
@@ -91,7 +92,7 @@ carried o p others left same all n is_open (d ∷ ds) last (inr (inr (inl h))) =
 carried o p others left same all n is_open (d ∷ ds) last (inr (inr (inr h))) =
     inr (inr (inr (
       ended_by o p d same h.0,
-      weaker (IsOfOneOf left) (IsOfOneOf others) (of_left others left all) ds h.1,
+      each_weaker (IsOfOneOf left) (IsOfOneOf others) (of_left others left all) ds h.1,
       h.2,
     )))
 
@@ -99,7 +100,7 @@ left_carried : (o p : Observation) (others rest : List Observation) → IsLater 
     → AllByRecursion (IsLaterOneOf others) rest
     → (last : Option ℕ) (left : List Observation) → IsLeft p rest last left → IsLeft o others last left
 left_carried o p others rest same all None left h =
-    weaker (IsLaterOneOf rest) (IsLaterOneOf others) (later_in others rest all) left h
+    each_weaker (IsLaterOneOf rest) (IsLaterOneOf others) (later_in others rest all) left h
 left_carried o p others rest same all (Some n) left h = (h.0, h.1, later_than o p h.0 same h.2, h.3)
 
 -- before and after it, in this second and after that, the others send
@@ -177,7 +178,7 @@ ended_then o others b a r d left before after behind end gone =
       last = None;
       counts = subst (λ ds. Counts o others o.number is_open ds None) (sym (regrouped b a r (d ∷ [])))
           (of_others o others o.number is_open b (d ∷ (a ++ r)) None before
-          (inr (inr (inr (end, both (IsOfOneOf others) a r after behind, refl)))));
+          (inr (inr (inr (end, each_appended (IsOfOneOf others) a r after behind, refl)))));
       is_left = gone;
     }
 
@@ -192,7 +193,7 @@ expired_then o others b a r left before after behind some gone =
       last = None;
       counts = subst (λ ds. Counts o others o.number is_open ds None) (sym (regrouped b a r []))
           (silent o others o.number is_open (b ++ (a ++ r)) some
-          (both (IsOfOneOf others) b (a ++ r) before (both (IsOfOneOf others) a r after behind)));
+          (each_appended (IsOfOneOf others) b (a ++ r) before (each_appended (IsOfOneOf others) a r after behind)));
       is_left = gone;
     }
 
@@ -237,17 +238,19 @@ one_more client clock n next_id before after o rise =
     let others = before ++ after in
     let b = second client clock next_id before in
     let front : AllByRecursion (IsOfOneOf others) b.sent =
-    weaker (IsOfOneOf before) (IsOfOneOf others) (message_left before after) b.sent
+    each_weaker (IsOfOneOf before) (IsOfOneOf others) (message_left before after) b.sent
     (second_sent client clock next_id before) in
     let front_left : AllByRecursion (IsLaterOneOf others) b.left =
-    weaker (IsLaterOneOf before) (IsLaterOneOf others) (later_left before after) b.left
+    each_weaker (IsLaterOneOf before) (IsLaterOneOf others) (later_left before after) b.left
     (second_left client clock next_id before) in
     let back : (i : ℕ) → AllByRecursion (IsOfOneOf others) (second client clock i after).sent =
-    λ i. weaker (IsOfOneOf after) (IsOfOneOf others) (message_right before after) (second client clock i after).sent
+    λ i. each_weaker (IsOfOneOf after) (IsOfOneOf others) (message_right before after)
+    (second client clock i after).sent
     (second_sent client clock i after) in
     let all : (i : ℕ) → AllByRecursion (IsLaterOneOf others) (b.left ++ (second client clock i after).left) =
-    λ i. both (IsLaterOneOf others) b.left (second client clock i after).left front_left
-    (weaker (IsLaterOneOf after) (IsLaterOneOf others) (later_right before after) (second client clock i after).left
+    λ i. each_appended (IsLaterOneOf others) b.left (second client clock i after).left front_left
+    (each_weaker (IsLaterOneOf after) (IsLaterOneOf others) (later_right before after)
+    (second client clock i after).left
     (second_left client clock i after)) in
     by_all client clock b.next_id o (λ t. RisesByOne o others
     (whole client clock n b t after).sent (whole client clock n b t after).left)
@@ -274,10 +277,11 @@ one_more client clock n next_id before after o rise =
     let a = second client clock i after in
     let r = seconds client clock n a.next_id (b.left ++ a.left) in
     ended_then o others b.sent a.sent r.sent (datagram_of Non o b.next_id None (present client o)) r.left front (back i)
-    (weaker (IsOfOneOf (b.left ++ a.left)) (IsOfOneOf others) (of_left others (b.left ++ a.left) (all i)) r.sent
+    (each_weaker (IsOfOneOf (b.left ++ a.left)) (IsOfOneOf others) (of_left others (b.left ++ a.left) (all i)) r.sent
     (seconds_sent client clock n a.next_id (b.left ++ a.left)))
     (b.next_id, present client o, refl, no_content)
-    (weaker (IsLaterOneOf (b.left ++ a.left)) (IsLaterOneOf others) (later_in others (b.left ++ a.left) (all i)) r.left
+    (each_weaker (IsLaterOneOf (b.left ++ a.left)) (IsLaterOneOf others)
+    (later_in others (b.left ++ a.left) (all i)) r.left
     (seconds_left client clock n a.next_id (b.left ++ a.left))))
     (λ is. quiet_one client clock n others b after o front (back b.next_id) (all b.next_id) rise)
     (λ is.
@@ -292,10 +296,11 @@ one_more client clock n next_id before after o rise =
     let r = seconds client clock n a.next_id (b.left ++ a.left) in
     let there = ends_one o clock is in
     expired_then o others b.sent a.sent r.sent r.left front (back b.next_id)
-    (weaker (IsOfOneOf (b.left ++ a.left)) (IsOfOneOf others) (of_left others (b.left ++ a.left) (all b.next_id)) r.sent
+    (each_weaker (IsOfOneOf (b.left ++ a.left)) (IsOfOneOf others)
+    (of_left others (b.left ++ a.left) (all b.next_id)) r.sent
     (seconds_sent client clock n a.next_id (b.left ++ a.left)))
     (not_none (open_notification o) there.0 there.1)
-    (weaker (IsLaterOneOf (b.left ++ a.left)) (IsLaterOneOf others)
+    (each_weaker (IsLaterOneOf (b.left ++ a.left)) (IsLaterOneOf others)
     (later_in others (b.left ++ a.left) (all b.next_id)) r.left
     (seconds_left client clock n a.next_id (b.left ++ a.left))))
 

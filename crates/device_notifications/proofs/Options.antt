@@ -16,10 +16,10 @@ short_choice false false true d n = omega (arith)
 short_choice false false false true n = omega (arith)
 short_choice false false false false n = omega (arith)
 
-short_number : (n : ℕ) → length (shortest n) ≤ 65804
+pub short_number : (n : ℕ) → length (shortest n) ≤ 65804
 short_number n = short_choice (nat_lt n 1) (nat_lt n 256) (nat_lt n 65536) (nat_lt n 16777216) n
 
-format_follows : (before : ℕ) (format : Option ℕ) → before ≤ 12 → IsOptionList before (format_options format)
+pub format_follows : (before : ℕ) (format : Option ℕ) → before ≤ 12 → IsOptionList before (format_options format)
 format_follows before None h = tt
 format_follows before (Some f) h = (record { ascends = h; in_range = omega (arith); fits = short_number f }, tt)
 

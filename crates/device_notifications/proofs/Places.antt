@@ -1,33 +1,15 @@
 -- What stands at a place of a list, before it and after it.
-use Rattle.std.proofs.Common.{◌≡◌, ℕ, zero, suc, ◌+◌, ◌<◌, List, [], ◌∷◌, ◌++◌, length, take, drop, slice_get}
+use Rattle.std.proofs.Common.{◌≡◌, ℕ, zero, suc, ◌+◌, List, [], ◌∷◌, ◌++◌, length, take, drop, slice_get}
 use Rattle.std.proofs.Common.{slice_set, remove, Some, refl, sym, ap, ◌∙◌, arith}
+use Rattle.lemmas.proofs.Lists.{drop_opens}
 
 -- ---- places of a list
 
 next_is : (i : ℕ) → suc i ≡ i + 1
 next_is i = omega arith
 
--- there is something at a place within
-pub there : {X : Type 0} (xs : List X) (i : ℕ) → i < length xs → (x : X) × (slice_get xs i ≡ Some x)
-there [] i h = let f : ⊥ = omega (arith, h) in absurd f
-there (x ∷ xs) zero h = (x, refl)
-there (x ∷ xs) (suc i) h = there xs i (omega (arith, h))
-
-opens : {X : Type 0} (xs : List X) (i : ℕ) (x : X) → slice_get xs i ≡ Some x → drop i xs ≡ x ∷ drop (suc i) xs
-opens [] i x h = let f : ⊥ = cc in absurd f
-opens (y ∷ ys) zero x h = let same : y ≡ x = cc in ap (λ t. t ∷ ys) same
-opens (y ∷ ys) (suc i) x h = opens ys i x h
-
 pub opened : {X : Type 0} (xs : List X) (i : ℕ) (x : X) → slice_get xs i ≡ Some x → drop i xs ≡ x ∷ drop (i + 1) xs
-opened xs i x h = opens xs i x h ∙ ap (λ n. x ∷ drop n xs) (next_is i)
-
-takes : {X : Type 0} (xs : List X) (i : ℕ) (x : X) → slice_get xs i ≡ Some x → take (suc i) xs ≡ take i xs ++ x ∷ []
-takes [] i x h = let f : ⊥ = cc in absurd f
-takes (y ∷ ys) zero x h = let same : y ≡ x = cc in ap (λ t. t ∷ []) same
-takes (y ∷ ys) (suc i) x h = ap (λ t. y ∷ t) (takes ys i x h)
-
-pub taken : {X : Type 0} (xs : List X) (i : ℕ) (x : X) → slice_get xs i ≡ Some x → take (i + 1) xs ≡ take i xs ++ x ∷ []
-taken xs i x h = ap (λ n. take n xs) (sym (next_is i)) ∙ takes xs i x h
+opened xs i x h = drop_opens xs i x h ∙ ap (λ n. x ∷ drop n xs) (next_is i)
 
 takes_set : {X : Type 0} (xs : List X) (i : ℕ) (x y : X) → slice_get xs i ≡ Some x
     → take (suc i) (slice_set xs i y) ≡ take i xs ++ y ∷ []

@@ -1,8 +1,10 @@
 -- What a second does to the observations, as far as it is worked out, and as far as it is done.
-use Rattle.std.proofs.Common.{◌≡◌, ℕ, zero, suc, ◌+◌, ◌<◌, ◌≤◌, List, [], ◌∷◌, ◌++◌, length, map, take, drop, slice_get}
+use Rattle.std.proofs.Common.{◌≡◌, ℕ, zero, suc, ◌+◌, ◌<◌, ◌≤◌, List, [], ◌∷◌, ◌++◌, length, take, drop, slice_get}
 use Rattle.std.proofs.Common.{slice_set}
 use Rattle.std.proofs.Common.{Some, refl, sym, ap, subst, ◌∙◌, arith}
 use Rattle.std.proofs.lemmas.List.{append-nil, append_assoc, drop_all, length-append, length-drop, map-append, take_all}
+use Rattle.std.proofs.lemmas.List.{length-map}
+use Rattle.lemmas.proofs.Lists.{take_one_more}
 use Rattle.notifier.specs.declared.observation.Observation.{Observation}
 use Rattle.notifier.specs.declared.pending.Outlook.{Outlook}
 use Rattle.device_requests.specs.Client.{Client}
@@ -11,7 +13,7 @@ use Rattle.device_notifications.specs.declared.deeds.Deed.{Deed}
 use Rattle.device_notifications.specs.Outbox.{Outbox}
 use Rattle.device_notifications.specs.Outlooks.{outlook_of, outlooks_of}
 use Rattle.device_notifications.specs.Second.{Sweep, beside, second, turn_of}
-use Rattle.device_notifications.proofs.Places.{opened, taken, taken_set}
+use Rattle.device_notifications.proofs.Places.{opened, taken_set}
 
 -- ---- one deed more
 
@@ -38,10 +40,6 @@ length-taken : {X : Type 0} (xs : List X) (n : ℕ) → n ≤ length xs → leng
 length-taken xs zero h = refl
 length-taken [] (suc n) h = absurd (let f : ⊥ = omega (arith, h) in f)
 length-taken (x ∷ xs) (suc n) h = ap suc (length-taken xs n (omega (arith, h)))
-
-length-mapped : {X Y : Type 0} (f : X → Y) (xs : List X) → length (map f xs) ≡ length xs
-length-mapped f [] = refl
-length-mapped f (x ∷ xs) = ap suc (length-mapped f xs)
 
 pub length-push : {X : Type 0} (xs : List X) (x : X) (n : ℕ) → length xs ≡ n → length (xs ++ x ∷ []) ≡ n + 1
 length-push [] x n h = omega (arith, h)
@@ -91,7 +89,7 @@ one_planned client clock os deeds before now after n o deed within at does h =
     ap (λ xs. second client clock now.next_id xs) (opened os n o at) in
     let coming : second client clock after.next_id (drop (n + 1) os) ≡ rest =
     ap (λ id. second client clock id (drop (n + 1) os)) does.next_id in
-    let first : take (n + 1) os ≡ take n os ++ o ∷ [] = taken os n o at in
+    let first : take (n + 1) os ≡ take n os ++ o ∷ [] = take_one_more os n o at in
     let count : length (take n os) ≡ length deeds = length-taken os n (omega (arith, within)) ∙ sym h.each in
     let lefts : left_by_all clock (take (n + 1) os) (deeds ++ deed ∷ [])
     ≡ left_by_all clock (take n os) deeds ++ turn.left =
@@ -102,7 +100,7 @@ one_planned client clock os deeds before now after n o deed within at does h =
     ap (λ xs. said_by_all (outlooks_of client xs) (deeds ++ deed ∷ [])) first
     ∙ ap (λ ss. said_by_all ss (deeds ++ deed ∷ [])) (map-append (outlook_of client) (take n os) (o ∷ []))
     ∙ said_push (outlooks_of client (take n os)) deeds (outlook_of client o) deed
-    (length-mapped (outlook_of client) (take n os) ∙ count)
+    (length-map (take n os) (outlook_of client) ∙ count)
     ∙ ap (λ t. said_by_all (outlooks_of client (take n os)) deeds ++ t) does.said in
     record {
       each = length-push deeds deed n h.each;
@@ -217,7 +215,8 @@ left_carried clock old now next_now ys deed o place next within at h puts =
     let here : left_by_all clock (take n old) ys ++ left_by clock o deed
     ≡ left_by_all clock (take (length (ys ++ deed ∷ [])) old) (ys ++ deed ∷ []) =
     sym (left_push clock (take n old) ys o deed (length-taken old n (omega (arith, within))))
-    ∙ ap (λ xs. left_by_all clock xs (ys ++ deed ∷ [])) (sym (taken old n o at) ∙ ap (λ m. take m old) (sym count)) in
+    ∙ ap (λ xs. left_by_all clock xs (ys ++ deed ∷ []))
+    (sym (take_one_more old n o at) ∙ ap (λ m. take m old) (sym count)) in
     subst (λ m. Carried old next_now (left_by_all clock (take (length (ys ++ deed ∷ [])) old) (ys ++ deed ∷ [])) next m)
     (sym count)
     (subst (λ xs. Carried old next_now xs next (n + 1)) here
@@ -235,7 +234,7 @@ said_carried old now next_now ys deed s place next within at h puts =
     let here : said_by_all (take n old) ys ++ said_by s deed
     ≡ said_by_all (take (length (ys ++ deed ∷ [])) old) (ys ++ deed ∷ []) =
     sym (said_push (take n old) ys s deed (length-taken old n (omega (arith, within))))
-    ∙ ap (λ xs. said_by_all xs (ys ++ deed ∷ [])) (sym (taken old n s at) ∙ ap (λ m. take m old) (sym count)) in
+    ∙ ap (λ xs. said_by_all xs (ys ++ deed ∷ [])) (sym (take_one_more old n s at) ∙ ap (λ m. take m old) (sym count)) in
     subst (λ m. Carried old next_now (said_by_all (take (length (ys ++ deed ∷ [])) old) (ys ++ deed ∷ [])) next m)
     (sym count)
     (subst (λ xs. Carried old next_now xs next (n + 1)) here
@@ -252,4 +251,4 @@ said_more client os ss next n o s at there_too known is =
     ap (λ xs. take (n + 1) xs) is ∙ taken_set ss n s (outlook_of client o) there_too
     ∙ ap (λ xs. xs ++ outlook_of client o ∷ []) known
     ∙ sym (map-append (outlook_of client) (take n os) (o ∷ []))
-    ∙ ap (λ xs. outlooks_of client xs) (sym (taken os n o at))
+    ∙ ap (λ xs. outlooks_of client xs) (sym (take_one_more os n o at))

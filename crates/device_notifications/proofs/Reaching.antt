@@ -6,6 +6,7 @@ use Rattle.std.proofs.lemmas.Bool.{or_left, or_parts, or_right}
 use Rattle.std.proofs.lemmas.List.{length-map, map-append}
 use Rattle.std.specs.List.{AllByRecursion, find}
 use Rattle.std.specs.Option.{option_and_then, option_or, unwrap_or}
+use Rattle.lemmas.proofs.Lists.{item_at, take_one_more}
 use Rattle.lwm2m_values.specs.Value.{is_integer}
 use Rattle.object_defs.specs.Catalog.{definition_of}
 use Rattle.object_defs.specs.Path.{single_of}
@@ -34,7 +35,7 @@ use Rattle.device_notifications.specs.Reach.{is_reached, reaches}
 use Rattle.device_notifications.specs.Report.{number_at, number_in, single_number}
 use Rattle.device_notifications.specs.Second.{present}
 use Rattle.device_notifications.proofs.Deeding.{outlook_is}
-use Rattle.device_notifications.proofs.Places.{dropped_set, length-placed, opened, taken, there}
+use Rattle.device_notifications.proofs.Places.{dropped_set, length-placed, opened}
 use Rattle.device_notifications.proofs.Planning.{said_more}
 
 -- ---- periods
@@ -159,8 +160,8 @@ kept_said : (client before : Client) (os : List Observation) (old said : List Ou
     → outlook_of before o ≡ outlook_of client o → SaidBefore client os old said n
     → SaidBefore client os old said (n + 1)
 kept_said client before os old said n o at within known same h =
-    let here = there said n (subst (λ m. n < m) (sym h.count) within) in
-    let was = there old n
+    let here = item_at said n (subst (λ m. n < m) (sym h.count) within) in
+    let was = item_at old n
     (subst (λ m. n < m) (sym (ap length known ∙ length-map os (outlook_of before))) within) in
     let rests : here.0 ∷ drop (n + 1) said ≡ was.0 ∷ drop (n + 1) old =
     sym (opened said n here.0 here.1) ∙ h.coming ∙ opened old n was.0 was.1 in
@@ -168,9 +169,9 @@ kept_said client before os old said n o at within known same h =
     same_head here.0 was.0 (drop (n + 1) said) (drop (n + 1) old) rests
     ∙ outlook_is before os old n o was.0 known at was.1 ∙ same in
     record {
-      passed = taken said n here.0 here.1 ∙ (λ j. h.passed j ++ is j ∷ [])
+      passed = take_one_more said n here.0 here.1 ∙ (λ j. h.passed j ++ is j ∷ [])
           ∙ sym (map-append (outlook_of client) (take n os) (o ∷ []))
-          ∙ ap (λ xs. outlooks_of client xs) (sym (taken os n o at));
+          ∙ ap (λ xs. outlooks_of client xs) (sym (take_one_more os n o at));
       coming = same_tail here.0 was.0 (drop (n + 1) said) (drop (n + 1) old) rests;
       count = h.count;
     }
@@ -181,8 +182,8 @@ anew_said : (client : Client) (os : List Observation) (old said next : List Outl
     → next ≡ slice_set said n (outlook_of client o) → SaidBefore client os old said n
     → SaidBefore client os old next (n + 1)
 anew_said client os old said next n o at within pairs is h =
-    let here = there said n (subst (λ m. n < m) (sym h.count) within) in
-    let was = there old n (subst (λ m. n < m) (sym pairs) within) in
+    let here = item_at said n (subst (λ m. n < m) (sym h.count) within) in
+    let was = item_at old n (subst (λ m. n < m) (sym pairs) within) in
     let rests : here.0 ∷ drop (n + 1) said ≡ was.0 ∷ drop (n + 1) old =
     sym (opened said n here.0 here.1) ∙ h.coming ∙ opened old n was.0 was.1 in
     record {

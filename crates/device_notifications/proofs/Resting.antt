@@ -5,6 +5,7 @@ use Rattle.std.specs.Bool.{if◌then◌else◌}
 use Rattle.std.specs.Option.{option_to_list}
 use Rattle.std.proofs.lemmas.List.{length-append}
 use Rattle.std.proofs.Math.Logic.{◌⊎◌, inl, inr}
+use Rattle.std.proofs.lemmas.Bool.{or_parts}
 use Rattle.notifier.specs.Due.{IsFirstDue, acts_at, acts_in, is_due_at, is_one_due}
 use Rattle.notifier.specs.Resending.{turn_at}
 use Rattle.notifier.specs.Trigger.{is_due}
@@ -101,10 +102,6 @@ loud_turn client clock next_id o h = loud_as client clock next_id o (turn_at o c
 
 -- ---- a second
 
-neither : (a b : Bool) → (a || b) ≡ false → (a ≡ false) × (b ≡ false)
-neither true b h = absurd (let e : true ≡ false = h in cc)
-neither false b h = (refl, h)
-
 pub none_left : {X : Type 0} (xs ys : List X) → xs ++ ys ≡ [] → xs ≡ []
 none_left [] ys h = refl
 none_left (x ∷ xs) ys h = cc
@@ -118,7 +115,7 @@ pub quiet_second : (client : Client) (clock next_id : ℕ) (os : List Observatio
     → is_one_due os (outlooks_of client os) clock ≡ false → second client clock next_id os ≡ quiet next_id os
 quiet_second client clock next_id [] h = refl
 quiet_second client clock next_id (o ∷ os) h =
-    let parts = neither (acts_at o (outlook_of client o) clock) (is_one_due os (outlooks_of client os) clock) h in
+    let parts = or_parts (acts_at o (outlook_of client o) clock) (is_one_due os (outlooks_of client os) clock) h in
     ap (λ (t : Sweep). beside t (second client clock t.next_id os)) (quiet_turn client clock next_id o parts.0)
     ∙ ap (λ r. beside (quiet next_id (o ∷ [])) r) (quiet_second client clock next_id os parts.1)
 

@@ -1,12 +1,13 @@
 -- What holds of one second holds of many.
 use Rattle.std.proofs.Common.{◌≡◌, ℕ, zero, suc, ◌+◌, List, sym, ap, subst, ◌∙◌, arith}
 use Rattle.std.proofs.lemmas.List.{append_assoc}
+use Rattle.lemmas.proofs.Lists.{each_appended, each_weaker}
 use Rattle.notifier.specs.declared.observation.Observation.{Observation}
 use Rattle.device_requests.specs.Client.{Client}
 use Rattle.device_notifications.specs.declared.datagram.Datagram.{Datagram}
 use Rattle.device_notifications.specs.Laws.{IsOf, IsInOneOf, SecondsAdd, SecondsSendAfterPmin}
 use Rattle.device_notifications.specs.Second.{Sweep, and_then, second, seconds}
-use Rattle.device_notifications.proofs.Turns.{both, sends_after_pmin, weaker}
+use Rattle.device_notifications.proofs.Turns.{sends_after_pmin}
 
 -- ---- seconds add up
 
@@ -48,10 +49,11 @@ pub seconds_send_after_pmin : SecondsSendAfterPmin
 seconds_send_after_pmin client clock zero next_id os = tt
 seconds_send_after_pmin client clock (suc n) next_id os =
     let t = second client (clock + 1) next_id os in
-    both (IsInOneOf client clock (suc n) next_id os) t.sent (seconds client (clock + 1) n t.next_id t.left).sent
-    (weaker (IsOf client (clock + 1) os) (IsInOneOf client clock (suc n) next_id os)
+    each_appended (IsInOneOf client clock (suc n) next_id os) t.sent
+    (seconds client (clock + 1) n t.next_id t.left).sent
+    (each_weaker (IsOf client (clock + 1) os) (IsInOneOf client clock (suc n) next_id os)
     (in_first client clock n next_id os) t.sent (sends_after_pmin client (clock + 1) next_id os))
-    (weaker (IsInOneOf client (clock + 1) n t.next_id t.left) (IsInOneOf client clock (suc n) next_id os)
+    (each_weaker (IsInOneOf client (clock + 1) n t.next_id t.left) (IsInOneOf client clock (suc n) next_id os)
     (in_later client clock n next_id os)
     (seconds client (clock + 1) n t.next_id t.left).sent
     (seconds_send_after_pmin client (clock + 1) n t.next_id t.left))

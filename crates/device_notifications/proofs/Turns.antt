@@ -7,6 +7,7 @@ use Rattle.std.specs.Option.{option_map, option_to_list}
 use Rattle.std.proofs.lemmas.Bool.{leb-true}
 use Rattle.std.proofs.lemmas.Bool.Decides.{nat_tests}
 use Rattle.std.proofs.Math.Logic.{◌⊎◌, inl, inr}
+use Rattle.lemmas.proofs.Lists.{each_appended, each_weaker, contains_later}
 use Rattle.notifier.specs.Resending.{turn_at, turn_with}
 use Rattle.notifier.specs.Trigger.{is_due}
 use Rattle.notifier.specs.declared.observation.Observation.{Observation}
@@ -68,7 +69,7 @@ pub by_turn : (client : Client) (clock next_id : ℕ) (o : Observation) (P : Swe
     → P (turn_of client clock next_id o)
 by_turn client clock next_id o P e w r x = pick client clock next_id o P (turn_at o clock) e w r x
 
--- both together
+-- each_appended together
 pub by_all : (client : Client) (clock next_id : ℕ) (o : Observation) (P : Sweep → Type 0)
     → (turn_at o clock ≡ Evaluate → is_content (present client o) ≡ true
     → is_due_now client clock o (present client o).payload ≡ true
@@ -122,7 +123,7 @@ pub of_option : {X : Type 0} (x : Option X) (Q : X → Type 0) → ((y : X) → 
 of_option None Q h = tt
 of_option (Some y) Q h = (h y refl, tt)
 
-due_waits : (age pmin : ℕ) (pmax : Option ℕ) (t : Bool) → is_due age pmin pmax t ≡ true → pmin ≤ age
+pub due_waits : (age pmin : ℕ) (pmax : Option ℕ) (t : Bool) → is_due age pmin pmax t ≡ true → pmin ≤ age
 due_waits age pmin None t h = grind (arith, nat_tests)
 due_waits age pmin (Some m) t h = grind (arith, nat_tests)
 
@@ -137,21 +138,8 @@ not_due age pmin m t pmax is h above follows =
 
 -- ---- lists
 
-pub both : {X : Type 0} (P : X → Type 0) (xs ys : List X) → AllByRecursion P xs → AllByRecursion P ys
-    → AllByRecursion P (xs ++ ys)
-both P [] ys h k = k
-both P (x ∷ xs) ys h k = (h.0, both P xs ys h.1 k)
-
-pub weaker : {X : Type 0} (P Q : X → Type 0) → ((x : X) → P x → Q x) → (xs : List X) → AllByRecursion P xs
-    → AllByRecursion Q xs
-weaker P Q f [] h = tt
-weaker P Q f (x ∷ xs) h = (f x h.0, weaker P Q f xs h.1)
-
 pub first_of : {X : Type 0} (x : X) (xs : List X) → Contains (x ∷ xs) x
 first_of x xs = (0, omega arith, refl)
-
-later_of : {X : Type 0} (y x : X) (xs : List X) → Contains xs x → Contains (y ∷ xs) x
-later_of y x xs h = (suc h.0, omega (arith, h.1), h.2)
 
 -- ---- each datagram is some observation's
 
@@ -193,8 +181,8 @@ pub sends_after_pmin : (client : Client) (clock next_id : ℕ) (os : List Observ
     → AllByRecursion (IsOf client clock os) (second client clock next_id os).sent
 sends_after_pmin client clock next_id [] = tt
 sends_after_pmin client clock next_id (o ∷ os) =
-    both _ (turn_of client clock next_id o).sent _ (sent_by client clock next_id o os)
-    (weaker (IsOf client clock os) (IsOf client clock (o ∷ os)) (λ d h. (h.0, later_of o h.0 os h.1, h.2)) _
+    each_appended _ (turn_of client clock next_id o).sent _ (sent_by client clock next_id o os)
+    (each_weaker (IsOf client clock os) (IsOf client clock (o ∷ os)) (λ d h. (h.0, contains_later o h.0 os h.1, h.2)) _
     (sends_after_pmin client clock (turn_of client clock next_id o).next_id os))
 
 -- ---- no observation is left over its pmax
@@ -301,7 +289,7 @@ pub sends_before_pmax : (client : Client) (clock next_id : ℕ) (os : List Obser
     → AllByRecursion (IsYoung client clock) (second client clock next_id os).left
 sends_before_pmax client clock next_id [] = tt
 sends_before_pmax client clock next_id (o ∷ os) =
-    both _ (turn_of client clock next_id o).left _ (fresh_by client clock next_id o)
+    each_appended _ (turn_of client clock next_id o).left _ (fresh_by client clock next_id o)
     (sends_before_pmax client clock (turn_of client clock next_id o).next_id os)
 
 later : (client : Client) (clock n next_id : ℕ) (os : List Observation)

@@ -10,12 +10,12 @@ use Rattle.coap_codec.specs.declared.kind.Kind.{Kind}
 use Rattle.coap_codec.specs.declared.kind.Kind.TheVariants.{Con, Non, Ack, Rst}
 use Rattle.device_machine.specs.declared.event.Event.TheVariants.{Recv}
 use Rattle.device_machine.specs.declared.recorded.Recorded.{Recorded}
-use Rattle.device_machine.specs.Reactions.{is_request, on_message, on_noise, on_request, reaction_to, repeat_of}
+use Rattle.device_machine.specs.Reactions.{on_message, on_noise, on_request, reaction_to, repeat_of}
 use Rattle.device_machine.specs.Reactions.{on_reset, sent_to, silence}
 use Rattle.device_machine.specs.State.{Machine, with_observations}
 use Rattle.notifier.specs.Observed.{is_awaited, was_sent}
 use Rattle.device_machine.proofs.Closing.{others}
-use Rattle.device_machine.proofs.Repeating.{first_con, first_non, reached}
+use Rattle.device_machine.proofs.Repeating.{first_con, first_non, reached, asked_con, asked_non}
 use Rattle.device_reasons.specs.Laws.{HasReaction, ReasonsDecide}
 use Rattle.device_reasons.specs.Reasons.{IsArrivalReason, IsMalformed, IsMessage}
 use Rattle.device_reasons.specs.declared.arrival.ArrivalReason.{ArrivalReason}
@@ -38,15 +38,6 @@ handled f server bytes kind m h = reached f server bytes m h.account h.reading �
 recorded_of : (found : Option Recorded) → is_some found ≡ true → (r : Recorded) × (found ≡ Some r)
 recorded_of None h = cc
 recorded_of (Some r) h = (r, refl)
-
--- a request, by its type and what is recorded of it
-asked_con : (f : Machine) (server : ℕ) (m : Message) (found : Option Recorded) → is_request m.code ≡ true
-    → repeat_of f server m ≡ found → on_message f server m Con ≡ on_request f server m found
-asked_con f server m found h e = rw h (ap (on_request f server m) e)
-
-asked_non : (f : Machine) (server : ℕ) (m : Message) (found : Option Recorded) → is_request m.code ≡ true
-    → repeat_of f server m ≡ found → on_message f server m Non ≡ on_request f server m found
-asked_non f server m found h e = rw h (ap (on_request f server m) e)
 
 -- a repeat, by its type
 again_con : (f : Machine) (server : ℕ) (m : Message) (r : Recorded) → m.kind ≡ Con

@@ -13,7 +13,7 @@ pub among-right : {X : Type 0} (x : X) (xs ys : List X) → IsAmong x ys → IsA
 among-right x [] ys h = h
 among-right x (z ∷ xs) ys h = inr (among-right x xs ys h)
 
-among-either : {X : Type 0} (x : X) (xs ys : List X) → IsAmong x (xs ++ ys) → IsAmong x xs ⊎ IsAmong x ys
+pub among-either : {X : Type 0} (x : X) (xs ys : List X) → IsAmong x (xs ++ ys) → IsAmong x xs ⊎ IsAmong x ys
 among-either x [] ys h = inr h
 among-either x (z ∷ xs) ys (inl e) = inl (inl e)
 among-either x (z ∷ xs) ys (inr h) = elim (among-either x xs ys h) [ inl k ↦ inl (inr k) | inr k ↦ inr k ]

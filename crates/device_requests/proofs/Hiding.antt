@@ -41,7 +41,8 @@ refused client server path accept h =
     (content_in (format_at client.catalog path accept) (read_payload client server path accept)) h
 
 -- maps that agree on what passes
-same_map : (p : ℕ → Bool) (f g : ℕ → Tree) → ((i : ℕ) → p i ≡ true → f i ≡ g i) → (ns : List ℕ) → map f (filter p ns)
+pub same_map : (p : ℕ → Bool) (f g : ℕ → Tree) → ((i : ℕ) → p i ≡ true → f i ≡ g i) → (ns : List ℕ)
+    → map f (filter p ns)
     ≡ map g (filter p ns)
 same_map p f g h [] = refl
 same_map p f g h (n ∷ ns) =

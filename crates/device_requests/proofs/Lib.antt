@@ -1,17 +1,17 @@
-mod Among
+pub mod Among
 mod Growing
 pub mod Answering
 pub mod Depending
 pub mod Keeping
-mod Hiding
+pub mod Hiding
 mod Linking
-mod LinksExist
+pub mod LinksExist
 mod Order
 mod PathAlone
-mod Paths
+pub mod Paths
 mod Present
-mod Queries
-mod ReadBack
+pub mod Queries
+pub mod ReadBack
 pub mod Reading
 pub mod Refusing
 pub mod Unchanged

@@ -31,7 +31,8 @@ use Rattle.device_requests.proofs.Among.{found, mapped}
 place_found : (k : InstancePath) (o n : ℕ) → eq_by_cmp instance_cmp (place_of o n) k ≡ true → place_of o n ≡ k
 place_found k o n h = instance_exact (place_of o n) k (is_equal (instance_cmp (place_of o n) k) h)
 
-has_listed : (stored : Stored) (o n : ℕ) → has_instance stored (place_of o n) ≡ true → IsAmong n (instances_of stored o)
+pub has_listed : (stored : Stored) (o n : ℕ) → has_instance stored (place_of o n) ≡ true
+    → IsAmong n (instances_of stored o)
 has_listed stored o n h =
     let k = any_found (eq_by_cmp instance_cmp (place_of o n)) (map.keys stored.instances)
     (sym (map.contains_key-keys stored.instances (place_of o n)) ∙ h) in
@@ -43,7 +44,8 @@ has_listed stored o n h =
 place_is : (k : InstancePath) (o n : ℕ) → k.object ≡ o → k.instance ≡ n → k ≡ place_of o n
 place_is k o n h i = λ j. record { object = h j; instance = i j }
 
-listed_has : (stored : Stored) (o n : ℕ) → IsAmong n (instances_of stored o) → has_instance stored (place_of o n) ≡ true
+pub listed_has : (stored : Stored) (o n : ℕ) → IsAmong n (instances_of stored o)
+    → has_instance stored (place_of o n) ≡ true
 listed_has stored o n h =
     let k = mapped (λ p. p.instance) n (filter (λ p. p.object == o) (map.keys stored.instances)) h in
     let f = filtered (λ p. p.object == o) k.0 (map.keys stored.instances) k.1 in
@@ -54,7 +56,7 @@ listed_has stored o n h =
 
 -- ---- resources
 
-definition_in : (object : Option ObjectDef) (r : ℕ) → option_and_then (λ o. resource_in o.resources r) object
+pub definition_in : (object : Option ObjectDef) (r : ℕ) → option_and_then (λ o. resource_in o.resources r) object
     ≡ resource_in (resources_as object) r
 definition_in None r = refl
 definition_in (Some object) r = refl

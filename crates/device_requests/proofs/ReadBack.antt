@@ -127,7 +127,7 @@ by_length true format wanted payload l = refl
 by_length false format wanted payload l = ap (λ (w : Option Format). content_in w payload) l
 
 -- no rule of a Read holds but that of its payload's length
-shown : (a b s c : Bool) (format : Option Format) (wanted : Format) (payload : List ℕ) → a ≡ false → b ≡ false
+pub shown : (a b s c : Bool) (format : Option Format) (wanted : Format) (payload : List ℕ) → a ≡ false → b ≡ false
     → s ≡ false → c ≡ false → format ≡ Some wanted
     → refused_or (first_line ((a, Unauthorized) ∷ (b, NotFound) ∷ (s, Unauthorized) ∷ (c, MethodNotAllowed)
     ∷ (not (is_some format), NotAcceptable) ∷ (is_oversized payload, InternalServerError) ∷ []))
@@ -149,7 +149,7 @@ record Holds (client : Client) (o i r : ℕ) (d : ResourceDef) (value : Value) :
   readable : can_read d.ops ≡ true
   value_is : value_at client.store (single_of (resource_place o i r)) ≡ Some value
 
-format_same : (client : Client) (o i r : ℕ) (d : ResourceDef) (number : Option ℕ)
+pub format_same : (client : Client) (o i r : ℕ) (d : ResourceDef) (number : Option ℕ)
     → definition_of client.catalog o r ≡ Some d → d.multiple ≡ false
     → format_at client.catalog (Resource o i r) number ≡ format_for (one d.kind) number
 format_same client o i r d number h k =
@@ -172,7 +172,7 @@ payload_shown client server o i r d value wanted h = rw (h.defined, h.alone, h.v
 same_path : (p : FullPath) → eq_by_cmp path_cmp p p ≡ true
 same_path p = (eq_by_cmp_equiv path_total).refl p
 
-value_there : (stored : Stored) (p : FullPath) (v : Value) → value_at (with_value stored p v) p ≡ Some v
+pub value_there : (stored : Stored) (p : FullPath) (v : Value) → value_at (with_value stored p v) p ≡ Some v
 value_there stored p v =
     map.get-insert path_total stored.values p v p ∙ ap (λ b. if b then Some v else value_at stored p) (same_path p)
 

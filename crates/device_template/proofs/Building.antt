@@ -1,6 +1,7 @@
 -- A template stays one that accepted additions made.
-use Rattle.std.proofs.Common.{◌≡◌, ℕ, ◌<◌, true, List, [], Option, None, Some, Result, Ok, Err, OnOk, OnErr, option_map}
+use Rattle.std.proofs.Common.{◌≡◌, ℕ, ◌<◌, true, List, [], None, Some, Result, Ok, Err, OnOk, OnErr, option_map}
 use Rattle.std.proofs.Common.{refl, sym, ap, subst, ◌∙◌}
+use Rattle.lemmas.proofs.Options.{not_refused}
 use Rattle.lwm2m_values.specs.declared.value.Value.{Value}
 use Rattle.lwm2m_values.specs.Value.{IsGood}
 use Rattle.object_defs.specs.Base.{base}
@@ -31,12 +32,6 @@ pub by_account : (a new : List ℕ) (c : List ObjectDef) (s : Stored) (n : ℕ) 
     → account_fault class server ≡ None → new ≡ inserted (λ a. a) server a → IsBuilt (made new c s n)
 by_account a new c s n class server built same free more =
     subst (λ x. IsBuilt (made x c s n)) (sym more) (account server built (ap (λ k. account_fault k server) same ∙ free))
-
--- what answers Ok was not refused
-not_refused : {X Y : Type 0} (refusal : Option Y) (r : Result X Y) (x : X) → r ≡ Ok x
-    → ((f : Y) → refusal ≡ Some f → r ≡ Err f) → refusal ≡ None
-not_refused None r x ok refuses = refl
-not_refused (Some f) r x ok refuses = let e : r ≡ Err f = refuses f refl in cc
 
 pub by_object : (a : List ℕ) (c new : List ObjectDef) (s : Stored) (n : ℕ) (id : ℕ) (r : Result (Unit {0}) CatalogFault)
     (x : Unit {0}) → IsBuilt (made a c s n) → r ≡ Ok x

@@ -1,11 +1,13 @@
 -- The places of a row that are reached by lines, one line after another.
-use Rattle.std.proofs.Common.{◌≡◌, ℕ, zero, suc, ◌+◌, ◌<◌, ◌≤◌, Bool, true, false, ◌&&◌, List, [], ◌∷◌, ◌++◌}
+use Rattle.std.proofs.Common.{◌≡◌, ℕ, zero, suc, ◌+◌, ◌<◌, ◌≤◌, Bool, true, false, List, [], ◌∷◌, ◌++◌}
 use Rattle.std.proofs.Common.{◌⊎◌, inl, inr, length, take, drop, get_or, refl, sym, ap, ◌∙◌, subst, append_assoc, arith}
 use Rattle.std.specs.Prelude.{Option, None, Some, is_some, nat_le, if◌then◌else◌}
 use Rattle.std.specs.List.{AllByRecursion, list_any}
 use Rattle.std.proofs.lemmas.List.{append-nil}
 use Rattle.std.proofs.Math.Seq.{take-suc}
 use Rattle.std.proofs.lemmas.Bool.Decides.{nat_tests}
+use Rattle.std.proofs.lemmas.Bool.{and_from, leb-true, le-leb}
+use Rattle.lemmas.proofs.Tests.{and_first, and_second}
 use Rattle.expectations.specs.declared.arrival.Arrival.{Arrival}
 use Rattle.expectations.specs.declared.expectation.Expectation.{Expectation}
 use Rattle.expectations.specs.declared.expectation.Expected.{Expected}
@@ -44,17 +46,11 @@ got more x xs (a ∷ ds) (inr h) = inr (inr h)
 
 -- ---- numbers
 
-at_most : (a b : ℕ) → nat_le a b ≡ true → a ≤ b
-at_most a b h = grind (arith, nat_tests)
-
-is_at_most : (a b : ℕ) → a ≤ b → nat_le a b ≡ true
-is_at_most a b h = grind (arith, nat_tests)
-
 not_at_most : (a b : ℕ) → nat_le a b ≡ false → b ≤ a
 not_at_most a b h = grind (arith, nat_tests)
 
 first_to_greatest : (a b : ℕ) (t : Bool) → nat_le a b ≡ t → a ≤ (if t then b else a)
-first_to_greatest a b true h = at_most a b h
+first_to_greatest a b true h = leb-true a b h
 first_to_greatest a b false h = omega arith
 
 second_to_greatest : (a b : ℕ) (t : Bool) → nat_le a b ≡ t → b ≤ (if t then b else a)
@@ -66,7 +62,7 @@ below_first n a b true h k = k
 below_first n a b false h k = omega (arith, not_at_most a b h, k)
 
 below_second : (n a b : ℕ) (t : Bool) → nat_le a b ≡ t → n ≤ (if t then a else b) → n ≤ b
-below_second n a b true h k = omega (arith, at_most a b h, k)
+below_second n a b true h k = omega (arith, leb-true a b h, k)
 below_second n a b false h k = k
 
 below_least : (n a b : ℕ) (t : Bool) → n ≤ a → n ≤ b → n ≤ (if t then a else b)
@@ -78,30 +74,18 @@ below_least n a b false h k = k
 pub within_by : (within : Option ℕ) (since second : ℕ) → is_within within since second ≡ true
     → IsWithin within since second
 within_by None since second h = tt
-within_by (Some n) since second h = at_most second (since + n) h
+within_by (Some n) since second h = leb-true second (since + n) h
 
 pub by_within : (within : Option ℕ) (since second : ℕ) → IsWithin within since second
     → is_within within since second ≡ true
 by_within None since second h = refl
-by_within (Some n) since second h = is_at_most second (since + n) h
+by_within (Some n) since second h = le-leb second (since + n) h
 
 -- it is in time also from a later second on
 in_time_later : (within : Option ℕ) (since latest second : ℕ) → since ≤ latest → IsWithin within since second
     → IsWithin within latest second
 in_time_later None since latest second order h = tt
 in_time_later (Some n) since latest second order h = omega (arith, order, h)
-
-and_both : (a b : Bool) → a ≡ true → b ≡ true → (a && b) ≡ true
-and_both true b p q = q
-and_both false b p q = cc
-
-and_first : (a b : Bool) → (a && b) ≡ true → a ≡ true
-and_first true b h = refl
-and_first false b h = cc
-
-and_second : (a b : Bool) → (a && b) ≡ true → b ≡ true
-and_second true b h = h
-and_second false b h = cc
 
 sent_later : (server : ℕ) (w : What) (within : Option ℕ) (more : More) (ds : List Arrival) (s t : ℕ) → s ≤ t
     → IsSent server w within more ds s → IsSent server w within more ds t
@@ -138,7 +122,7 @@ first_or server w within more a ds s [] b others cut expected in_time rest =
     let time : IsWithin within s a.second = subst (λ x. IsWithin within s x.second) same in_time in
     let there : more others a.second = subst (λ x. more others x.second) same rest in
     inl (
-      and_both (is_within within s a.second) (is_expected server w a) (by_within within s a.second time) now,
+      and_from (is_within within s a.second) (is_expected server w a) (by_within within s a.second time) now,
       subst (λ l. more l a.second) behind there,
     )
 first_or server w within more a ds s (z ∷ zs) b others cut expected in_time rest =
@@ -308,7 +292,7 @@ waits : (end n : ℕ) (more : More) (x : Option ℕ) (ds : List Arrival) → Her
 waits end n more None ds h = absurd h
 waits end n more (Some s) ds h =
     hit_place more (s + n) ds (nat_le (s + n) (limit_of end ds))
-    (is_at_most (s + n) (limit_of end ds) (to_limit (s + n) end ds h.passed h.silent)) h.rest
+    (le-leb (s + n) (limit_of end ds) (to_limit (s + n) end ds h.passed h.silent)) h.rest
 
 has_waited : (end n : ℕ) (more : More) (x : Option ℕ) (ds : List Arrival)
     → Here more (waited n x (limit_of end ds)) ds → Here (IsSilent end n more) x ds
@@ -316,7 +300,7 @@ has_waited end n more None ds h = absurd h
 has_waited end n more (Some s) ds h =
     let is : (nat_le (s + n) (limit_of end ds) ≡ true) × more ds (s + n) =
     place_hit more (s + n) ds (nat_le (s + n) (limit_of end ds)) h in
-    let within : s + n ≤ limit_of end ds = at_most (s + n) (limit_of end ds) is.0 in
+    let within : s + n ≤ limit_of end ds = leb-true (s + n) (limit_of end ds) is.0 in
     record {
       passed = end_behind (s + n) end ds within;
       silent = none_before (s + n) end ds within;

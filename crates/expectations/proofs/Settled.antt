@@ -4,6 +4,7 @@ use Rattle.std.proofs.Common.{◌↔◌, IsTrue, not, inl, inr, Option, None, So
 use Rattle.std.specs.Prelude.{nat_lt, slice_get}
 use Rattle.std.specs.List.{AllByRecursion, list_any}
 use Rattle.std.proofs.lemmas.Bool.Decides.{nat_tests}
+use Rattle.std.proofs.lemmas.Bool.{ltb-true, lt-ltb}
 use Rattle.expectations.specs.declared.arrival.Arrival.{Arrival}
 use Rattle.expectations.specs.declared.expectation.Expectation.{Expectation}
 use Rattle.expectations.specs.declared.expectation.Expected.{Expected}
@@ -227,17 +228,11 @@ sent_open end server w within (Some s ∷ xs) (a ∷ ds) count h =
     which true c k = inl refl
     which false c k = inr k
 
-less : (a b : ℕ) → a < b → nat_lt a b ≡ true
-less a b h = grind (arith, nat_tests)
-
-is_less : (a b : ℕ) → nat_lt a b ≡ true → a < b
-is_less a b h = grind (arith, nat_tests)
-
 silent_open : (end n : ℕ) (xs : List (Option ℕ)) (ds : List Arrival) → length xs ≡ suc (length ds)
     → AtSome (MayCome end (Silence n)) xs ds → may_come_at end n (slice_get xs (length ds)) ≡ true
 silent_open end n [] ds count h = absurd h
 silent_open end n (None ∷ xs) [] count h = absurd h
-silent_open end n (Some s ∷ xs) [] count h = less end (s + n) h.0
+silent_open end n (Some s ∷ xs) [] count h = lt-ltb end (s + n) h.0
 silent_open end n (None ∷ xs) (a ∷ ds) count (inl h) = absurd h
 silent_open end n (Some s ∷ xs) (a ∷ ds) count (inl h) = let some : a ∷ ds ≡ [] = h.1 in cc
 silent_open end n (x ∷ xs) (a ∷ ds) count (inr h) = silent_open end n xs ds (omega (arith, count)) h
@@ -246,7 +241,7 @@ open_silent : (end n : ℕ) (xs : List (Option ℕ)) (ds : List Arrival) → len
     → may_come_at end n (slice_get xs (length ds)) ≡ true → AtSome (MayCome end (Silence n)) xs ds
 open_silent end n [] ds count h = absurd (omega (arith, count))
 open_silent end n (None ∷ xs) [] count h = cc
-open_silent end n (Some s ∷ xs) [] count h = (is_less end (s + n) h, refl)
+open_silent end n (Some s ∷ xs) [] count h = (ltb-true end (s + n) h, refl)
 open_silent end n (x ∷ xs) (a ∷ ds) count h = inr (open_silent end n xs ds (omega (arith, count)) h)
 
 may_come_there : (end : ℕ) (e : Expected) (xs : List (Option ℕ)) (ds : List Arrival) → length xs ≡ suc (length ds)

@@ -54,7 +54,7 @@ made_within s a b run complete =
 -- ---- outputs
 
 -- what the first k steps of a device output
-abbrev outs : Scenario → ℕ → ℕ → List (List Output)
+abbrev pub outs : Scenario → ℕ → ℕ → List (List Output)
 outs s d zero = []
 outs s d (suc k) = outs s d k ++ out_at s d k ∷ []
 
@@ -81,7 +81,7 @@ outs_push s d es e fits same (inr other) =
     ∙ (append-nil (outputs_by d es)
     ∙ (same ∙ ap (outs s d) (sym (made_other d es e other)))))
 
-outputs_are : (s : Scenario) (d : ℕ) (es : List Entry) → IsRun s es → outputs_by d es ≡ outs s d (made_by d es)
+pub outputs_are : (s : Scenario) (d : ℕ) (es : List Entry) → IsRun s es → outputs_by d es ≡ outs s d (made_by d es)
 outputs_are s d es run =
     run_keeps s (λ l. outputs_by d l ≡ outs s d (made_by d l)) refl
     (λ l e before same fits. outs_push s d l e fits same (cases_eq e.device d)) es run
@@ -94,7 +94,7 @@ same_made s a b x y d =
 
 -- ---- devices of the same class with the same steps
 
-out_of_row : (s : Scenario) (d : ℕ) (class : Template) (steps : List Step) → IsRowOf s d class steps → (k : ℕ)
+pub out_of_row : (s : Scenario) (d : ℕ) (class : Template) (steps : List Step) → IsRowOf s d class steps → (k : ℕ)
     → out_at s d k ≡ outputs_with (Some class) steps k
 out_of_row s d class steps row k =
     ap (λ o. outputs_in_row s o k) row.row ∙ ap (λ c. outputs_with c steps k) row.stated

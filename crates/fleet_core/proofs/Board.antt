@@ -1,10 +1,11 @@
 -- What a fleet keeps, after one entry more.
 use Rattle.std.proofs.Common.{◌≡◌, ℕ, zero, suc, ◌+◌, ◌<◌, ◌≤◌, eqb, Bool, true, false, ◌⊎◌, inl, inr, List, [], ◌∷◌}
-use Rattle.std.proofs.Common.{◌++◌, length, get_or, None, Some, slice_get, slice_index, slice_set, replicate}
+use Rattle.std.proofs.Common.{◌++◌, length, get_or, Some, slice_get, slice_index, slice_set, replicate}
 use Rattle.std.proofs.Common.{refl, sym, ap, subst, ◌∙◌, arith, add-one, get_or-set_same, get_or-set_other}
 use Rattle.std.proofs.lemmas.List.{length-set, length-replicate, get_or_past}
 use Rattle.std.proofs.lemmas.Bool.{cases_eq, cases_lt, eq-eqb, ne_eqb}
 use Rattle.std.proofs.lemmas.Option.{slice_get_read}
+use Rattle.lemmas.proofs.Lists.{set_elsewhere, set_gives}
 use Rattle.device_template.specs.Template.{Template}
 use Rattle.scenario_image.specs.declared.step.Step.{Step}
 use Rattle.scenario_image.specs.declared.step.Step.TheVariants.{Event, Post, Need}
@@ -20,21 +21,6 @@ use Rattle.fleet_core.specs.Board.{Seen, IsBoard, AreParked, HoldsAfter, Holding
 use Rattle.fleet_core.proofs.Posts.{one, run_push, made_same, made_other, posts-push, enabled_fits}
 use Rattle.fleet_core.proofs.Valid.{IsStep, step_is, post_group, posts_within}
 use Rattle.fleet_core.proofs.Ends.{enabled_by}
-
--- ---- lists
-
-get-set_same : {X : Type 0} (xs : List X) (i : ℕ) (y x : X) → slice_get (slice_set xs i y) i ≡ Some x → y ≡ x
-get-set_same [] i y x h = let e : None ≡ Some x = h in absurd cc
-get-set_same (z ∷ zs) zero y x h = let e : Some y ≡ Some x = h in cc
-get-set_same (z ∷ zs) (suc i) y x h = get-set_same zs i y x h
-
-get-set_other : {X : Type 0} (xs : List X) (i j : ℕ) (y : X) → (i ≡ j → ⊥)
-    → slice_get (slice_set xs i y) j ≡ slice_get xs j
-get-set_other [] i j y h = refl
-get-set_other (z ∷ zs) zero zero y h = absurd (h refl)
-get-set_other (z ∷ zs) zero (suc j) y h = refl
-get-set_other (z ∷ zs) (suc i) zero y h = refl
-get-set_other (z ∷ zs) (suc i) (suc j) y h = get-set_other zs i j y (λ e. h (ap suc e))
 
 -- ---- the posts after a step
 
@@ -109,7 +95,7 @@ held_at : (s : Scenario) (es : List Entry) (e : Entry) (devices : List Holding) 
     → (e.device ≡ i) ⊎ (e.device ≡ i → ⊥) → HoldsAfter s i (made_by i (es ++ e ∷ [])) x
 held_at s es e devices new parked here i x got (inl own) =
     let is : new ≡ x =
-    get-set_same devices e.device new x (subst (λ j. slice_get (slice_set devices e.device new) j ≡ Some x)
+    set_gives devices e.device new x (subst (λ j. slice_get (slice_set devices e.device new) j ≡ Some x)
     (sym own) got) in
     let count : made_by e.device es + 1 ≡ made_by e.device (es ++ e ∷ []) =
     add-one (made_by e.device es) ∙ sym (made_same e.device es e refl) in
@@ -118,7 +104,7 @@ held_at s es e devices new parked here i x got (inl own) =
     (subst (HoldsAfter s e.device (made_by e.device es + 1)) is here))
 held_at s es e devices new parked here i x got (inr other) =
     subst (λ k. HoldsAfter s i k x) (sym (made_other i es e other))
-    (parked.each i x (sym (get-set_other devices e.device i new other) ∙ got))
+    (parked.each i x (sym (set_elsewhere devices e.device i new other) ∙ got))
 
 pub parked_push : (s : Scenario) (es : List Entry) (devices : List Holding) (worker d : ℕ)
     (new : Holding)

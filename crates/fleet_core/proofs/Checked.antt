@@ -2,6 +2,7 @@
 use Rattle.std.proofs.Common.{◌≡◌, ℕ, ◌+◌, ◌<◌, Bool, true, false, List, [], ◌∷◌, ◌++◌, length, take, get_or, IsTrue}
 use Rattle.std.proofs.Common.{◌↔◌, refl, sym, ap, subst, ◌∙◌}
 use Rattle.std.proofs.lemmas.Grind.{take_at_read}
+use Rattle.lemmas.proofs.Lists.{take_none}
 use Rattle.scenario_image.specs.Scenario.{Scenario}
 use Rattle.trace_file.specs.declared.entry.Entry.{Entry}
 use Rattle.fleet_core.specs.Run.{entry_of, is_enabled, Fits, IsRun}
@@ -40,10 +41,6 @@ pub record IsReplayed (s : Scenario) (es : List Entry) (n : ℕ) (v : Seen) : Ty
   pub ready : v.spent ≡ false
   pub entries : v.entries ≡ take n es
   pub run : IsRun s (take n es)
-
-take_none : {X : Type 0} (xs : List X) → take 0 xs ≡ []
-take_none [] = refl
-take_none (x ∷ xs) = refl
 
 at_none : (s : Scenario) (es : List Entry) → IsReplayed s es 0 (record { scenario = s; entries = []; spent = false })
 at_none s es = record {

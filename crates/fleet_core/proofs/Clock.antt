@@ -17,29 +17,23 @@ use Rattle.object_defs.specs.Path.{full_path}
 use Rattle.object_defs.specs.declared.path.Path.{Path}
 use Rattle.device_machine.specs.declared.recorded.Recorded.{Recorded}
 use Rattle.device_machine.specs.Observing.{noted}
-use Rattle.device_machine.specs.State.{Kept, Machine, with_client, with_observations}
-use Rattle.device_machine.specs.Reactions.{Reaction, reply_to, kept_after, repeat_of, on_request, on_message}
+use Rattle.device_machine.specs.State.{Machine, with_client, with_observations}
+use Rattle.device_machine.specs.Reactions.{Reaction, reply_to, repeat_of, on_request, on_message}
 use Rattle.device_machine.specs.Reactions.{on_datagram, on_firmware, is_request, claims_confirmable, flat_after}
 use Rattle.device_machine.specs.declared.event.Event.TheVariants.{Recv, Put, Firmware}
+use Rattle.device_machine.proofs.Living.{clock_after}
 
 either_keeps : (f : Machine) (b : Bool) (x y : Reaction) → x.flat.kept.clock ≡ f.kept.clock
     → y.flat.kept.clock ≡ f.kept.clock → (if b then x else y).flat.kept.clock ≡ f.kept.clock
 either_keeps f true x y p q = p
 either_keeps f false x y p q = q
 
-kept_keeps : (k : Kept) (kind : Kind) (reply : Option Message) → (kept_after k kind reply).clock ≡ k.clock
-kept_keeps k Con reply = refl
-kept_keeps k Non None = refl
-kept_keeps k Non (Some reply) = refl
-kept_keeps k Ack reply = refl
-kept_keeps k Rst reply = refl
-
 request_keeps : (f : Machine) (server : ℕ) (m : Message) (r : Option Recorded)
     → (on_request f server m r).flat.kept.clock ≡ f.kept.clock
 request_keeps f server m None =
     let o = outcome_of f.kept.client server m in
     let n = noted (with_client f.kept o.client) server m o.answer in
-    kept_keeps (with_observations (with_client f.kept o.client) n.left) m.kind
+    clock_after (with_observations (with_client f.kept o.client) n.left) m.kind
     (reply_to f.kept.next_id m m.kind n.number o.answer)
 request_keeps f server m (Some r) = refl
 

@@ -4,6 +4,7 @@ use Rattle.std.proofs.Common.{◌++◌, length, Option, None, Some, slice_get, r
 use Rattle.std.proofs.lemmas.Bool.{cases_eq, cases_lt, lt-ltb, le-ltb, ltb-true, false_from_ne_true, false≢true}
 use Rattle.std.proofs.lemmas.List.{append-nil, append_assoc}
 use Rattle.std.proofs.lemmas.Option.{slice_get_within}
+use Rattle.lemmas.proofs.Lists.{item_at}
 use Rattle.scenario_image.specs.declared.step.Step.{Step}
 use Rattle.scenario_image.specs.declared.step.Step.TheVariants.{Need}
 use Rattle.scenario_image.specs.Scenario.{Scenario, IsValid}
@@ -29,21 +30,16 @@ goes_waits s es d go =
     lt-ltb (made_by d es) (length (steps_in (slice_get s.rows d)))
     (slice_get_within (steps_in (slice_get s.rows d)) (made_by d es) fits.step fits.stands)
 
-none_past : {X : Type 0} (xs : List X) (i : ℕ) → slice_get xs i ≡ None → length xs ≤ i
+pub none_past : {X : Type 0} (xs : List X) (i : ℕ) → slice_get xs i ≡ None → length xs ≤ i
 none_past [] i at = omega arith
 none_past (x ∷ xs) zero at = let e : Some x ≡ None = at in absurd cc
 none_past (x ∷ xs) (suc i) at = omega (arith, none_past xs i at)
-
-some_within : {X : Type 0} (xs : List X) (i : ℕ) → i < length xs → (x : X) × (slice_get xs i ≡ Some x)
-some_within [] i within = absurd (omega (arith, within))
-some_within (x ∷ xs) zero within = (x, refl)
-some_within (x ∷ xs) (suc i) within = some_within xs i (omega (arith, within))
 
 -- a device waits where it has a step left
 pub waits_step : (s : Scenario) (es : List Entry) (d : ℕ) → is_waiting s es d ≡ true
     → (step : Step) × (step_at s d (made_by d es) ≡ Some step)
 waits_step s es d waits =
-    some_within (steps_in (slice_get s.rows d)) (made_by d es)
+    item_at (steps_in (slice_get s.rows d)) (made_by d es)
     (ltb-true (made_by d es) (length (steps_in (slice_get s.rows d))) waits)
 
 pub step_waits : (s : Scenario) (es : List Entry) (d : ℕ) (step : Step) → step_at s d (made_by d es) ≡ Some step

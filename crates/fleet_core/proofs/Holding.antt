@@ -2,6 +2,7 @@
 use Rattle.std.proofs.Common.{◌≡◌, ℕ, ◌+◌, ◌⊎◌, inl, inr, true, false, List, [], ◌∷◌, ◌++◌, length, Option, None, Some}
 use Rattle.std.proofs.Common.{slice_get, refl, sym, ap, subst, ◌∙◌, arith, length-append}
 use Rattle.std.proofs.lemmas.Bool.{false_from_ne_true, false≢true}
+use Rattle.lemmas.proofs.Lists.{pushed_cases}
 use Rattle.device_template.specs.Template.{Template}
 use Rattle.device_machine.specs.State.{Device, Shows}
 use Rattle.scenario_image.specs.declared.step.Step.{Step}
@@ -9,7 +10,7 @@ use Rattle.scenario_image.specs.Play.{start, shown, IsRowOf}
 use Rattle.scenario_image.specs.Scenario.{Scenario}
 use Rattle.fleet_core.specs.Run.{step_at}
 use Rattle.fleet_core.specs.Board.{ShowsAfter, HoldsAfter, Holding, AreParked}
-use Rattle.fleet_core.proofs.Started.{IsClassOf, pushed, never}
+use Rattle.fleet_core.proofs.Started.{IsClassOf, never}
 
 -- a device that is there
 pub here_after : (s : Scenario) (d k : ℕ) (x : Device) → ShowsAfter s d k x
@@ -76,6 +77,6 @@ more_begun s n devices more y first e here = record {
   parked = record {
     each =
         λ d x at. begun_by s n d devices x y first.count here (first.parked.each d x)
-        (pushed devices y d x (ap (λ l. slice_get l d) (sym e) ∙ at));
+        (pushed_cases devices y d x (ap (λ l. slice_get l d) (sym e) ∙ at));
   };
 }

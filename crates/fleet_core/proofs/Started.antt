@@ -1,6 +1,7 @@
 -- Devices that start, one row after another.
-use Rattle.std.proofs.Common.{◌≡◌, ℕ, zero, suc, ◌+◌, ◌⊎◌, inl, inr, List, [], ◌∷◌, ◌++◌, length, None, Some, slice_get}
+use Rattle.std.proofs.Common.{◌≡◌, ℕ, ◌+◌, ◌⊎◌, inl, inr, List, [], ◌∷◌, ◌++◌, length, None, Some, slice_get}
 use Rattle.std.proofs.Common.{Result, Ok, Err, IfOk, refl, sym, ap, subst, ◌∙◌, arith, length-append}
+use Rattle.lemmas.proofs.Lists.{pushed_cases}
 use Rattle.device_template.specs.Template.{Template}
 use Rattle.device_machine.specs.State.{Device, Shows}
 use Rattle.scenario_image.specs.declared.step.Step.{Step}
@@ -15,20 +16,6 @@ pub record AreFirst (s : Scenario) (n : ℕ) (devices : List Device) : Type 0 wh
 
 pub never : {X : Type 0} (k : ℕ) (x : X) → slice_get [] k ≡ Some x → ⊥
 never k x h = let e : None ≡ Some x = h in cc
-
-cases_pushed : {X : Type 0} (z : X) (xs : List X) (k : ℕ) (x y : X) → (slice_get xs k ≡ Some x)
-    ⊎ ((k ≡ length xs) × (y ≡ x))
-    → (slice_get (z ∷ xs) (suc k) ≡ Some x) ⊎ ((suc k ≡ length (z ∷ xs)) × (y ≡ x))
-cases_pushed z xs k x y (inl h) = inl h
-cases_pushed z xs k x y (inr h) = inr (ap suc h.0, h.1)
-
--- an element of a list with one more is one of the list, or the one more
-pub pushed : {X : Type 0} (xs : List X) (y : X) (k : ℕ) (x : X) → slice_get (xs ++ y ∷ []) k ≡ Some x
-    → (slice_get xs k ≡ Some x) ⊎ ((k ≡ length xs) × (y ≡ x))
-pushed [] y zero x h = let e : Some y ≡ Some x = h in inr (refl, cc)
-pushed [] y (suc k) x h = let e : None ≡ Some x = h in absurd cc
-pushed (z ∷ xs) y zero x h = inl h
-pushed (z ∷ xs) y (suc k) x h = cases_pushed z xs k x y (pushed xs y k x h)
 
 pub none_started : (s : Scenario) → AreFirst s 0 []
 none_started s = record { count = refl; started = record { each = λ d x e. absurd (never d x e) } }
@@ -53,7 +40,7 @@ more_started s n devices more y first e here = record {
   started = record {
     each =
         λ d x at. by_place s n d devices x y first.count here (first.started.each d x)
-        (pushed devices y d x (ap (λ l. slice_get l d) (sym e) ∙ at));
+        (pushed_cases devices y d x (ap (λ l. slice_get l d) (sym e) ∙ at));
   };
 }
 

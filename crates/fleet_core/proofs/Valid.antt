@@ -1,9 +1,10 @@
 -- What a valid scenario says of the steps that are taken.
 use Rattle.std.proofs.Common.{◌≡◌, ℕ, zero, suc, ◌+◌, ◌*◌, ◌<◌, ◌≤◌, nat_le, nat_lt, Bool, true, false, List, [], ◌∷◌}
-use Rattle.std.proofs.Common.{◌++◌, length, take, Option, None, Some, slice_get, refl, ap, subst, arith}
+use Rattle.std.proofs.Common.{length, take, Option, None, Some, slice_get, refl, ap, subst, arith}
 use Rattle.std.specs.List.{AllByRecursion}
 use Rattle.std.proofs.lemmas.Bool.{leb-true, le-ltb, and_parts, or_from}
 use Rattle.std.proofs.lemmas.Option.{slice_get_within}
+use Rattle.lemmas.proofs.Lists.{each_at}
 use Rattle.device_template.specs.Template.{Template}
 use Rattle.device_machine.specs.State.{Machine, Device, Shows}
 use Rattle.device_machine.specs.declared.event.Event.TheVariants.{Recv, Put, Firmware, Tick}
@@ -15,12 +16,6 @@ use Rattle.trace_file.specs.declared.entry.Entry.{Entry}
 use Rattle.fleet_core.specs.Run.{steps_in, step_at, made_by, posts_to, posts_of, IsRun}
 use Rattle.fleet_core.proofs.Posts.{one, posts_in, posted, posts_are}
 use Rattle.fleet_core.proofs.Clock.{recv_clock, put_clock, firmware_clock}
-
-pub all_at : {X : Type 0} (P : X → Type 0) (xs : List X) (i : ℕ) (x : X) → AllByRecursion P xs → slice_get xs i ≡ Some x
-    → P x
-all_at P [] i x all h = let e : None ≡ Some x = h in absurd cc
-all_at P (y ∷ ys) zero x all h = subst P (let e : Some y ≡ Some x = h in cc) all.0
-all_at P (y ∷ ys) (suc i) x all h = all_at P ys i x all.1 h
 
 pub in_row : (o : Option Row) (k : ℕ) (step : Step) → slice_get (steps_in o) k ≡ Some step → (row : Row)
     × (o ≡ Some row) × (slice_get row.steps k ≡ Some step)
@@ -41,14 +36,14 @@ pub record IsStep (s : Scenario) (d k : ℕ) (step : Step) : Type 0 where
 pub step_is : (s : Scenario) (d k : ℕ) (step : Step) → IsValid s → step_at s d k ≡ Some step → IsStep s d k step
 step_is s d k step valid at =
     let found = in_row (slice_get s.rows d) k step at in
-    let good : IsGoodRow s.classes found.0 = all_at (IsGoodRow s.classes) s.rows d found.0 valid.each found.1 in
+    let good : IsGoodRow s.classes found.0 = each_at (IsGoodRow s.classes) s.rows d found.0 valid.each found.1 in
     record {
       class = good.class;
       steps = found.0.steps;
       row = record { place = found.0.class; row = found.1; stated = good.stated };
       stands = found.2;
       good = good.each;
-      range = (all_at (IsGoodStep good.class.accounts) found.0.steps k step good.each found.2).range;
+      range = (each_at (IsGoodStep good.class.accounts) found.0.steps k step good.each found.2).range;
       early = omega (arith, slice_get_within found.0.steps k step found.2, good.count);
       within = slice_get_within s.rows d found.0 found.1;
     }
@@ -63,12 +58,12 @@ step_stands s d k step class steps row at = subst (λ o. slice_get (steps_in o) 
 pub need_group : (s : Scenario) (d k g n : ℕ) → IsValid s → step_at s d k ≡ Some (Need g n) → g < 256
 need_group s d k g n valid at =
     let is : IsStep s d k (Need g n) = step_is s d k (Need g n) valid at in
-    (all_at (IsGoodStep is.class.accounts) is.steps k (Need g n) is.good is.stands).fields
+    (each_at (IsGoodStep is.class.accounts) is.steps k (Need g n) is.good is.stands).fields
 
 pub post_group : (s : Scenario) (d k g : ℕ) → IsValid s → step_at s d k ≡ Some (Post g) → g < 256
 post_group s d k g valid at =
     let is : IsStep s d k (Post g) = step_is s d k (Post g) valid at in
-    (all_at (IsGoodStep is.class.accounts) is.steps k (Post g) is.good is.stands).fields
+    (each_at (IsGoodStep is.class.accounts) is.steps k (Post g) is.good is.stands).fields
 
 -- ---- the clock
 
@@ -116,11 +111,6 @@ takes_step s d k step x is shows =
     (omega (arith, clock, early))
 
 -- ---- the state after one step more
-
-after_push : (f : Machine) (steps : List Step) (step : Step)
-    → state_after f (steps ++ step ∷ []) ≡ step_after (state_after f steps) step
-after_push f [] step = refl
-after_push f (s ∷ steps) step = after_push (step_after f s) steps step
 
 pub state-more : (steps : List Step) (k : ℕ) (step : Step) (f : Machine) → slice_get steps k ≡ Some step
     → state_after f (take (suc k) steps) ≡ step_after (state_after f (take k steps)) step

@@ -5,6 +5,7 @@ use Rattle.std.proofs.Math.Logic.{∥∥₁_map}
 use Rattle.live_link.specs.Wire.{WhereTold}
 use Rattle.live_link.specs.declared.packet.Packet.{Packet}
 use Rattle.std.specs.Prelude.{IfErr, OnOk}
+use Rattle.std.proofs.Math.Bool.{and-false}
 use Rattle.fleet_link.specs.Traffic.{Carries, Traffic, at_port, failed_once, handed_at, no_traffic, sent_all}
 use Rattle.fleet_link.specs.Traffic.{traffic_of_receipt}
 use Rattle.fleet_link.specs.declared.ports.PortsFault.{PortsFault}
@@ -76,10 +77,6 @@ and_true : (b : Bool) → (b && true) ≡ b
 and_true true = refl
 and_true false = refl
 
-and_false : (b : Bool) → (b && false) ≡ false
-and_false true = refl
-and_false false = refl
-
 received_part : (b : Bool) (e : ℕ) (x : Shown) → is_way_of In e x ≡ b → is_way_of Out e x ≡ false
     → IsPartOf e (x ∷ []) (cond b (handed_at x.second x.packet) no_traffic)
 received_part true e x h k = record {
@@ -110,7 +107,7 @@ receipt_part : (second : ℕ) (receipt : Receipt) (e : ℕ)
     → IsPartOf e (shown_with second receipt) (traffic_of_receipt second (Ok receipt) e)
 receipt_part second receipts.Nothing e = record { received = refl; sent = refl }
 receipt_part second (receipts.Arrived arrival) e =
-    received_part (arrival.device == e) e _ (and_true (arrival.device == e)) (and_false (arrival.device == e))
+    received_part (arrival.device == e) e _ (and_true (arrival.device == e)) (and-false (arrival.device == e))
 receipt_part second receipts.Dropped e = record { received = refl; sent = refl }
 receipt_part second (receipts.Failed device) e = failed_part (device == e) e
 
@@ -120,7 +117,7 @@ sent_one second device packet = record { second = second; device = device; direc
 sent_part : (second device : ℕ) (packet : Packet) (e : ℕ)
     → IsPartOf e (sent_one second device packet ∷ []) (at_port device e (sent_all (packet ∷ [])))
 sent_part second device packet e =
-    sent_part_if (device == e) e (sent_one second device packet) (and_true (device == e)) (and_false (device == e))
+    sent_part_if (device == e) e (sent_one second device packet) (and_true (device == e)) (and-false (device == e))
 
 -- ---- what is so of ports after a call
 

@@ -2,7 +2,7 @@
 use Rattle.std.proofs.Common.{◌≡◌, ◌⊎◌, inl, inr, ℕ, ◌+◌, ◌-◌, ◌*◌, ◌^◌, ◌<◌, ◌≤◌, nat_le, min, cond, Bool, true, false, ◌&&◌}
 use Rattle.std.proofs.Common.{List, [], ◌∷◌, ◌++◌, length, slice_get, Option, None, Some, refl, sym, ap, subst, ◌∙◌, arith}
 use Rattle.std.proofs.Math.Nat.{mul-le-mul_left}
-use Rattle.std.proofs.lemmas.Bool.{cases_lt, le-leb, leb-true}
+use Rattle.std.proofs.lemmas.Bool.{cases_lt, leb-true, and_parts, leb-false}
 use Rattle.std.proofs.lemmas.Option.{slice_get_within}
 use Rattle.std.specs.Option.{MatchOption}
 use Rattle.lemmas.proofs.Lists.{length_pushed, pushed_cases}
@@ -17,20 +17,9 @@ use Rattle.fleet_link.proofs.Served.{changes_push, second_push}
 
 -- ---- tests
 
-pub and_both : (a b : Bool) → (a && b) ≡ true → (a ≡ true) × (b ≡ true)
-and_both true b h = (refl, h)
-and_both false b h = let e : false ≡ true = h in absurd cc
-
 and_first : (a b : Bool) → (a && b) ≡ false → b ≡ true → a ≡ false
 and_first false b h e = refl
 and_first true b h e = let k : false ≡ true = sym h ∙ e in absurd cc
-
-above : (a b : ℕ) → nat_le a b ≡ false → b < a
-above a b h = by_order (cases_lt b a)
-  where
-    by_order : (b < a) ⊎ (a ≤ b) → b < a
-    by_order (inl l) = l
-    by_order (inr le) = let e : true ≡ false = sym (le-leb a b le) ∙ h in absurd cc
 
 -- ---- places of passes
 
@@ -143,7 +132,7 @@ advanced_under_way own said step old new h at comes u = by_end (ends_pass old) r
 
     by_end : (b : Bool) → ends_pass old ≡ b → IsUnderWay own new
     by_end true is =
-        let tests = and_both (nat_le (length old.steps.items) (old.place + 1)) _ is in
+        let tests = and_parts (nat_le (length old.steps.items) (old.place + 1)) _ is in
         let last : length old.steps.items ≤ old.place + 1 = leb-true _ _ tests.0 in
         let turns : is_endless new.repeated own ≡ true =
         endless ∙ ap (is_endless old.repeated) (sym u.steps) ∙ tests.1 in
@@ -175,7 +164,7 @@ advanced_under_way own said step old new h at comes u = by_end (ends_pass old) r
           anew = λ e.
               let turns : is_endless old.repeated old.steps.items ≡ true =
               ap (is_endless old.repeated) u.steps ∙ sym endless ∙ e in
-              let more = above (length old.steps.items) (old.place + 1) (and_first _ _ is turns) in
+              let more = leb-false (length old.steps.items) (old.place + 1) (and_first _ _ is turns) in
               omega (arith, more, place, ap length u.steps);
           happened = happened;
           second = advanced_next step old new h u.second;

@@ -1,11 +1,12 @@
 -- All devices, where one of them goes on.
-use Rattle.std.proofs.Common.{◌≡◌, ◌⊎◌, inl, inr, ℕ, zero, suc, ◌+◌, ◌-◌, ◌^◌, min, ◌≤◌, ◌<◌, Bool, true, false, List, [], ◌∷◌}
+use Rattle.std.proofs.Common.{◌≡◌, ◌⊎◌, inl, inr, ℕ, ◌+◌, ◌-◌, ◌^◌, min, ◌≤◌, ◌<◌, Bool, true, false, List}
 use Rattle.std.proofs.Common.{length, take, get_or, max, Option, None, Some, slice_get, Result, Ok, Err, OnOk, refl, sym, ap, subst, ◌∙◌, arith}
 use Rattle.std.proofs.Math.ListN.{length-set}
 use Rattle.std.proofs.lemmas.Bool.{cases_eq}
 use Rattle.std.proofs.lemmas.Option.{slice_get_read, slice_get_within}
 use Rattle.std.specs.List.{slice_set}
 use Rattle.std.specs.Result.{is_err, IsErr}
+use Rattle.lemmas.proofs.Lists.{set_elsewhere, set_gives}
 use Rattle.device_template.specs.Template.{Template}
 use Rattle.scenario_image.specs.declared.step.Step.{Step}
 use Rattle.scenario_image.specs.declared.step.Step.TheVariants.{Need}
@@ -28,19 +29,6 @@ use Rattle.fleet_link.proofs.Told.{at_port_other, at_port_same, carries_none, ca
 
 -- ---- lists
 
-get-set_same : {X : Type 0} (xs : List X) (i : ℕ) (y x : X) → slice_get (slice_set xs i y) i ≡ Some x → y ≡ x
-get-set_same [] i y x h = let e : None ≡ Some x = h in absurd cc
-get-set_same (z ∷ zs) zero y x h = let e : Some y ≡ Some x = h in cc
-get-set_same (z ∷ zs) (suc i) y x h = get-set_same zs i y x h
-
-get-set_other : {X : Type 0} (xs : List X) (i j : ℕ) (y : X) → (i ≡ j → ⊥)
-    → slice_get (slice_set xs i y) j ≡ slice_get xs j
-get-set_other [] i j y h = refl
-get-set_other (z ∷ zs) zero zero y h = absurd (h refl)
-get-set_other (z ∷ zs) zero (suc j) y h = refl
-get-set_other (z ∷ zs) (suc i) zero y h = refl
-get-set_other (z ∷ zs) (suc i) (suc j) y h = get-set_other zs i j y (λ e. h (ap suc e))
-
 pub read_at : {X : Type 0} (xs : List X) (i : ℕ) (x : X) → i < length xs → x ≡ get_or xs i x → slice_get xs i ≡ Some x
 read_at xs i x l e = slice_get_read xs (length xs) i x refl l e
 
@@ -56,10 +44,10 @@ each_set P xs more place new is here others e x got = at (cases_eq place e)
 
     at : (place ≡ e) ⊎ (place ≡ e → ⊥) → P e x
     at (inl same) =
-        let y : new ≡ x = get-set_same xs place new x
+        let y : new ≡ x = set_gives xs place new x
         (subst (λ i. slice_get (slice_set xs place new) i ≡ Some x) (sym same) set) in
         subst (λ i. P i x) same (subst (P place) y here)
-    at (inr other) = others e x (λ q. other (sym q)) (sym (get-set_other xs place e new other) ∙ set)
+    at (inr other) = others e x (λ q. other (sym q)) (sym (set_elsewhere xs place e new other) ∙ set)
 
 -- ---- a fleet
 

@@ -5,6 +5,7 @@ use Rattle.std.proofs.lemmas.Bool.{cases_eq, eq-eqb}
 use Rattle.std.proofs.lemmas.Map.Keys.{any_passes_from_place}
 use Rattle.std.proofs.lemmas.Option.{slice_get_within}
 use Rattle.std.specs.List.{list_any, slice_set}
+use Rattle.lemmas.proofs.Lists.{item_set, set_elsewhere}
 use Rattle.fleet_link.specs.declared.row.PlayedRow.{PlayedRow}
 use Rattle.fleet_link.specs.declared.row.RowState.{RowState}
 use Rattle.fleet_link.specs.declared.row.RowState.TheVariants.{Waits}
@@ -12,7 +13,7 @@ use Rattle.fleet_link.specs.declared.slot.Slot.{Slot}
 use Rattle.fleet_link.specs.Playing.{happened_count, is_waiting, is_waiting_for, row_state, CanPass, IsPassed}
 use Rattle.fleet_link.specs.Serving.{all_posts, place_in, repeats_in, share_in, ArePassed, HaveGoneOn}
 use Rattle.fleet_link.proofs.Fleets.{all_still}
-use Rattle.fleet_link.proofs.Passing.{passed_count, set_other, set_same}
+use Rattle.fleet_link.proofs.Passing.{passed_count}
 
 -- ---- rows and recordings that go on
 
@@ -43,28 +44,28 @@ gone_set slots place slot new at le repeated share =
     }
   where
     here : slice_get (slice_set slots place new) place ≡ Some new
-    here = set_same slots place new (slice_get_within slots place slot at)
+    here = item_set slots place new (slice_get_within slots place slot at)
 
     further : (e : ℕ) → (place ≡ e) ⊎ (place ≡ e → ⊥)
         → place_in (slice_get slots e) ≤ place_in (slice_get (slice_set slots place new) e)
     further e (inl same) =
         subst (λ i. place_in (slice_get slots i) ≤ place_in (slice_get (slice_set slots place new) i)) same
         (omega (arith, le, ap place_in at, ap place_in here))
-    further e (inr other) = omega (arith, ap place_in (set_other slots place e new other))
+    further e (inr other) = omega (arith, ap place_in (set_elsewhere slots place e new other))
 
     repeats : (e : ℕ) → (place ≡ e) ⊎ (place ≡ e → ⊥)
         → repeats_in (slice_get (slice_set slots place new) e) ≡ repeats_in (slice_get slots e)
     repeats e (inl same) =
         subst (λ i. repeats_in (slice_get (slice_set slots place new) i) ≡ repeats_in (slice_get slots i)) same
         (ap repeats_in here ∙ repeated ∙ sym (ap repeats_in at))
-    repeats e (inr other) = ap repeats_in (set_other slots place e new other)
+    repeats e (inr other) = ap repeats_in (set_elsewhere slots place e new other)
 
     shares : (e : ℕ) → (place ≡ e) ⊎ (place ≡ e → ⊥)
         → share_in (slice_get (slice_set slots place new) e) ≡ share_in (slice_get slots e)
     shares e (inl same) =
         subst (λ i. share_in (slice_get (slice_set slots place new) i) ≡ share_in (slice_get slots i)) same
         (ap share_in here ∙ share ∙ sym (ap share_in at))
-    shares e (inr other) = ap share_in (set_other slots place e new other)
+    shares e (inr other) = ap share_in (set_elsewhere slots place e new other)
 
 -- ---- no row waits
 
@@ -129,7 +130,7 @@ one_tried group posts now first slots n old new h at tried =
       passed = λ e slot l got on all is can. passed e slot l got on all is can (cases_eq n e);
       same = λ e slot got. same e slot got (cases_eq n e);
       untouched = λ e le.
-          set_other slots n e new (λ k. absurd (omega (arith, k, le))) ∙ h.untouched e (omega (arith, le));
+          set_elsewhere slots n e new (λ k. absurd (omega (arith, k, le))) ∙ h.untouched e (omega (arith, le));
       posts_are = λ other.
           let a = h.posts_are other in
           let b = all_still slots n group posts now other old new at tried.passed in
@@ -149,7 +150,7 @@ one_tried group posts now first slots n old new h at tried =
     repeated (inr (on, p)) = p.advanced.repeated
 
     here : slice_get (slice_set slots n new) n ≡ Some new
-    here = set_same slots n new (slice_get_within slots n old at)
+    here = item_set slots n new (slice_get_within slots n old at)
 
     -- it is the device at this place
     is_old : (slot : Slot) → slice_get first n ≡ Some slot → old ≡ slot
@@ -186,7 +187,7 @@ one_tried group posts now first slots n old new h at tried =
     passed e slot l got on all posts_is can (inr other) =
         let before : e < n = omega (arith, l, other) in
         let so = h.passed e slot before got on all posts_is can in
-        omega (arith, so, ap place_in (set_other slots n e new other))
+        omega (arith, so, ap place_in (set_elsewhere slots n e new other))
 
     same_here : (slot : Slot) → old ≡ slot
         → (new.row ≡ old.row) ⊎ ((old.end ≡ None) × IsPassed group posts now old.row new.row)
@@ -204,8 +205,8 @@ one_tried group posts now first slots n old new h at tried =
         → (slice_get slots e ≡ Some slot) ⊎ (happened_count slot.row < place_in (slice_get slots e))
         → (slice_get (slice_set slots n new) e ≡ Some slot)
         ⊎ (happened_count slot.row < place_in (slice_get (slice_set slots n new) e))
-    same_there e slot other (inl so) = inl (set_other slots n e new other ∙ so)
-    same_there e slot other (inr so) = inr (omega (arith, so, ap place_in (set_other slots n e new other)))
+    same_there e slot other (inl so) = inl (set_elsewhere slots n e new other ∙ so)
+    same_there e slot other (inr so) = inr (omega (arith, so, ap place_in (set_elsewhere slots n e new other)))
 
     same : (e : ℕ) (slot : Slot) → slice_get first e ≡ Some slot → (n ≡ e) ⊎ (n ≡ e → ⊥)
         → (slice_get (slice_set slots n new) e ≡ Some slot)

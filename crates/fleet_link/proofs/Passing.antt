@@ -27,19 +27,6 @@ use Rattle.fleet_link.proofs.Posting.{advanced_posts}
 
 -- ---- lists
 
-pub set_same : {X : Type 0} (xs : List X) (i : ℕ) (y : X) → i < length xs → slice_get (slice_set xs i y) i ≡ Some y
-set_same [] i y l = absurd (omega (arith, l))
-set_same (x ∷ xs) zero y l = refl
-set_same (x ∷ xs) (suc i) y l = set_same xs i y (omega (arith, l))
-
-pub set_other : {X : Type 0} (xs : List X) (i j : ℕ) (y : X) → (i ≡ j → ⊥)
-    → slice_get (slice_set xs i y) j ≡ slice_get xs j
-set_other [] i j y h = refl
-set_other (z ∷ zs) zero zero y h = absurd (h refl)
-set_other (z ∷ zs) zero (suc j) y h = refl
-set_other (z ∷ zs) (suc i) zero y h = refl
-set_other (z ∷ zs) (suc i) (suc j) y h = set_other zs i j y (λ e. h (ap suc e))
-
 got_or : {X : Type 0} (xs : List X) (i : ℕ) (x : X) → slice_get xs i ≡ Some x → get_or xs i x ≡ x
 got_or [] i x at = let e : None ≡ Some x = at in absurd cc
 got_or (z ∷ zs) zero x at = let e : Some z ≡ Some x = at in cc

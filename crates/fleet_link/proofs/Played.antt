@@ -1,11 +1,11 @@
 -- The scenario of a session, played back.
-use Rattle.std.proofs.Common.{◌≡◌, ℕ, zero, suc, ◌+◌, ◌<◌, ◌≤◌, eqb, Bool, true, false, cond, ◌⊎◌, inl, inr, List, []}
-use Rattle.std.proofs.Common.{◌∷◌, ◌++◌, length, take, map, filter, Option, None, Some, slice_get, refl, sym, ap, subst}
-use Rattle.std.proofs.Common.{◌∙◌, append-nil, arith}
+use Rattle.std.proofs.Common.{◌≡◌, ℕ, zero, suc, ◌+◌, ◌<◌, ◌≤◌, Bool, true, false, ◌⊎◌, inl, inr, List, []}
+use Rattle.std.proofs.Common.{◌∷◌, ◌++◌, length, take, filter, Option, None, Some, slice_get, refl, sym, ap, subst}
+use Rattle.std.proofs.Common.{◌∙◌, append-nil, get_or, arith}
 use Rattle.std.specs.List.{flat_map, AllByRecursion}
-use Rattle.std.proofs.lemmas.Bool.{cases_eq, cases_lt, eq-eqb, ne_eqb}
-use Rattle.std.proofs.lemmas.Grind.{flat_map-append}
-use Rattle.std.proofs.lemmas.List.{map-append, take_all}
+use Rattle.std.proofs.lemmas.Bool.{cases_lt}
+use Rattle.std.proofs.lemmas.Grind.{flat_map-append, take_at_read}
+use Rattle.std.proofs.lemmas.List.{take_all}
 use Rattle.std.proofs.lemmas.List.Elements.{filter-append}
 use Rattle.lemmas.proofs.Lists.{each_at, item_at, take_none, take_one_more}
 use Rattle.device_machine.specs.declared.event.Event.TheVariants.{Recv, Put, Firmware, Tick}
@@ -13,10 +13,10 @@ use Rattle.device_machine.specs.declared.output.Output.{Output}
 use Rattle.device_machine.specs.State.{Machine}
 use Rattle.device_template.specs.Template.{Template}
 use Rattle.fleet_core.specs.Next.{may_pass, next_of}
-use Rattle.fleet_core.specs.Run.{is_enabled, made_by, out_at, outputs_by, outputs_in_row, outputs_with, posts_of, step_at}
-use Rattle.fleet_core.specs.Run.{steps_in, Fits, IsComplete, IsRun}
+use Rattle.fleet_core.specs.Run.{is_enabled, made_by, out_at, outputs_by, posts_of, step_at}
+use Rattle.fleet_core.specs.Run.{steps_in, IsComplete}
 use Rattle.fleet_core.proofs.Ends.{made_most}
-use Rattle.fleet_core.proofs.Posts.{ended_blocked, made_other, made_same, run_keeps}
+use Rattle.fleet_core.proofs.Posts.{ended_blocked}
 use Rattle.live_link.proofs.Served.{sent_push}
 use Rattle.live_link.specs.declared.packet.Packet.{Packet}
 use Rattle.live_link.specs.Live.{packets_in, sent_by, IsLiveStep}
@@ -25,6 +25,7 @@ use Rattle.scenario_image.specs.declared.step.Step.TheVariants.{Event, Post, Nee
 use Rattle.scenario_image.specs.Play.{start, state_at, step_outputs, IsRowOf}
 use Rattle.scenario_image.specs.Scenario.{Scenario}
 use Rattle.trace_file.specs.declared.entry.Entry.{Entry}
+use Rattle.fleet_core.proofs.Agreeing.{outputs_are, out_of_row, outs}
 use Rattle.fleet_link.specs.declared.slot.Slot.{Slot}
 use Rattle.fleet_link.specs.Saved.{IsPlayedBack, IsSaved}
 use Rattle.fleet_link.specs.Playing.{changes_by, is_own, IsFleetStep}
@@ -33,50 +34,9 @@ use Rattle.fleet_link.specs.Traffic.{Carries, Heard, Traffic}
 
 -- ---- what the entries of a device output
 
--- what the first k steps of a device output
-outs : Scenario → ℕ → ℕ → List (List Output)
-outs s d zero = []
-outs s d (suc k) = outs s d k ++ out_at s d k ∷ []
-
-by_push : (d : ℕ) (es : List Entry) (e : Entry)
-    → outputs_by d (es ++ e ∷ []) ≡ outputs_by d es ++ map (λ x. x.outputs) (cond (eqb e.device d) (e ∷ []) [])
-by_push d es e =
-    ap (map (λ x. x.outputs)) (filter-append (λ x. eqb x.device d) es (e ∷ []))
-    ∙ map-append (λ x. x.outputs) (filter (λ x. eqb x.device d) es) (cond (eqb e.device d) (e ∷ []) [])
-
-outs_push : (s : Scenario) (d : ℕ) (es : List Entry) (e : Entry) → Fits s es e
-    → outputs_by d es ≡ outs s d (made_by d es) → (e.device ≡ d) ⊎ (e.device ≡ d → ⊥)
-    → outputs_by d (es ++ e ∷ []) ≡ outs s d (made_by d (es ++ e ∷ []))
-unfolding outs
-outs_push s d es e fits same (inl own) =
-    let put : e.outputs ≡ out_at s d (made_by d es) =
-    fits.outputs ∙ (ap (λ k. out_at s e.device k) fits.count ∙ ap (λ i. out_at s i (made_by i es)) own) in
-    by_push d es e
-    ∙ (ap (λ b. outputs_by d es ++ map (λ x. x.outputs) (cond b (e ∷ []) [])) (eq-eqb e.device d own)
-    ∙ (ap (λ o. outputs_by d es ++ o ∷ []) put
-    ∙ (ap (λ l. l ++ out_at s d (made_by d es) ∷ []) same
-    ∙ ap (outs s d) (sym (made_same d es e own)))))
-outs_push s d es e fits same (inr other) =
-    by_push d es e
-    ∙ (ap (λ b. outputs_by d es ++ map (λ x. x.outputs) (cond b (e ∷ []) [])) (ne_eqb e.device d other)
-    ∙ (append-nil (outputs_by d es)
-    ∙ (same ∙ ap (outs s d) (sym (made_other d es e other)))))
-
-outputs_are : (s : Scenario) (d : ℕ) (es : List Entry) → IsRun s es → outputs_by d es ≡ outs s d (made_by d es)
-unfolding outs
-outputs_are s d es run =
-    run_keeps s (λ l. outputs_by d l ≡ outs s d (made_by d l)) refl
-    (λ l e before same fits. outs_push s d l e fits same (cases_eq e.device d)) es run
-
-out_of_row : (s : Scenario) (d : ℕ) (class : Template) (steps : List Step) → IsRowOf s d class steps → (k : ℕ)
-    → out_at s d k ≡ outputs_with (Some class) steps k
-out_of_row s d class steps row k =
-    ap (λ o. outputs_in_row s o k) row.row ∙ ap (λ c. outputs_with c steps k) row.stated
-
 -- the datagrams among what the first steps output are what they send
 outs_sent : (s : Scenario) (d : ℕ) (class : Template) (steps : List Step) → IsRowOf s d class steps → (k : ℕ)
     → k ≤ length steps → flat_map packets_in (outs s d k) ≡ sent_by (start class) (take k steps)
-unfolding outs
 outs_sent s d class steps row zero le = ap (sent_by (start class)) (sym (take_none steps))
 outs_sent s d class steps row (suc k) le =
     let found = item_at steps k (omega (arith, le)) in
@@ -164,6 +124,18 @@ plays_back s played before after slots now broken saved h is es complete e slot 
     sent_then (before e) (after e) _ (sent_by (start r.class) serving.steps) [] serving.failures es e serving.told
     (row_sends saved e r.class slot.recording.steps.items es row live complete
     ∙ ap (sent_by (start r.class)) (sym items))
+
+-- ---- the steps that are played
+
+-- those so far, and one more
+pub own_more : (steps own more : List Step) (i : ℕ) (x : Step) → own ≡ filter is_own (take i steps)
+    → more ≡ own ++ filter is_own (x ∷ []) → i < length steps → x ≡ get_or steps i x
+    → more ≡ filter is_own (take (i + 1) steps)
+own_more steps own more i x so_far is l e =
+    let taken : take (i + 1) steps ≡ take i steps ++ x ∷ [] =
+    (take_at_read steps i x l).1 ∙ ap (λ y. take i steps ++ y ∷ []) (sym e) in
+    is ∙ ap (λ xs. xs ++ filter is_own (x ∷ [])) so_far ∙ sym (filter-append is_own (take i steps) (x ∷ []))
+    ∙ ap (filter is_own) (sym taken)
 
 -- ---- steps without a change
 

@@ -1,8 +1,10 @@
 -- What a row without needs does, pass after pass.
-use Rattle.std.proofs.Common.{◌≡◌, ℕ, zero, suc, ◌+◌, ◌*◌, ◌≤◌, Bool, true, false, ◌||◌, List, [], ◌∷◌, ◌++◌, length, take, drop}
+use Rattle.std.proofs.Common.{◌≡◌, ℕ, zero, suc, ◌+◌, ◌*◌, ◌≤◌, true, false, ◌||◌, List, [], ◌∷◌, ◌++◌, length, take}
+use Rattle.std.proofs.Common.{drop}
 use Rattle.std.proofs.Common.{slice_get, Some, refl, sym, ap, ◌∙◌, append_assoc, arith}
 use Rattle.std.specs.List.{list_any}
 use Rattle.std.proofs.lemmas.List.{length-drop, length-take, take-append-drop}
+use Rattle.std.proofs.lemmas.Bool.{or_parts}
 use Rattle.scenario_image.specs.declared.step.Step.{Step}
 use Rattle.scenario_image.specs.declared.step.Step.TheVariants.{Event, Post, Need}
 use Rattle.fleet_link.specs.declared.row.PlayedRow.{PlayedRow}
@@ -17,16 +19,12 @@ comes_itself (Event event) step free h = h
 comes_itself (Post group) step free h = h
 comes_itself (Need group count) step free h = let e : true ≡ false = free in absurd cc
 
-or_none : (a b : Bool) → (a || b) ≡ false → (a ≡ false) × (b ≡ false)
-or_none true b h = let e : true ≡ false = h in absurd cc
-or_none false b h = (refl, h)
-
 free_first : (n : ℕ) (steps : List Step) → list_any is_need steps ≡ false → list_any is_need (take n steps) ≡ false
 free_first zero [] h = refl
 free_first (suc n) [] h = refl
 free_first zero (step ∷ steps) h = refl
 free_first (suc n) (step ∷ steps) h =
-    let parts = or_none (is_need step) (list_any is_need steps) h in
+    let parts = or_parts (is_need step) (list_any is_need steps) h in
     ap (λ b. b || list_any is_need (take n steps)) parts.0 ∙ free_first n steps parts.1
 
 same_steps : (said steps : List Step) → length steps ≡ length said → list_any is_need said ≡ false
@@ -35,7 +33,7 @@ same_steps [] [] e free h = refl
 same_steps [] (y ∷ ys) e free h = absurd (omega (arith, e))
 same_steps (x ∷ xs) [] e free h = absurd (omega (arith, e))
 same_steps (x ∷ xs) (y ∷ ys) e free h =
-    let parts = or_none (is_need x) (list_any is_need xs) free in
+    let parts = or_parts (is_need x) (list_any is_need xs) free in
     let rest = same_steps xs ys (omega (arith, e)) parts.1 (λ i a b p q. h (suc i) a b p q) in
     ap (λ z. z ∷ ys) (comes_itself x y parts.0 (h 0 x y refl refl)) ∙ ap (λ l. x ∷ l) rest
 

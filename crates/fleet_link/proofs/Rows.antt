@@ -1,31 +1,15 @@
 -- A scenario that is put together row by row.
-use Rattle.std.proofs.Common.{◌≡◌, ℕ, zero, suc, ◌+◌, ◌-◌, ◌<◌, ◌⊎◌, inl, inr, List, [], ◌∷◌, ◌++◌, length, take, get_or, count_by, cond, not}
+use Rattle.std.proofs.Common.{◌≡◌, ℕ, zero, suc, ◌+◌, ◌<◌, ◌⊎◌, inl, inr, List, [], ◌∷◌, ◌++◌, length, take, get_or}
+use Rattle.std.proofs.Common.{count_by, cond, not}
 use Rattle.std.proofs.Common.{None, Some, slice_get, refl, sym, ap, subst, ◌∙◌, arith}
-use Rattle.std.specs.List.{slice_set}
 use Rattle.std.proofs.lemmas.Grind.{take_at_read}
 use Rattle.std.proofs.lemmas.List.Sums.{sum_by_push}
 use Rattle.lemmas.proofs.Lists.{item_pushed, length_pushed, pushed_cases}
 use Rattle.scenario_image.specs.declared.step.Step.{Step}
-use Rattle.scenario_image.specs.Scenario.{last_row, longer, with_last, with_step, Row, Scenario}
+use Rattle.scenario_image.specs.Scenario.{last_row, with_last, with_step, Row, Scenario}
+use Rattle.scenario_image.proofs.RowLaws.{last_longer}
 use Rattle.fleet_link.specs.declared.slot.Slot.{Slot}
 use Rattle.fleet_link.specs.Saved.{saved_row, IsSaved}
-
-set_pushed : {X : Type 0} (xs : List X) (x y : X) → slice_set (xs ++ x ∷ []) (length xs) y ≡ xs ++ y ∷ []
-set_pushed [] x y = refl
-set_pushed (z ∷ xs) x y = ap (λ l. z ∷ l) (set_pushed xs x y)
-
-last_place : {X : Type 0} (xs : List X) (x : X) → length (xs ++ x ∷ []) - 1 ≡ length xs
-last_place xs x = omega (arith, length_pushed xs x)
-
--- a step more of the last row
-last_longer : (rows : List Row) (row : Row) (step : Step)
-    → with_last (rows ++ row ∷ []) (last_row (rows ++ row ∷ [])) step ≡ rows ++ longer row step ∷ []
-last_longer rows row step =
-    let last : last_row (rows ++ row ∷ []) ≡ Some row =
-    ap (slice_get (rows ++ row ∷ [])) (last_place rows row) ∙ item_pushed rows row in
-    ap (λ o. with_last (rows ++ row ∷ []) o step) last
-    ∙ ap (λ n. slice_set (rows ++ row ∷ []) n (longer row step)) (last_place rows row)
-    ∙ set_pushed rows row (longer row step)
 
 row_of : ℕ → List Step → Row
 row_of class steps = record { class = class; steps = steps }

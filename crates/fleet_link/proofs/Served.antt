@@ -1,5 +1,5 @@
 -- One device, step by step.
-use Rattle.std.proofs.Common.{◌≡◌, ◌⊎◌, inl, inr, ℕ, ◌+◌, ◌≤◌, ◌<◌, Bool, ◌||◌, true, false, List, [], ◌∷◌, ◌++◌}
+use Rattle.std.proofs.Common.{◌≡◌, ◌⊎◌, inl, inr, ℕ, ◌+◌, ◌≤◌, ◌<◌, Bool, true, false, List, [], ◌∷◌, ◌++◌}
 use Rattle.std.proofs.Common.{Option, None, Some, Result, Ok, Err, ◌↔◌, OnOk, IfErr, refl, sym, ap, subst, ◌∙◌}
 use Rattle.std.proofs.Common.{append_assoc, append-nil, arith, add-zero}
 use Rattle.std.specs.Bool.{IsTrue}
@@ -16,7 +16,8 @@ use Rattle.fleet_core.proofs.Clock.{recv_clock, put_clock, firmware_clock}
 use Rattle.scenario_image.specs.declared.step.Step.{Step}
 use Rattle.scenario_image.specs.declared.step.Step.TheVariants.{Event, Post, Need}
 use Rattle.scenario_image.specs.Play.{start, state_after, step_after}
-use Rattle.live_link.proofs.Served.{sent_push}
+use Rattle.scenario_image.proofs.Played.{after_push}
+use Rattle.live_link.proofs.Served.{sent_push, refused_late}
 use Rattle.live_link.specs.declared.packet.Packet.{Packet}
 use Rattle.live_link.specs.Live.{packets_in, sent_by}
 use Rattle.fleet_link.specs.declared.row.RowState.{RowState}
@@ -35,11 +36,6 @@ use Rattle.fleet_link.proofs.Recordings.{recorded_on, IsSame}
 use Rattle.fleet_link.proofs.Told.{carries_both, carries_on, traffic_of}
 
 -- ---- one step more
-
-state_push : (f : Machine) (steps : List Step) (step : Step)
-    → state_after f (steps ++ step ∷ []) ≡ step_after (state_after f steps) step
-state_push f [] step = refl
-state_push f (s ∷ steps) step = state_push (step_after f s) steps step
 
 pub second_push : (n : ℕ) (steps : List Step) (step : Step)
     → second_by n (steps ++ step ∷ []) ≡ second_after (second_by n steps) step
@@ -123,7 +119,7 @@ step_served f before rest device newer second recording longer between after eve
       changed = changes_push 0 h.steps (Event event)
           ∙ ap (λ n. changes_by 0 h.steps ++ change_at n (change_in (Event event))) (sym h.clock)
           ∙ ap (λ cs. cs ++ change_at second (change_in (Event event))) h.changed;
-      shows = λ e. subst (Shows newer) (sym (state_push f h.steps (Event event)))
+      shows = λ e. subst (Shows newer) (sym (after_push f h.steps (Event event)))
           (shows (state_after f h.steps) showed);
       ended = h.ended;
       recorded = noted h.steps h.recorded;
@@ -132,13 +128,6 @@ step_served f before rest device newer second recording longer between after eve
     same_traffic : (a b : List Heard) (p q : List Packet) (m n : ℕ) → a ≡ b → p ≡ q → m ≡ n
         → traffic_of a p m ≡ traffic_of b q n
     same_traffic a b p q m n x y z = cc
-
--- a device that is not spent refuses nothing but what passes its last second
-refused_late : (device : Device) (f : Machine) (event : Happening) → Shows device f → is_refused device event ≡ true
-    → passes_end f.kept.clock event ≡ true
-refused_late device f event h refused =
-    ap (λ (g : Machine). passes_end g.kept.clock event) (sym h.holds)
-    ∙ ap (λ b. b || passes_end device.flat.kept.clock event) (sym h.ready) ∙ refused
 
 near_end : (f : Machine) (steps : List Step) (event : Happening) → IsFleetStep (Event event)
     → passes_end (state_after f steps).kept.clock event ≡ true → IsNearEnd f steps

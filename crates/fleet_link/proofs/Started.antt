@@ -2,13 +2,12 @@
 use Rattle.std.proofs.Common.{◌≡◌, Bool, true, ℕ, ◌+◌, ◌^◌, ◌<◌, ◌≤◌, ◌⊎◌, inl, inr, List, [], ◌∷◌, ◌++◌, length, None, Some, slice_get, false}
 use Rattle.std.proofs.Common.{Option, refl, sym, ap, subst, ◌∙◌, arith, length-append}
 use Rattle.std.specs.Option.{MatchOption}
-use Rattle.lemmas.proofs.Lists.{pushed_cases}
+use Rattle.lemmas.proofs.Lists.{pushed_cases, each_at}
 use Rattle.device_machine.specs.State.{Device, Shows}
 use Rattle.device_template.specs.Template.{Template}
 use Rattle.scenario_image.specs.declared.step.Step.{Step}
 use Rattle.scenario_image.specs.Play.{start, IsRowOf}
 use Rattle.scenario_image.specs.Scenario.{Row, Scenario, IsGoodRow, IsValid}
-use Rattle.fleet_core.proofs.Valid.{all_at}
 use Rattle.lemmas.proofs.Lists.{item_at}
 use Rattle.fleet_link.specs.declared.row.PlayedRow.{PlayedRow}
 use Rattle.fleet_link.specs.declared.row.RowState.{RowState}
@@ -27,7 +26,7 @@ use Rattle.fleet_link.proofs.Told.{carries_none}
 row_of : (s : Scenario) (d : ℕ) → IsValid s → (row : Row) → slice_get s.rows d ≡ Some row → (class : Template)
     × IsRowOf s d class row.steps
 row_of s d valid row at =
-    let good : IsGoodRow s.classes row = all_at (IsGoodRow s.classes) s.rows d row valid.each at in
+    let good : IsGoodRow s.classes row = each_at (IsGoodRow s.classes) s.rows d row valid.each at in
     (good.class, record { place = row.class; row = at; stated = good.stated })
 
 -- a row before its first step

@@ -102,10 +102,6 @@ one_more d e x y z outputs i o h k l is =
 
 -- ---- a list that is told
 
-pub read_none : (x : Option (List ℕ)) → AreRead x x []
-read_none None = tt
-read_none (Some xs) = sym (append-nil xs)
-
 pub read_both : (x y z : Option (List ℕ)) (a b c : List ℕ) → AreRead x y a → AreRead y z b → a ++ b ≡ c → AreRead x z c
 read_both x y None a b c h k e = tt
 read_both x None (Some z) a b c h k e = absurd k

@@ -3,7 +3,7 @@ use Rattle.std.proofs.Common.{◌≡◌, ℕ, suc, ◌+◌, ◌-◌, ◌*◌, �
 use Rattle.std.proofs.Common.{◌||◌, List, [], ◌∷◌, length, drop, slice_get, Option, None, Some, refl, sym, ap, subst, ◌∙◌, arith}
 use Rattle.std.proofs.Math.ListN.{drop_of_length-le}
 use Rattle.std.proofs.Math.Nat.{mul-le-mul_left}
-use Rattle.std.proofs.lemmas.Bool.{leb-true}
+use Rattle.std.proofs.lemmas.Bool.{leb-true, and_parts}
 use Rattle.std.proofs.lemmas.List.{length-drop}
 use Rattle.std.specs.List.{list_any}
 use Rattle.std.specs.Option.{MatchOption}
@@ -14,7 +14,6 @@ use Rattle.scenario_image.specs.declared.step.Step.TheVariants.{Event, Post, Nee
 use Rattle.fleet_link.specs.declared.row.PlayedRow.{PlayedRow}
 use Rattle.fleet_link.specs.declared.row.RowState.TheVariants.{Due}
 use Rattle.fleet_link.specs.Playing.{ends_pass, is_endless, row_state, second_after, takes_time, IsAdvanced}
-use Rattle.fleet_link.proofs.Advanced.{and_both}
 use Rattle.fleet_link.proofs.Stepped.{due_second}
 
 -- how many steps there are before the next one in which a second passes; after the last one there are so many more
@@ -122,11 +121,11 @@ nearer old new step at h still = opened ∙ sym at_old
         → to_tick (drop new.place old.steps.items) (in_next_pass old)
         ≡ to_tick (drop (suc old.place) old.steps.items) (in_next_pass old)
     by_end true is =
-        let tests = and_both (nat_le (length old.steps.items) (old.place + 1)) _ is in
+        let tests = and_parts (nat_le (length old.steps.items) (old.place + 1)) _ is in
         let last : length old.steps.items ≤ suc old.place =
         omega (arith, leb-true (length old.steps.items) (old.place + 1) tests.0) in
         let place : new.place ≡ 0 = h.place ∙ ap (λ b. cond b 0 (old.place + 1)) is in
-        let any = and_both old.repeated (list_any takes_time old.steps.items) tests.1 in
+        let any = and_parts old.repeated (list_any takes_time old.steps.items) tests.1 in
         ap (λ n. to_tick (drop n old.steps.items) (in_next_pass old)) place
         ∙ ap (λ l. to_tick l (in_next_pass old)) (drop_none old.steps.items)
         ∙ same old.steps.items (in_next_pass old) 0 any.1

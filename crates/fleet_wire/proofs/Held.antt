@@ -8,7 +8,8 @@ use Rattle.std.proofs.lemmas.List.Sums.{fails_before_first}
 use Rattle.std.proofs.lemmas.Bool.{eq-eqb, ne_eqb}
 use Rattle.std.proofs.lemmas.List.Quantifiers.{position-Some}
 use Rattle.std.proofs.lemmas.Option.{slice_get_read}
-use Rattle.lemmas.proofs.Lists.{drop_opens, each_appended}
+use Rattle.lemmas.proofs.Lists.{drop_opens, each_appended, each_front}
+use Rattle.lemmas.proofs.Options.{no_choice}
 use Rattle.fleet_wire.specs.declared.lane.Held.{Held}
 use Rattle.fleet_wire.specs.declared.plan.Fate.{Fate}
 use Rattle.fleet_wire.specs.declared.plan.Fate.TheVariants.{Late, Lost, Passes, Swapped, Twice}
@@ -34,11 +35,6 @@ rejoined [] (suc i) = refl
 rejoined (x ∷ xs) zero = refl
 rejoined (x ∷ xs) (suc i) = ap (λ t. x ∷ t) (rejoined xs i)
 
--- what is said of each of the parts is said of the whole, and the other way round
-pub each_front : {X : Type 0} (P : X → Type 0) (xs ys : List X) → AllByRecursion P (xs ++ ys) → AllByRecursion P xs
-each_front P [] ys h = tt
-each_front P (x ∷ xs) ys h = (h.0, each_front P xs ys h.1)
-
 pub each_back : {X : Type 0} (P : X → Type 0) (xs ys : List X) → AllByRecursion P (xs ++ ys) → AllByRecursion P ys
 each_back P [] ys h = h
 each_back P (x ∷ xs) ys h = each_back P xs ys h.1
@@ -46,10 +42,6 @@ each_back P (x ∷ xs) ys h = each_back P xs ys h.1
 pub each_without : {X : Type 0} (P : X → Type 0) (xs : List X) (x : X) (ys : List X)
     → AllByRecursion P (xs ++ x ∷ ys) → AllByRecursion P (xs ++ ys)
 each_without P xs x ys h = let k = each_back P xs (x ∷ ys) h in each_appended P xs ys (each_front P xs (x ∷ ys) h) k.1
-
-pub each_here : {X : Type 0} (P : X → Type 0) (xs : List X) (x : X) (ys : List X)
-    → AllByRecursion P (xs ++ x ∷ ys) → P x
-each_here P xs x ys h = let k = each_back P xs (x ∷ ys) h in k.0
 
 -- ---- the first that passes
 
@@ -72,16 +64,9 @@ each_indexed : {X : Type 0} (P : X → Type 0) (xs : List X) → ((k : ℕ) (d :
 each_indexed P [] h = tt
 each_indexed P (x ∷ xs) h = (h 0 x (omega arith), each_indexed P xs (λ k d m. h (suc k) d (omega arith)))
 
-denied : (b : Bool) (n : ℕ) → cond b (Some n) None ≡ None → b ≡ false
-denied true n h = absurd (some_none n h)
-  where
-    some_none : (n : ℕ) → Some n ≡ None → ⊥
-    some_none n h = cc
-denied false n h = refl
-
 pub none_passes : (p : Held → Bool) (xs : List Held) → position p xs ≡ None → AllByRecursion (λ x. p x ≡ false) xs
 none_passes p xs h =
-    let test : ltb (position_or_len p xs) (length xs) ≡ false = denied _ (position_or_len p xs) h in
+    let test : ltb (position_or_len p xs) (length xs) ≡ false = no_choice _ (position_or_len p xs) h in
     let all : length xs ≤ position_or_len p xs = grind (arith, nat_tests) in
     each_indexed (λ x. p x ≡ false) xs (λ k d m. fails_before_first p xs k d (omega (arith, all, m)))
 

@@ -1,13 +1,14 @@
 -- One device on a lane: a datagram comes, a datagram goes on.
-use Rattle.std.proofs.Common.{◌≡◌, ◌⊎◌, inl, inr, ℕ, zero, suc, ◌+◌, ◌≤◌, ◌<◌, ◌==◌, Bool, true, false, cond, List, []}
+use Rattle.std.proofs.Common.{◌≡◌, ◌⊎◌, inl, inr, ℕ, suc, ◌+◌, ◌≤◌, ◌<◌, ◌==◌, Bool, true, false, cond, List, []}
 use Rattle.std.proofs.Common.{◌∷◌, ◌++◌}
-use Rattle.std.proofs.Common.{length, None, Some, slice_get, refl, sym, ap, subst, ◌∙◌, arith}
+use Rattle.std.proofs.Common.{length, Some, slice_get, refl, sym, ap, subst, ◌∙◌, arith}
 use Rattle.std.specs.List.{AllByRecursion, sum_by}
 use Rattle.std.proofs.lemmas.Bool.{cases_eq, eq-eqb, ne_eqb}
 use Rattle.std.proofs.lemmas.Bool.Decides.{nat_tests}
 use Rattle.std.proofs.lemmas.List.Sums.{sum_by-append, sum_by-cons, sum_by_push}
 use Rattle.std.proofs.lemmas.Option.{slice_get_within}
-use Rattle.lemmas.proofs.Lists.{each_pushed, each_weaker, item_pushed, length_pushed, pushed_cases}
+use Rattle.lemmas.proofs.Lists.{each_pushed, each_weaker, item_pushed, length_pushed, pushed_cases, item_before}
+use Rattle.lemmas.proofs.Lists.{each_here}
 use Rattle.lemmas.proofs.Tests.{or_first}
 use Rattle.fleet_link.specs.Traffic.{Heard}
 use Rattle.fleet_wire.specs.declared.lane.Held.{Held}
@@ -15,15 +16,9 @@ use Rattle.fleet_wire.specs.declared.plan.Fate.{Fate}
 use Rattle.fleet_wire.specs.declared.plan.Fate.TheVariants.{Late, Lost, Passes, Swapped, Twice}
 use Rattle.fleet_wire.specs.Schedule.{copies, goes_at_once}
 use Rattle.fleet_wire.specs.Lane.{held_with, is_due, is_over, Gone, IsAtOnce, IsRightAfter, IsGone, IsHeld, IsLane, IsOver}
-use Rattle.fleet_wire.proofs.Held.{each_here, each_without, Waits}
+use Rattle.fleet_wire.proofs.Held.{each_without, Waits}
 
 -- ---- lists
-
-pub got_still : {X : Type 0} (xs : List X) (y : X) (k : ℕ) (x : X) → slice_get xs k ≡ Some x
-    → slice_get (xs ++ y ∷ []) k ≡ Some x
-got_still [] y k x h = let e : None ≡ Some x = h in absurd cc
-got_still (z ∷ zs) y zero x h = h
-got_still (z ∷ zs) y (suc k) x h = got_still zs y k x h
 
 each_both : {X : Type 0} (P Q R : X → Type 0) → ((x : X) → P x → Q x → R x) → (xs : List X) → AllByRecursion P xs
     → AllByRecursion Q xs → AllByRecursion R xs
@@ -206,7 +201,7 @@ held_behind : (fate : ℕ → Fate) (now second : ℕ) (came : List Heard) (x : 
 held_behind fate now second came x freed later h is q =
     record {
       heard = is.heard;
-      is = got_still came x h.place is.heard is.is;
+      is = item_before came x h.place is.heard is.is;
       same = is.same;
       second = is.second;
       until = omega (arith, is.until, later);
@@ -250,7 +245,7 @@ lane_comes fate late_by now second came went held freed x h later l q n =
     still {w} g =
         record {
           heard = g.heard;
-          is = got_still came x w.place g.heard g.is;
+          is = item_before came x w.place g.heard g.is;
           same = g.same;
           later = g.later;
           late = g.late;
@@ -259,7 +254,7 @@ lane_comes fate late_by now second came went held freed x h later l q n =
     over : (k : ℕ) (w : Gone) → IsOver late_by came w ⊎ IsRightAfter fate went k w
         → IsOver late_by (came ++ x ∷ []) w ⊎ IsRightAfter fate went k w
     over k w (inl o) =
-        inl (record { heard = o.heard; is = got_still came x w.place o.heard o.is; over = o.over })
+        inl (record { heard = o.heard; is = item_before came x w.place o.heard o.is; over = o.over })
     over k w (inr b) = inr b
 
     counted : (i : ℕ) → (i ≡ length came) ⊎ (i ≡ length came → ⊥) → i < length (came ++ x ∷ [])
@@ -375,7 +370,7 @@ own_swapped fate late_by now second came went held freed h later l is due order 
               next = a.gone;
               at = a.at;
               before = slice_get_within went a.at a.gone a.is;
-              is = got_still went (gone_of second h) a.at a.gone a.is;
+              is = item_before went (gone_of second h) a.at a.gone a.is;
               at_once = subst (λ i. goes_at_once (fate i) ≡ true) (sym a.place) once.at_once;
               after = omega (arith, a.place, once.last, in_range, apart);
               alone = λ j v below got once_v after.
@@ -398,7 +393,7 @@ behind_still fate went new k w got b =
       next = b.next;
       at = b.at;
       before = b.before;
-      is = got_still went new b.at b.next b.is;
+      is = item_before went new b.at b.next b.is;
       at_once = b.at_once;
       after = b.after;
       alone = λ j v below found once_v after. alone j v below (pushed_cases went new j v found) once_v after;

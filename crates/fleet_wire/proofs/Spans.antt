@@ -1,5 +1,5 @@
 -- A list of spans, read part by part.
-use Rattle.std.proofs.Common.{◌≡◌, ℕ, ◌+◌, ◌<◌, ◌≤◌, Bool, true, false, cond, List, [], ◌∷◌, ◌++◌, length, take, drop}
+use Rattle.std.proofs.Common.{◌≡◌, ℕ, ◌+◌, ◌<◌, ◌≤◌, false, List, [], ◌∷◌, ◌++◌, length, take, drop}
 use Rattle.std.proofs.Common.{None, Some, Result, Ok, Err, refl, sym, ap, subst, ◌∙◌, append_assoc, arith, ltb}
 use Rattle.std.proofs.Common.{◌⊎◌, inl, inr, MatchResult}
 use Rattle.fleet_wire.specs.declared.reading.ChoiceFault.TheVariants.{Memory}
@@ -8,6 +8,7 @@ use Rattle.std.proofs.lemmas.Bool.Decides.{nat_tests}
 use Rattle.std.proofs.lemmas.List.Splits.{slice_split_first, slice_split_none}
 use Rattle.std.proofs.lemmas.List.Sums.{fails_before_first}
 use Rattle.std.proofs.lemmas.Option.{cond_some}
+use Rattle.lemmas.proofs.Options.{no_choice}
 use Rattle.fleet_wire.specs.declared.choice.Span.{Span}
 use Rattle.fleet_wire.specs.declared.reading.ChoiceFault.{ChoiceFault}
 use Rattle.fleet_wire.specs.Reading.{and_rest, before_all, is_comma, next_span, spans_from, IsWithLast}
@@ -26,13 +27,9 @@ split_on xs i h =
     subst (λ n. slice_split is_comma xs ≡ take n xs ∷ slice_split is_comma (drop (n + 1) xs)) parts.1
     (slice_split_first is_comma xs 0 within)
 
-denied : (b : Bool) (n : ℕ) → cond b (Some n) None ≡ None → b ≡ false
-denied true n h = let no : ⊥ = cc in absurd no
-denied false n h = refl
-
 pub split_off : (xs : List ℕ) → position is_comma xs ≡ None → slice_split is_comma xs ≡ xs ∷ []
 split_off xs h =
-    let test : ltb (position_or_len is_comma xs) (length xs) ≡ false = denied _ (position_or_len is_comma xs) h in
+    let test : ltb (position_or_len is_comma xs) (length xs) ≡ false = no_choice _ (position_or_len is_comma xs) h in
     let all : length xs ≤ position_or_len is_comma xs = grind (arith, nat_tests) in
     slice_split_none is_comma xs (λ k d b. fails_before_first is_comma xs k d (omega (arith, all, b)))
 

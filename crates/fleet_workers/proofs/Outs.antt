@@ -2,6 +2,7 @@
 use Rattle.std.proofs.Common.{◌≡◌, ℕ, ◌+◌, ◌⊎◌, inl, inr, ◌++◌, set, Some, slice_get, sym, ap, subst, ◌∙◌, arith}
 use Rattle.std.specs.Prelude.{Contains}
 use Rattle.std.proofs.lemmas.Bool.{cases_eq}
+use Rattle.lemmas.proofs.Lists.{set_elsewhere, set_gives}
 use Rattle.fleet_core.specs.Run.{made_by}
 use Rattle.ticket_lock.specs.Changes.{arrived, ended}
 use Rattle.ticket_lock.specs.Names.{lowest_work}
@@ -13,7 +14,6 @@ use Rattle.shared_trace.specs.declared.work.OpenWork.{OpenWork}
 use Rattle.shared_trace.specs.Trace.{Traced, with_block, stopped_under, open_by, work_by, no_work, trace_log}
 use Rattle.shared_trace.specs.Job.{Task}
 use Rattle.shared_trace.specs.Claims.{Claims}
-use Rattle.shared_trace.proofs.Lists.{set_gives, get-set_other}
 use Rattle.shared_trace.proofs.Open.{open_has, open_tells, IsOpen}
 use Rattle.fleet_workers.specs.Knowing.{Seen, IsOut, Gets}
 
@@ -33,7 +33,7 @@ at_place x w d p here at =
 -- after another place was changed
 at_other : (x : Traced) (w d k p : ℕ) (q : Place) → d ≡ 0 + p → (k ≡ p → ⊥)
     → slice_get (set x.places k q) p ≡ Some (Out w) → IsOutOf x w d
-at_other x w d k p q here other at = at_place x w d p here (sym (get-set_other x.places k p q other) ∙ at)
+at_other x w d k p q here other at = at_place x w d p here (sym (set_elsewhere x.places k p q other) ∙ at)
 
 -- after a claim no other device is out than before but the one that it got
 pub claim_outs : (x y : Traced) (w : ℕ) (claim : Claim) (d : ℕ) → Claims x y w claim → IsOutOf y w d

@@ -8,6 +8,8 @@ use Rattle.std.proofs.lemmas.Bool.{eq-eqb, ne_eqb, false≢true}
 use Rattle.std.proofs.lemmas.List.{append_cancel_left, length-map}
 use mathlib.Core.Logic.{dite}
 use native.Mathlib.Decide.{dec_lt}
+use Rattle.std.proofs.Math.Bool.{or-true, or-false}
+use Rattle.lemmas.proofs.Tests.{or_first, or_second}
 use Rattle.scenario_image.specs.Scenario.{Scenario}
 use Rattle.trace_file.specs.declared.entry.Entry.{Entry}
 use Rattle.fleet_core.specs.Run.{Fits, IsRun, IsComplete}
@@ -281,18 +283,10 @@ stalled_all v one two a b all p ends s subject =
 first_spent : (v one two a b all : Seen) → Parts v one two a b all → a.end ≡ true → EndsAs all Spent
 first_spent v one two a b all p end = p.end (ap (λ t. t || b.end) end)
 
-or_true : (t : Bool) → (t || true) ≡ true
-or_true true = refl
-or_true false = refl
-
 other_spent : (v one two a b all : Seen) → Parts v one two a b all → b.end ≡ true → EndsAs all Spent
-other_spent v one two a b all p end = p.end (ap (λ t. a.end || t) end ∙ or_true a.end)
+other_spent v one two a b all p end = p.end (ap (λ t. a.end || t) end ∙ or-true a.end)
 
 -- ---- who stopped the trace
-
-or-false : (t : Bool) → (t || false) ≡ t
-or-false true = refl
-or-false false = refl
 
 -- of the first number alone
 any_one : (xs : List (Share Entry OpenWork)) → is_any_stopped 1 xs ≡ (work_or xs no_work).stopped
@@ -346,14 +340,6 @@ ends_not : (b c : Bool) → (b ≡ true → c ≡ true) → c ≡ false → b �
 ends_not true c up not = absurd (false≢true (sym not ∙ up refl))
 ends_not false c up not = refl
 
-first_not : (b c : Bool) → (b || c) ≡ false → b ≡ false
-first_not true c h = absurd (false≢true (sym h))
-first_not false c h = refl
-
-other_not : (b c : Bool) → (b || c) ≡ false → c ≡ false
-other_not true c h = absurd (false≢true (sym h))
-other_not false c h = h
-
 -- ---- how they end together
 
 module _ (m : ℕ) (v one two a b all : Seen) (p : Parts v one two a b all)
@@ -361,14 +347,14 @@ module _ (m : ℕ) (v one two a b all : Seen) (p : Parts v one two a b all)
   first_out : EndsAs a Memory → CrewEndsAs m all Memory
   first_out out not =
       let before : a.end ≡ false =
-      first_not a.end b.end (ends_not (a.end || b.end) all.end p.end not) in
+      or_first a.end b.end (ends_not (a.end || b.end) all.end p.end not) in
       stops ∙ ap (λ t. t || is_any_stopped (m - 1) b.shares) (out before)
 
   others_out : CrewEndsAs (m - 1) b Memory → CrewEndsAs m all Memory
   others_out out not =
       let before : b.end ≡ false =
-      other_not a.end b.end (ends_not (a.end || b.end) all.end p.end not) in
-      stops ∙ (ap (λ t. has_stopped a || t) (out before) ∙ or_true (has_stopped a))
+      or_second a.end b.end (ends_not (a.end || b.end) all.end p.end not) in
+      stops ∙ (ap (λ t. has_stopped a || t) (out before) ∙ or-true (has_stopped a))
 
   joint_ends : (first others : LoopEnd) → EndsAs a first → CrewEndsAs (m - 1) b others
       → CrewEndsAs m all (joint_end first others)

@@ -1,17 +1,11 @@
 -- A clone of a value, and of what a store keeps, is that value.
-use Rattle.std.proofs.Common.{◌≡◌, ℕ, List, [], ◌∷◌, refl, ap, ◌∙◌, rules}
+use Rattle.std.proofs.Common.{◌≡◌, ℕ, List, ap, ◌∙◌, rules}
 use Rattle.std.specs.List.{AllZip}
+use Rattle.lemmas.proofs.Lists.{same_list}
 use Rattle.lwm2m_values.specs.declared.value.Value.{Value}
 use Rattle.lwm2m_values.specs.declared.value.Value.TheVariants.{Text, Whole, Flag, Opaque, Moment, Link}
 use Rattle.lwm2m_values.specs.contracts.value.ValueClone.TheImpl.{by_variants}
 use Rattle.instance_store.specs.Table.{table_of}
-
-pub same_list : {X : Type 0} (C : X → X → Type 0) → ((x y : X) → C x y → y ≡ x) → (xs ys : List X) → AllZip C xs ys
-    → ys ≡ xs
-same_list C same [] [] h = refl
-same_list C same [] (y ∷ ys) h = absurd h
-same_list C same (x ∷ xs) [] h = absurd h
-same_list C same (x ∷ xs) (y ∷ ys) h = λ i. same x y h.0 i ∷ same_list C same xs ys h.1 i
 
 pub same_value : (v w : Value) → by_variants v w → w ≡ v
 same_value (Text a) (Text b) h = search rules

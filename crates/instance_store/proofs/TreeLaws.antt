@@ -482,9 +482,3 @@ all_done t i n e h = drop_of_length-le (map.entries t) (subst (λ k. k ≤ i) (e
 pub shown_push : (xs : List (FullPath × Bor Value)) (x : FullPath × Bor Value)
     → shown_pairs (xs ++ x ∷ []) ≡ shown_pairs xs ++ (x.0, x.1.now) ∷ []
 shown_push xs x = map-append _ xs (x ∷ [])
-
-pub flip_test : (r b : Bool) → b ≡ not r → r ≡ not b
-flip_test true true h = cc
-flip_test true false h = refl
-flip_test false true h = refl
-flip_test false false h = cc

@@ -2,11 +2,12 @@
 use Rattle.std.proofs.Common.{◌≡◌, ◌≢◌, ℕ, zero, suc, ◌+◌, ◌<◌, ◌≤◌, Bool, true, false, not, cond}
 use Rattle.std.proofs.Common.{◌||◌, ℤ, List, [], ◌∷◌, Option, None, Some}
 use Rattle.std.proofs.Common.{refl, sym, ap, subst, ◌∙◌, arith, inl, inr}
-use Rattle.std.specs.List.{AllByRecursion, Contains}
+use Rattle.std.specs.List.{AllByRecursion}
 use Rattle.std.specs.Str.{bytes_eq}
 use Rattle.std.proofs.lemmas.Bool.Decides.{nat_tests}
 use Rattle.std.proofs.lemmas.Slice.Eq.{bytes_eq-Decides}
 use Rattle.std.proofs.lemmas.Bool.{or_left, or_right, not-true, not_from_false}
+use Rattle.lemmas.proofs.Lists.{each_appended, each_weaker, contains_later}
 use Rattle.notifier.specs.Trigger.{differ, has_condition, is_above, is_below, is_due, is_triggered}
 use Rattle.notifier.specs.Trigger.{crosses_gt as crossed_gt, crosses_lt as crossed_lt, number_triggers}
 use Rattle.notifier.specs.Trigger.{steps_st as stepped_st}
@@ -18,7 +19,7 @@ use Rattle.device_notifications.specs.Report.{number_at}
 use Rattle.device_notifications.specs.Message.{open_notification}
 use Rattle.device_notifications.specs.Second.{age_of, is_due_now, present, second, seconds, triggers_now, turn_of}
 use Rattle.device_notifications.specs.declared.datagram.Datagram.{Datagram}
-use Rattle.device_notifications.proofs.Turns.{both, by_all, first_of, of_option, weaker}
+use Rattle.device_notifications.proofs.Turns.{by_all, first_of, of_option, due_waits}
 use Rattle.laws_device.specs.Notifying.{IsCaused, IsCausedBy, IsCausedInOneOf, NotifiesForCause, Passes}
 use Rattle.laws_device.specs.Notifying.{SecondsNotifyForCause, condition}
 use Rattle.laws_device.specs.Notifying.IsCaused.{elapsed, passed, changed}
@@ -122,10 +123,6 @@ trigger_of_payloads gt lt st (Some x) (Some y) p q h e =
 
 -- ---- what is due
 
-due_waits : (age pmin : ℕ) (pmax : Option ℕ) (t : Bool) → is_due age pmin pmax t ≡ true → pmin ≤ age
-due_waits age pmin None t h = grind (arith, nat_tests)
-due_waits age pmin (Some m) t h = grind (arith, nat_tests)
-
 over_now : (age pmin pmax : ℕ) → is_due age pmin (Some pmax) false ≡ true
     → (0 < pmax) × (pmin ≤ pmax) × (pmax ≤ age)
 over_now age pmin pmax h = (grind (arith, nat_tests), grind (arith, nat_tests), grind (arith, nat_tests))
@@ -190,9 +187,6 @@ due_of client clock o w (changed none n) =
 
 -- ---- each datagram of a second, and of more
 
-pub later_of : {X : Type 0} (y x : X) (xs : List X) → Contains xs x → Contains (y ∷ xs) x
-later_of y x xs h = (suc h.0, omega (arith, h.1), h.2)
-
 sent_by : (client : Client) (clock next_id : ℕ) (o : Observation) (os : List Observation)
     → AllByRecursion (IsCausedBy client clock (o ∷ os)) (turn_of client clock next_id o).sent
 sent_by client clock next_id o os =
@@ -233,9 +227,9 @@ sent_by client clock next_id o os =
 pub for_cause : NotifiesForCause
 for_cause client clock next_id [] = tt
 for_cause client clock next_id (o ∷ os) =
-    both _ (turn_of client clock next_id o).sent _ (sent_by client clock next_id o os)
-    (weaker (IsCausedBy client clock os) (IsCausedBy client clock (o ∷ os))
-    (λ d h. (h.0, later_of o h.0 os h.1, h.2)) _
+    each_appended _ (turn_of client clock next_id o).sent _ (sent_by client clock next_id o os)
+    (each_weaker (IsCausedBy client clock os) (IsCausedBy client clock (o ∷ os))
+    (λ d h. (h.0, contains_later o h.0 os h.1, h.2)) _
     (for_cause client clock (turn_of client clock next_id o).next_id os))
 
 in_first : (client : Client) (clock n next_id : ℕ) (os : List Observation) (d : Datagram)
@@ -259,10 +253,12 @@ pub seconds_for_cause : SecondsNotifyForCause
 seconds_for_cause client clock zero next_id os = tt
 seconds_for_cause client clock (suc n) next_id os =
     let t = second client (clock + 1) next_id os in
-    both (IsCausedInOneOf client clock (suc n) next_id os) t.sent (seconds client (clock + 1) n t.next_id t.left).sent
-    (weaker (IsCausedBy client (clock + 1) os) (IsCausedInOneOf client clock (suc n) next_id os)
+    each_appended (IsCausedInOneOf client clock (suc n) next_id os) t.sent
+    (seconds client (clock + 1) n t.next_id t.left).sent
+    (each_weaker (IsCausedBy client (clock + 1) os) (IsCausedInOneOf client clock (suc n) next_id os)
     (in_first client clock n next_id os) t.sent (for_cause client (clock + 1) next_id os))
-    (weaker (IsCausedInOneOf client (clock + 1) n t.next_id t.left) (IsCausedInOneOf client clock (suc n) next_id os)
+    (each_weaker (IsCausedInOneOf client (clock + 1) n t.next_id t.left)
+    (IsCausedInOneOf client clock (suc n) next_id os)
     (in_later client clock n next_id os)
     (seconds client (clock + 1) n t.next_id t.left).sent
     (seconds_for_cause client (clock + 1) n t.next_id t.left))

@@ -1,23 +1,17 @@
 -- What an event changes of a device.
-use Rattle.std.proofs.Common.{◌≡◌, ◌≢◌, ℕ, ◌==◌, Bool, true, false, cond, not, List, [], ◌∷◌, Option, None, Some}
+use Rattle.std.proofs.Common.{◌≡◌, ◌≢◌, ℕ, Bool, true, false, cond, not, List, [], ◌∷◌, Option, None, Some}
 use Rattle.std.proofs.Common.{Result, refl, sym, ap, subst, ◌∙◌}
 use Rattle.std.specs.Bool.{if◌then◌else◌}
 use Rattle.std.specs.List.{filter}
 use Rattle.std.specs.Option.{option_map}
-use Rattle.std.specs.Cmp.{eq_by_cmp_equiv}
-use Rattle.std.specs.Str.{bytes_eq}
-use Rattle.std.proofs.lemmas.Bool.Decides.{Decides-eqb}
-use Rattle.std.proofs.lemmas.Slice.Eq.{bytes_eq-Decides}
-use Rattle.std.proofs.lemmas.Bool.{and_from}
 use Rattle.lemmas.proofs.Options.{some_from_test, none_from_test}
 use Rattle.coap_codec.specs.Message.{Message}
 use Rattle.lwm2m_values.specs.declared.value.Value.{Value}
 use Rattle.object_defs.specs.Path.{full_path}
 use Rattle.object_defs.specs.declared.path.FullPath.{FullPath}
 use Rattle.object_defs.specs.declared.path.Path.{Path}
-use Rattle.object_defs.proofs.PathOrder.{path_total}
 use Rattle.instance_store.specs.Stored.{Stored, value_at, with_value}
-use Rattle.instance_store.proofs.SetValues.{value_after, value_elsewhere}
+use Rattle.instance_store.proofs.SetValues.{value_elsewhere}
 use Rattle.notifier.specs.Observed.{cancelled, is_named, next_number, number_for, registered}
 use Rattle.notifier.specs.declared.observation.Observation.{Observation}
 use Rattle.device_firmware.specs.Firmware.{firmware_after, outcome_in, uri_of, with_outcome, with_uri}
@@ -37,6 +31,7 @@ use Rattle.device_requests.specs.declared.operation.Operation.TheVariants.{Read,
 use Rattle.device_requests.specs.declared.operation.Operation.TheVariants.{WriteReplace, WritePartial, Create, Execute}
 use Rattle.device_requests.specs.declared.operation.Operation.TheVariants.{Delete}
 use Rattle.device_requests.specs.declared.request.Request.{Request}
+use Rattle.device_requests.proofs.ReadBack.{value_there}
 use Rattle.laws_requests.specs.Done.{Changes, DoneIsChanged}
 use Rattle.laws_requests.specs.Taken.{IsTaken}
 use Rattle.laws_requests.proofs.Taking.{is_taken}
@@ -45,6 +40,7 @@ use Rattle.device_machine.specs.Observing.{begun, entered, lacks_place, noted_by
 use Rattle.device_machine.specs.Reactions.{flat_after, on_firmware}
 use Rattle.device_machine.specs.State.{Kept, Machine, with_client}
 use Rattle.device_machine.specs.declared.event.Event.TheVariants.{Put, Recv}
+use Rattle.device_machine.proofs.Counting.{named_self}
 use Rattle.laws_device.specs.Changing.{EndsAreTaken, EndsMiss, PutsMiss, PutsSetOne, RequestsAreDone}
 use Rattle.laws_device.specs.Changing.{SetsOne}
 use Rattle.laws_device.proofs.Received.{observed}
@@ -52,10 +48,6 @@ use Rattle.laws_device.proofs.Senders.{end_missed, end_stores, put_missed, put_s
 use Rattle.laws_device.proofs.Served.{served}
 
 -- ---- the observations of other names
-
-named_self : (o : Observation) → is_named o.server o.token o ≡ true
-named_self o = and_from (o.server == o.server) (bytes_eq o.token o.token) ((Decides-eqb o.server o.server).1 refl)
-    ((bytes_eq-Decides o.token o.token).1 refl)
 
 filter_twice : {X : Type 0} (p : X → Bool) (xs : List X) → filter p (filter p xs) ≡ filter p xs
 filter_twice p [] = refl
@@ -157,10 +149,6 @@ are_done law f server bytes m path operation fresh kind asks code =
 
 -- ---- a value
 
-there : (s : Stored) (p : FullPath) (v : Value) → value_at (with_value s p v) p ≡ Some v
-there s p v =
-    value_after s p p v ∙ ap (λ (b : Bool). cond b (Some v) (value_at s p)) ((eq_by_cmp_equiv path_total).refl p)
-
 sets : (f : Machine) (path : Path) (value : Value) (place : Option FullPath) → full_path path ≡ place
     → misses f.kept.client.catalog f.kept.client.store place value ≡ false → SetsOne f path value
 sets f path value None e h = cc
@@ -174,7 +162,7 @@ sets f path value (Some p) e h =
     record {
       place = p;
       names = e;
-      set = ap (λ (t : Stored). value_at t p) now ∙ there s p value;
+      set = ap (λ (t : Stored). value_at t p) now ∙ value_there s p value;
       others = λ q other. ap (λ (t : Stored). value_at t q) now ∙ value_elsewhere s p q value other;
       rest = put_stores f path value fits;
     }

@@ -5,7 +5,7 @@ use Rattle.std.specs.Bool.{if◌then◌else◌}
 use Rattle.std.specs.List.{AllByRecursion, list_any}
 use Rattle.std.specs.Option.{is_some}
 use Rattle.std.proofs.Math.Bool.{and-false}
-use Rattle.lemmas.proofs.Lists.{each_filtered}
+use Rattle.lemmas.proofs.Lists.{each_filtered, each_appended}
 use Rattle.coap_codec.specs.Message.{Message, spelling}
 use Rattle.coap_codec.specs.Reading.{reading_of}
 use Rattle.coap_codec.specs.declared.kind.Kind.TheVariants.{Con, Non}
@@ -26,7 +26,7 @@ use Rattle.device_notifications.specs.Message.{notification, resent}
 use Rattle.device_notifications.specs.Second.{Sweep, next_notification, notified_kind, present, second, seconds}
 use Rattle.device_notifications.specs.Second.{turn_of}
 use Rattle.device_notifications.specs.declared.datagram.Datagram.{Datagram}
-use Rattle.device_notifications.proofs.Turns.{both, by_all}
+use Rattle.device_notifications.proofs.Turns.{by_all}
 use Rattle.device_machine.specs.Observing.{noted}
 use Rattle.device_machine.specs.Reactions.{Reaction, on_datagram, on_firmware, reaction_to, reply_to}
 use Rattle.device_machine.specs.Reactions.{send_of, silence, sweep_in}
@@ -93,7 +93,11 @@ second_nons client clock next_id (o ∷ os) non h =
     let u = second client clock t.next_id os in
     let a = turn_nons client clock next_id o non h.0 in
     let b = second_nons client clock t.next_id os non h.1 in
-    record { sent = both IsNon t.sent u.sent a.sent b.sent; left = both IsClosed t.left u.left a.left b.left }
+    record {
+      sent = each_appended IsNon t.sent u.sent a.sent b.sent;
+      left =
+          each_appended IsClosed t.left u.left a.left b.left;
+    }
 
 seconds_nons : (client : Client) (clock n next_id : ℕ) (os : List Observation) → client.notify ≡ 0
     → AllByRecursion IsClosed os → Nons (seconds client clock n next_id os)
@@ -103,7 +107,7 @@ seconds_nons client clock (suc n) next_id os non h =
     let a = second_nons client (clock + 1) next_id os non h in
     let b = seconds_nons client (clock + 1) n t.next_id t.left non a.left in
     record {
-      sent = both IsNon t.sent (seconds client (clock + 1) n t.next_id t.left).sent a.sent b.sent;
+      sent = each_appended IsNon t.sent (seconds client (clock + 1) n t.next_id t.left).sent a.sent b.sent;
       left = b.left;
     }
 

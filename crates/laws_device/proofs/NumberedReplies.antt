@@ -5,7 +5,7 @@ use Rattle.std.specs.Bool.{if◌then◌else◌}
 use Rattle.std.specs.List.{AllByRecursion, Contains}
 use Rattle.std.proofs.lemmas.List.Elements.{Contains-append_right}
 use Rattle.std.proofs.lemmas.Option.{none-some}
-use Rattle.lemmas.proofs.Lists.{each_filtered}
+use Rattle.lemmas.proofs.Lists.{each_filtered, each_appended}
 use Rattle.coap_codec.specs.Message.{Message, Spells, kind_number, options_bytes, payload_bytes, spelling}
 use Rattle.coap_codec.specs.declared.kind.Kind.{Kind}
 use Rattle.coap_codec.specs.declared.kind.Kind.TheVariants.{Con, Non, Ack, Rst}
@@ -27,7 +27,7 @@ use Rattle.device_requests.specs.declared.answer.Act.TheVariants.{Missed}
 use Rattle.device_requests.specs.declared.answer.Answer.{Answer}
 use Rattle.device_requests.specs.declared.answer.Code.TheVariants.{BadOption}
 use Rattle.device_requests.specs.declared.observe.Interest.{Interest}
-use Rattle.device_notifications.proofs.Turns.{both, first_of}
+use Rattle.device_notifications.proofs.Turns.{first_of}
 use Rattle.device_machine.specs.Laws.{IsFresh}
 use Rattle.device_machine.specs.Observing.{noted_by, replies_non, reply_mid}
 use Rattle.device_machine.specs.Reactions.{Reaction, acted, again, on_firmware, reaction_to, record_of}
@@ -264,7 +264,7 @@ served_numbers before f server bytes m h b s =
         observations = subst (λ os. AllByRecursion (WasSent (before ++ os)) r.flat.kept.observations) (sym s.sent)
             (subst (λ os. AllByRecursion (WasSent (before ++ (reply ++ acts))) os) (sym left) told);
         replies = subst (λ rs. AllByRecursion IsAcknowledged rs) (sym s.recorded)
-            (both IsAcknowledged f.recorded
+            (each_appended IsAcknowledged f.recorded
             (record_of f.kept server m (option_map spelling s.reply) ∷ []) h.replies
             (recorded_reply f server m s.number outcome.answer s.reply r.flat.kept.next_id s.replies, tt));
       };

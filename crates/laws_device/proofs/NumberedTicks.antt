@@ -7,6 +7,7 @@ use Rattle.std.specs.Option.{option_to_list}
 use Rattle.std.proofs.lemmas.List.{append_assoc, map-append}
 use Rattle.std.proofs.lemmas.List.Elements.{Contains-append_left, Contains-append_right}
 use Rattle.std.proofs.lemmas.Option.{none-some, same_Some}
+use Rattle.lemmas.proofs.Lists.{each_appended, each_weaker}
 use Rattle.coap_codec.specs.Message.{Message, spelling}
 use Rattle.coap_codec.specs.declared.kind.Kind.TheVariants.{Con, Non}
 use Rattle.notifier.specs.Observed.{next_number}
@@ -18,7 +19,7 @@ use Rattle.device_notifications.specs.Message.{notification, open_notification, 
 use Rattle.device_notifications.specs.Second.{Sweep, next_notification, notified_kind, present, second, seconds}
 use Rattle.device_notifications.specs.Second.{sends_nons, told, turn_of}
 use Rattle.device_notifications.specs.declared.datagram.Datagram.{Datagram}
-use Rattle.device_notifications.proofs.Turns.{both, by_all, first_of, weaker}
+use Rattle.device_notifications.proofs.Turns.{by_all, first_of}
 use Rattle.device_machine.specs.Reactions.{send_of}
 use Rattle.device_machine.specs.State.{Machine}
 use Rattle.device_machine.specs.declared.event.Event.{Event}
@@ -44,7 +45,7 @@ sent_still before more o h =
 
 pub all_still : (before more : List Output) (os : List Observation) → AllByRecursion (WasSent before) os
     → AllByRecursion (WasSent (before ++ more)) os
-all_still before more os h = weaker (WasSent before) (WasSent (before ++ more)) (sent_still before more) os h
+all_still before more os h = each_weaker (WasSent before) (WasSent (before ++ more)) (sent_still before more) os h
 
 -- ---- a turn
 
@@ -148,7 +149,7 @@ second_numbers event before client clock next_id (o ∷ os) h =
     record {
       given = given_in_all event before t.sent u.sent next_id t.next_id u.next_id a.given b.given;
       left = subst (λ sent. AllByRecursion (WasSent sent) (t.left ++ u.left)) (all_of before t.sent u.sent)
-          (both (WasSent (before ++ first ++ map send_of u.sent)) t.left u.left
+          (each_appended (WasSent (before ++ first ++ map send_of u.sent)) t.left u.left
           (all_still (before ++ first) (map send_of u.sent) t.left a.left) b.left);
     }
 

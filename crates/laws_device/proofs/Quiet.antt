@@ -11,7 +11,8 @@ use Rattle.device_notifications.specs.Laws.StayInOrder.{none, stays, goes, expir
 use Rattle.device_notifications.specs.Outlooks.{outlooks_of}
 use Rattle.device_notifications.specs.Second.{Sweep, and_then, quiet, second, seconds}
 use Rattle.device_notifications.proofs.Resting.{first_due, first_sending, jumps, loud_second, none_left, none_right}
-use Rattle.device_notifications.proofs.Resting.{quiet_second, quiet_seconds, rests_by_second, no_more_left}
+use Rattle.device_notifications.proofs.Resting.{quiet_second, quiet_seconds, rests_by_second}
+use Rattle.device_notifications.proofs.Jumps.{no_more_then}
 use Rattle.device_machine.specs.Reactions.{send_of, sweep_in}
 use Rattle.device_machine.specs.State.{Machine}
 use Rattle.laws_device.specs.Ticking.{DueEndsQuiet, EndsQuiet, IsQuiet, QuietEndsWhenDue, QuietNeverEnds}
@@ -34,15 +35,6 @@ no_more client clock _ _ none = omega arith
 no_more client clock _ _ (stays o p os ps is h) = let rest = no_more client clock os ps h in omega (arith, rest)
 no_more client clock _ _ (goes o os ps is gone h) = let rest = no_more client clock os ps h in omega (arith, rest)
 no_more client clock _ _ (expires o os ps is h) = let rest = no_more client clock os ps h in omega (arith, rest)
-
-few_later : (client : Client) (clock n next_id : ℕ) (os : List Observation)
-    → length (seconds client clock n next_id os).left ≤ length os
-few_later client clock zero next_id os = omega arith
-few_later client clock (suc n) next_id os =
-    let t = second client (clock + 1) next_id os in
-    let first = no_more_left client (clock + 1) next_id os in
-    let later = few_later client (clock + 1) n t.next_id t.left in
-    omega (arith, first, later)
 
 -- a second that sends nothing and leaves as many as there were is one in which nothing is due
 rests_by : (client : Client) (clock next_id : ℕ) (os : List Observation) (b : Bool)
@@ -69,7 +61,7 @@ rests_on : (client : Client) (clock n next_id : ℕ) (os : List Observation)
 rests_on client clock n next_id os sent left =
     let t = second client (clock + 1) next_id os in
     let rest = seconds client (clock + 1) n t.next_id t.left in
-    let few = few_later client (clock + 1) n t.next_id t.left in
+    let few = no_more_then client (clock + 1) n t.next_id t.left in
     let first = rests_by client (clock + 1) next_id os _ refl (none_left t.sent rest.sent sent)
     (omega (arith, left, few)) in
     let still = quiet_second client (clock + 1) next_id os first in

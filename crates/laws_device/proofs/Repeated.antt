@@ -8,7 +8,7 @@ use Rattle.lemmas.proofs.Lists.{each_weaker}
 use Rattle.coap_codec.specs.Message.{Message, kind_number}
 use Rattle.coap_codec.specs.Reading.{kind_of}
 use Rattle.coap_codec.specs.declared.kind.Kind.{Kind}
-use Rattle.coap_codec.specs.declared.kind.Kind.TheVariants.{Con, Non, Ack, Rst}
+use Rattle.coap_codec.proofs.OneReading.{kind_again}
 use Rattle.device_machine.specs.Reactions.{is_same}
 use Rattle.device_machine.specs.Reactions.{repeat_of}
 use Rattle.device_machine.specs.State.{Machine, is_live, lifetime}
@@ -71,12 +71,6 @@ finds_none p [] h = refl
 finds_none p (y ∷ xs) h = ap (λ b. cond b (Some y) (find p xs)) h.0 ∙ finds_none p xs h.1
 
 -- ---- which recorded requests are repeated
-
-pub kind_again : (k : Kind) → kind_of (kind_number k) ≡ k
-kind_again Con = refl
-kind_again Non = refl
-kind_again Ack = refl
-kind_again Rst = refl
 
 pub same_kind : (a b : Kind) → kind_number a ≡ kind_number b → a ≡ b
 same_kind a b h = sym (kind_again a) ∙ ap kind_of h ∙ kind_again b

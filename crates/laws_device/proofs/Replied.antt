@@ -1,22 +1,19 @@
 -- What a device replies are messages, and it stays sound.
 use Rattle.std.proofs.Common.{◌≡◌, ℕ, ◌<◌, ◌≤◌, ◌==◌, Bool, true, false}
-use Rattle.std.proofs.Common.{not, ◌&&◌, ◌⊎◌, inl, inr, List, [], ◌∷◌, ◌++◌, length, cond, Option, None, Some}
+use Rattle.std.proofs.Common.{not, ◌&&◌, ◌⊎◌, inl, inr, List, [], ◌∷◌, length, cond, Option, None, Some}
 use Rattle.std.proofs.Common.{Result, Ok, Err, option_map, slice_index, refl, sym, subst, arith}
 use Rattle.std.specs.Bool.{if◌then◌else◌}
 use Rattle.std.specs.List.{AllByRecursion, find}
 use Rattle.std.proofs.lemmas.Bool.Decides.{nat_tests}
 use Rattle.std.proofs.lemmas.Option.{none-some}
-use Rattle.lemmas.proofs.Lists.{each_filtered}
-use Rattle.coap_codec.specs.Message.{IsOptionList, IsWellFormed, Message, spelling}
+use Rattle.lemmas.proofs.Lists.{each_filtered, each_appended}
+use Rattle.coap_codec.specs.Message.{IsWellFormed, Message, spelling}
 use Rattle.coap_codec.specs.declared.kind.Kind.{Kind}
 use Rattle.coap_codec.specs.declared.kind.Kind.TheVariants.{Con, Non, Ack, Rst}
 use Rattle.coap_codec.proofs.OneReading.{read_spelling}
 use Rattle.notifier.specs.Observed.{was_sent}
-use Rattle.object_defs.specs.declared.path.InstancePath.{InstancePath}
 use Rattle.device_requests.specs.declared.answer.Answer.{Answer}
-use Rattle.device_notifications.specs.Message.{format_options}
-use Rattle.device_notifications.proofs.Turns.{both}
-use Rattle.device_machine.specs.Reactions.{IsShort, answer_options, location_options, response}
+use Rattle.device_machine.specs.Reactions.{IsShort, answer_options, response}
 use Rattle.device_machine.specs.State.{Machine}
 use Rattle.coap_codec.specs.Reading.{reading_of}
 use Rattle.coap_codec.specs.declared.fault.CoapFault.{CoapFault}
@@ -43,6 +40,7 @@ use Rattle.device_firmware.specs.declared.event.FirmwareEvent.TheVariants.{Ended
 use Rattle.instance_store.specs.Stored.{Stored}
 use Rattle.object_defs.specs.Path.{full_path}
 use Rattle.device_machine.specs.declared.recorded.Recorded.{Recorded}
+use Rattle.device_machine.proofs.Naming.{in_order}
 use Rattle.laws_device.specs.Messages.{Arrives, DatagramsAreMessages, HasMessages, HasReply, IsReply}
 use Rattle.laws_device.specs.Serving.{IsServed, Replies}
 use Rattle.laws_device.specs.Serving.Replies.{acknowledges, answers, rejects}
@@ -50,26 +48,9 @@ use Rattle.laws_device.proofs.Each.{acknowledged_each, noted_each}
 use Rattle.laws_device.proofs.Received.{observed}
 use Rattle.laws_device.proofs.Served.{first, served}
 use Rattle.laws_device.specs.Messages.{IsMessage, IsSound, SendsMessage}
-use Rattle.laws_device.proofs.Spelled.{Keeps, format_follows, id_fits, numbered, spelled, ticks}
+use Rattle.laws_device.proofs.Spelled.{Keeps, id_fits, spelled, ticks}
 
 -- ---- what arrives
-
-location_follows : (before : ℕ) (location : Option InstancePath) (format : Option ℕ) → before ≤ 8 → IsShort location
-    → IsOptionList before (location_options location ++ format_options format)
-location_follows before None format b h = format_follows before format (omega (arith))
-location_follows before (Some place) format b h = (
-  record { ascends = omega (arith); in_range = omega (arith); fits = omega (arith, h.0) },
-  (
-    record { ascends = omega (arith); in_range = omega (arith); fits = omega (arith, h.1) },
-    format_follows 8 format (omega (arith)),
-  ),
-)
-
-in_order : (number : Option ℕ) (location : Option InstancePath) (format : Option ℕ) → IsShort location
-    → IsOptionList 0 (answer_options number location format)
-in_order number location format h =
-    numbered 0 6 number (location_options location ++ format_options format) (omega (arith)) (omega (arith))
-    (location_follows 0 location format (omega (arith)) h) (location_follows 6 location format (omega (arith)) h)
 
 answered : (kind : Kind) (mid : ℕ) (token : List ℕ) (number : Option ℕ) (answer : Answer) → mid < 65536
     → length token ≤ 8 → IsShort answer.location → IsMessage (spelling (response kind mid token number answer))
@@ -139,7 +120,7 @@ served_fits f server bytes m h good s served =
     (flat_after f (Recv server bytes)).kept.observations served.observes).left_is in
     record {
       sent = subst (λ os. AllByRecursion SendsMessage os) (sym served.sent)
-          (both SendsMessage (sent_to server bytes_sent) (acted outcome.answer.act)
+          (each_appended SendsMessage (sent_to server bytes_sent) (acted outcome.answer.act)
           (sent_message server bytes_sent fits.0) (acts outcome.answer.act));
       sound = record {
         next_id = fits.1;
@@ -147,7 +128,7 @@ served_fits f server bytes m h good s served =
             (observed_fits (with_client f.kept outcome.client) server m outcome.answer (interest_of m) h.observations
             good.token);
         replies = subst (λ rs. AllByRecursion HasReply rs) (sym served.recorded)
-            (both HasReply f.recorded (record_of f.kept server m bytes_sent ∷ []) h.replies (fits.0, tt));
+            (each_appended HasReply f.recorded (record_of f.kept server m bytes_sent ∷ []) h.replies (fits.0, tt));
       };
     }
 

@@ -3,6 +3,8 @@ use Rattle.std.proofs.Common.{◌≡◌, ℕ, ◌==◌, Bool, true, false, ◌�
 use Rattle.std.proofs.Common.{Result, Ok, Err, option_map, refl, sym, ap, ◌∙◌}
 use Rattle.std.specs.Bool.{if◌then◌else◌}
 use Rattle.std.specs.List.{AllByRecursion}
+use Rattle.lemmas.proofs.Lists.{each_appended}
+use Rattle.lemmas.proofs.Tests.{either}
 use Rattle.coap_codec.specs.Message.{Message, spelling}
 use Rattle.coap_codec.specs.Reading.{reading_of}
 use Rattle.coap_codec.specs.declared.fault.CoapFault.{CoapFault}
@@ -29,7 +31,6 @@ use Rattle.device_machine.specs.State.{Machine, with_client}
 use Rattle.device_machine.specs.declared.recorded.Recorded.{Recorded}
 use Rattle.device_machine.specs.declared.event.Event.TheVariants.{Firmware, Put, Recv}
 use Rattle.device_machine.specs.declared.output.Output.TheVariants.{Act}
-use Rattle.device_notifications.proofs.Turns.{both}
 use Rattle.laws_device.specs.Sending.{FirmwareSendsNothing, IsMissed, IsTo, OnlyStores, OnlyTheAskerIsAnswered}
 use Rattle.laws_device.specs.Sending.{PutsSendNothing, StrangersAreIgnored}
 
@@ -38,11 +39,6 @@ strangers f server bytes h =
     let ignored : reaction_to f (Recv server bytes) ≡ silence f =
     ap (λ b. if b then on_datagram f server bytes (reading_of bytes) else silence f) h in
     (ap (λ r. r.outputs) ignored, ap (λ r. r.flat) ignored)
-
--- whichever of two it is
-either : {X : Type 0} (P : X → Type 0) (b : Bool) (x y : X) → P x → P y → P (if b then x else y)
-either P true x y h k = h
-either P false x y h k = k
 
 -- all that a reaction sends goes to this server
 abbrev IsAllTo : ℕ → Reaction → Type 0
@@ -68,7 +64,7 @@ answered_it f server m None =
     let outcome = outcome_of f.kept.client server m in
     let told = noted (with_client f.kept outcome.client) server m outcome.answer in
     let reply = option_map spelling (reply_to f.kept.next_id m m.kind told.number outcome.answer) in
-    both (IsTo server) (sent_to server reply) (acted outcome.answer.act) (reply_to_it server reply)
+    each_appended (IsTo server) (sent_to server reply) (acted outcome.answer.act) (reply_to_it server reply)
     (act_to_none server outcome.answer.act)
 answered_it f server m (Some r) = repeated_to_it server m.kind r.reply
 

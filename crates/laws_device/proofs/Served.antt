@@ -9,7 +9,7 @@ use Rattle.object_defs.specs.Lines.{first_line}
 use Rattle.object_defs.specs.declared.path.Path.{Path}
 use Rattle.notifier.specs.Observed.{cancelled, number_for, registered}
 use Rattle.notifier.specs.declared.observation.Observation.{Observation}
-use Rattle.device_requests.specs.Answer.{Outcome, code_byte, is_content, is_content_code}
+use Rattle.device_requests.specs.Answer.{Outcome, code_byte, is_content}
 use Rattle.std.proofs.lemmas.List.{append-nil}
 use Rattle.std.proofs.lemmas.Option.{same_Some}
 use Rattle.lemmas.proofs.Tests.{never_both}
@@ -19,10 +19,7 @@ use Rattle.device_requests.specs.Options.{has_unrecognized_critical, path_of, se
 use Rattle.device_requests.specs.Request.{outcome_of}
 use Rattle.device_requests.specs.declared.answer.Answer.{Answer}
 use Rattle.device_requests.specs.declared.answer.Code.{Code}
-use Rattle.device_requests.specs.declared.answer.Code.TheVariants.{Created, Deleted, Changed, Content, BadRequest}
-use Rattle.device_requests.specs.declared.answer.Code.TheVariants.{Unauthorized, BadOption, NotFound, MethodNotAllowed}
-use Rattle.device_requests.specs.declared.answer.Code.TheVariants.{NotAcceptable, UnsupportedContentFormat}
-use Rattle.device_requests.specs.declared.answer.Code.TheVariants.{InternalServerError}
+use Rattle.device_requests.specs.declared.answer.Code.TheVariants.{BadOption}
 use Rattle.device_requests.specs.declared.observe.Interest.{Interest}
 use Rattle.device_requests.specs.declared.observe.Interest.TheVariants.{Cancel, Register}
 use Rattle.device_requests.proofs.Answering.{says}
@@ -36,20 +33,12 @@ use Rattle.device_machine.specs.State.{Kept, Machine, with_client, with_observat
 use Rattle.device_machine.specs.declared.event.Event.TheVariants.{Recv}
 use Rattle.device_machine.specs.declared.recorded.Recorded.{Recorded}
 use Rattle.device_machine.proofs.Repeating.{client_after, reached}
-use Rattle.device_machine.proofs.Refusing.{observations_after}
+use Rattle.device_machine.proofs.Refusing.{observations_after, not_content}
+use Rattle.device_machine.proofs.Living.{clock_after}
 use Rattle.laws_device.specs.Serving.{ConfirmableRefusals, IsRefused, IsServed, NonConfirmableRefusals}
 use Rattle.laws_device.specs.Serving.{NonConfirmableRejects, Observes, Replies, RequestsAreServed, bare_reply, id_after}
 use Rattle.laws_device.specs.Serving.Observes.{asks_nothing, cancels, finds_no_place, is_refused, registers}
 use Rattle.laws_device.specs.Serving.Replies.{acknowledges, answers, rejects}
-
--- ---- what is kept
-
-kept_clock : (k : Kept) (kind : Kind) (reply : Option Message) → (kept_after k kind reply).clock ≡ k.clock
-kept_clock k Con reply = refl
-kept_clock k Non None = refl
-kept_clock k Non (Some reply) = refl
-kept_clock k Ack reply = refl
-kept_clock k Rst reply = refl
 
 -- ---- a fresh request is answered
 
@@ -148,7 +137,7 @@ serves f server m outcome h =
           (sym (observations_after k m.kind reply))
           (observes_by before server m outcome.answer (interest_of m) refl);
       client = client_after k m.kind reply;
-      clock = kept_clock k m.kind reply;
+      clock = clock_after k m.kind reply;
     }
 
 pub served : RequestsAreServed
@@ -168,20 +157,6 @@ served f server bytes m fresh k =
     }
 
 -- ---- refusals
-
-not_content : (code : Code) → is_refusal code ≡ true → is_content_code code ≡ false
-not_content Created h = refl
-not_content Deleted h = refl
-not_content Changed h = refl
-not_content Content h = cc
-not_content BadRequest h = refl
-not_content Unauthorized h = refl
-not_content BadOption h = refl
-not_content NotFound h = refl
-not_content MethodNotAllowed h = refl
-not_content NotAcceptable h = refl
-not_content UnsupportedContentFormat h = refl
-not_content InternalServerError h = refl
 
 other_kind : (kind : Kind) → kind ≡ Con → kind ≡ Non → ⊥
 other_kind kind h k = cc

@@ -1,12 +1,12 @@
 -- The datagrams that a device sends of its own are messages.
-use Rattle.std.proofs.Common.{◌≡◌, ℕ, zero, suc, ◌+◌, ◌/◌, ◌%◌, ◌<◌, ◌≤◌, nat_lt, Bool, true, false}
+use Rattle.std.proofs.Common.{◌≡◌, ℕ, zero, suc, ◌+◌, ◌%◌, ◌<◌, ◌≤◌, Bool, true, false}
 use Rattle.std.proofs.Common.{List, [], ◌∷◌, ◌++◌, length, map, Option, None, Some}
 use Rattle.std.proofs.Common.{option_map, refl, subst, arith}
 use Rattle.std.specs.Bool.{if◌then◌else◌}
 use Rattle.std.specs.List.{AllByRecursion}
 use Rattle.std.proofs.lemmas.Option.{same_Some, none-some}
+use Rattle.lemmas.proofs.Lists.{each_appended}
 use Rattle.coap_codec.specs.Message.{IsOptionList, IsWellFormed, Message, spelling}
-use Rattle.coap_codec.specs.Number.{shortest}
 use Rattle.coap_codec.specs.Options.{number_option}
 use Rattle.coap_codec.specs.declared.option.Opt.{Opt}
 use Rattle.coap_codec.specs.declared.kind.Kind.{Kind}
@@ -27,40 +27,17 @@ use Rattle.device_notifications.specs.Message.{datagram_of, format_options, open
 use Rattle.device_notifications.specs.Second.{Sweep, next_notification, notified_kind, present, second, seconds}
 use Rattle.device_notifications.specs.Second.{sends_nons, told, turn_of}
 use Rattle.device_notifications.specs.declared.datagram.Datagram.{Datagram}
-use Rattle.device_notifications.proofs.Turns.{both, by_all, of_option}
+use Rattle.device_notifications.proofs.Turns.{by_all, of_option}
+use Rattle.device_notifications.proofs.Options.{format_follows}
 use Rattle.device_machine.specs.Reactions.{send_of, sweep_in}
 use Rattle.device_machine.specs.State.{Machine}
 use Rattle.device_machine.specs.Reactions.{Reaction}
 use Rattle.device_machine.specs.Reactions.{reaction_to}
 use Rattle.device_machine.specs.declared.event.Event.TheVariants.{Tick}
+use Rattle.device_machine.proofs.Naming.{numbered}
 use Rattle.laws_device.specs.Messages.{HasMessages}
 use Rattle.laws_device.proofs.Served.{first}
 use Rattle.laws_device.specs.Messages.{IsMessage, IsSound, SendsMessage, StartsSound}
-
--- ---- options are in order, and short
-
-short_choice : (a b c d : Bool) (n : ℕ)
-    → length (if a then [] else (if b then n ∷ [] else (if c then n / 256 ∷ n % 256 ∷ []
-    else (if d then n / 65536 ∷ n / 256 % 256 ∷ n % 256 ∷ []
-    else n / 16777216 ∷ n / 65536 % 256 ∷ n / 256 % 256 ∷ n % 256 ∷ [])))) ≤ 65804
-short_choice true b c d n = omega (arith)
-short_choice false true c d n = omega (arith)
-short_choice false false true d n = omega (arith)
-short_choice false false false true n = omega (arith)
-short_choice false false false false n = omega (arith)
-
-short_number : (n : ℕ) → length (shortest n) ≤ 65804
-short_number n = short_choice (nat_lt n 1) (nat_lt n 256) (nat_lt n 65536) (nat_lt n 16777216) n
-
-pub numbered : (before option : ℕ) (number : Option ℕ) (rest : List Opt) → before ≤ option → option ≤ 12
-    → IsOptionList before rest → IsOptionList option rest → IsOptionList before (number_option option number ++ rest)
-numbered before option None rest h k l m = l
-numbered before option (Some n) rest h k l m =
-    (record { ascends = h; in_range = omega (arith); fits = short_number n }, m)
-
-pub format_follows : (before : ℕ) (format : Option ℕ) → before ≤ 12 → IsOptionList before (format_options format)
-format_follows before None h = tt
-format_follows before (Some f) h = (record { ascends = h; in_range = omega (arith); fits = short_number f }, tt)
 
 -- ---- a message with a code of class 2, 4 or 5
 
@@ -191,8 +168,8 @@ second_fits client clock next_id (o ∷ os) h k =
     let a = turn_fits client clock next_id o h.0 k in
     let b = second_fits client clock t.next_id os h.1 a.next_id in
     record {
-      sent = both HasMessage t.sent u.sent a.sent b.sent;
-      left = both HasMessages t.left u.left a.left b.left;
+      sent = each_appended HasMessage t.sent u.sent a.sent b.sent;
+      left = each_appended HasMessages t.left u.left a.left b.left;
       next_id = b.next_id;
     }
 
@@ -205,7 +182,7 @@ seconds_fit client clock (suc n) next_id os h k =
     let a = second_fits client (clock + 1) next_id os h k in
     let b = seconds_fit client (clock + 1) n t.next_id t.left a.left a.next_id in
     record {
-      sent = both HasMessage t.sent (seconds client (clock + 1) n t.next_id t.left).sent a.sent b.sent;
+      sent = each_appended HasMessage t.sent (seconds client (clock + 1) n t.next_id t.left).sent a.sent b.sent;
       left = b.left;
       next_id = b.next_id;
     }

@@ -1,6 +1,7 @@
 -- What holds of seconds holds of ticks.
 use Rattle.std.proofs.Common.{◌≡◌, ℕ, zero, suc, List, [], ◌∷◌, map, refl, sym, ap, subst, arith}
 use Rattle.std.specs.List.{AllByRecursion, Contains}
+use Rattle.lemmas.proofs.Lists.{contains_later}
 use Rattle.device_notifications.specs.Second.{quiet as still}
 use Rattle.device_notifications.specs.declared.datagram.Datagram.{Datagram}
 use Rattle.device_machine.specs.Reactions.{flat_after, send_of, sweep_in}
@@ -9,7 +10,7 @@ use Rattle.device_machine.specs.declared.event.Event.TheVariants.{Firmware, Put,
 use Rattle.laws_device.specs.Notifying.{IsSettled}
 use Rattle.laws_device.specs.Ticking.{IsQuiet, SettledRowsAreQuiet, SettledTicksAreQuiet, TicksNotifyForCause}
 use Rattle.laws_device.specs.Ticking.{TicksSendAgain, TicksSendCaused}
-use Rattle.laws_device.proofs.Causes.{later_of, seconds_for_cause}
+use Rattle.laws_device.proofs.Causes.{seconds_for_cause}
 use Rattle.laws_device.proofs.Sent.{seconds_send_again, seconds_send_caused}
 use Rattle.laws_device.proofs.Settled.{settled_are_quiet}
 
@@ -26,7 +27,7 @@ among : (ds : List Datagram) (d : Datagram) → Contains ds d → Contains (map 
 among [] d h = absurd (omega (arith, h.1))
 among (e ∷ ds) d (zero, inside, is) = (0, omega arith, ap send_of is)
 among (e ∷ ds) d (suc k, inside, is) =
-    later_of (send_of e) (send_of d) (map send_of ds) (among ds d (k, omega arith, is))
+    contains_later (send_of e) (send_of d) (map send_of ds) (among ds d (k, omega arith, is))
 
 pub send_caused : TicksSendCaused
 send_caused f n k o within there due =

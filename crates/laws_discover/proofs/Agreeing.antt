@@ -6,7 +6,7 @@ use Rattle.std.specs.Cmp.{eq_by_cmp_equiv, Equal-is}
 use Rattle.std.specs.FinMap as map
 use Rattle.std.specs.Option.{option_and_then}
 use Rattle.std.specs.Ordering.{eq_by_cmp}
-use Rattle.std.proofs.lemmas.Bool.{false≢true, false_from_ne_true, and_from}
+use Rattle.std.proofs.lemmas.Bool.{false≢true, and_from}
 use Rattle.coap_codec.specs.Message.{Message}
 use Rattle.object_defs.specs.Numbers.{access_control_object}
 use Rattle.object_defs.specs.declared.path.Path.{Path}
@@ -17,9 +17,10 @@ use Rattle.notifier.specs.declared.attribute.Name.{Name}
 use Rattle.notifier.specs.declared.attribute.Name.TheVariants.{Gt, Lt, St}
 use Rattle.notifier.specs.declared.fault.QueryFault.{QueryFault}
 use Rattle.notifier.specs.Attributes.{Numbers, agree, assigned, is_consistent, key_cmp, key_of, lies_under, path_of}
-use Rattle.notifier.specs.Attributes.{with_number, without_under, written}
+use Rattle.notifier.specs.Attributes.{without_under, written}
 use Rattle.notifier.specs.Query.{changes_of}
 use Rattle.notifier.proofs.Keys.{key_exact, key_total}
+use Rattle.notifier.proofs.AttributeLaws.{others_kept}
 use Rattle.device_requests.specs.Client.{Client}
 use Rattle.device_requests.specs.Delete.{deleted, taken_away, without_controls}
 use Rattle.device_requests.specs.Request.{outcome_of}
@@ -96,22 +97,6 @@ none_agree server path =
     ap (λ g. agree g (assigned map.empty server path Lt) (assigned map.empty server path St)) (none Gt)
 
 -- ---- changes at one path leave all others
-
-kept_at : (m : Numbers) (j : AttributeKey) (z : Option ℤ) (k : AttributeKey) → k ≢ j
-    → map.get (with_number m j z) k ≡ map.get m k
-kept_at m j None k other =
-    map.get-remove key_total m j k
-    ∙ ap (λ b. cond b None (map.get m k)) (false_from_ne_true _ (λ e. other (key_exact k j ((Equal-is _).0 e))))
-kept_at m j (Some z) k other =
-    map.get-insert key_total m j z k
-    ∙ ap (λ b. cond b (Some z) (map.get m k)) (false_from_ne_true _ (λ e. other (key_exact k j ((Equal-is _).0 e))))
-
-others_kept : (m : Numbers) (server : ℕ) (path : Path) (cs : List Change) (k : AttributeKey)
-    → ((n : Name) → k ≢ key_of server path n) → map.get (written m server path cs) k ≡ map.get m k
-others_kept m server path [] k other = refl
-others_kept m server path (c ∷ cs) k other =
-    others_kept (with_number m (key_of server path c.name) c.number) server path cs k other
-    ∙ kept_at m (key_of server path c.name) c.number k (other c.name)
 
 path_in_key : (s : ℕ) (p : Path) (n : Name) → path_of (key_of s p n) ≡ p
 path_in_key s (Object o) n = refl

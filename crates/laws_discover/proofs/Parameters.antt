@@ -27,6 +27,7 @@ use Rattle.device_requests.specs.Client.{Client}
 use Rattle.device_requests.specs.Discover.{dimension, inherits_at, is_period, name_text, number_text, shown_number}
 use Rattle.device_requests.specs.Laws.{IsAmong}
 use Rattle.device_requests.specs.Targets.{is_multiple, resource_place}
+use Rattle.device_requests.proofs.Among.{among-left, among-either, among-right}
 use Rattle.laws_discover.specs.Links.{attribute_names, attribute_parameter, attribute_parameters, dimension_parameter}
 use Rattle.laws_discover.specs.Links.{link_to}
 use Rattle.laws_discover.specs.Parameters.{AreSomeOf, FirstLinkShows, HoldsNumbers, IsInherited, IsShownFirst}
@@ -36,36 +37,22 @@ use Rattle.laws_discover.specs.Parameters.{its_dimension, its_own, left_out, of_
 
 -- ---- among lists that stand one after another
 
-among_left : {X : Type 0} (x : X) (xs ys : List X) → IsAmong x xs → IsAmong x (xs ++ ys)
-among_left x [] ys h = absurd h
-among_left x (z ∷ xs) ys (inl e) = inl e
-among_left x (z ∷ xs) ys (inr h) = inr (among_left x xs ys h)
-
-among_right : {X : Type 0} (x : X) (xs ys : List X) → IsAmong x ys → IsAmong x (xs ++ ys)
-among_right x [] ys h = h
-among_right x (z ∷ xs) ys h = inr (among_right x xs ys h)
-
-among_either : {X : Type 0} (x : X) (xs ys : List X) → IsAmong x (xs ++ ys) → IsAmong x xs ⊎ IsAmong x ys
-among_either x [] ys h = inr h
-among_either x (z ∷ xs) ys (inl e) = inl (inl e)
-among_either x (z ∷ xs) ys (inr h) = elim (among_either x xs ys h) [ inl k ↦ inl (inr k) | inr k ↦ inr k ]
-
 among_some : {W X : Type 0} (f : W → List X) (x : X) (ws : List W) → IsAmong x (flat_map f ws)
     → (w : W) × IsAmong x (f w)
 among_some f x [] h = absurd h
 among_some f x (w ∷ ws) h =
-    elim (among_either x (f w) (flat_map f ws) h) [ inl k ↦ (w, k) | inr k ↦ among_some f x ws k ]
+    elim (among-either x (f w) (flat_map f ws) h) [ inl k ↦ (w, k) | inr k ↦ among_some f x ws k ]
 
 among_names : {X : Type 0} (f : Name → List X) (x : X) (n : Name) → IsAmong x (f n)
     → IsAmong x (flat_map f attribute_names)
-among_names f x Pmin h = among_left x (f Pmin) _ h
-among_names f x Pmax h = among_right x (f Pmin) _ (among_left x (f Pmax) _ h)
-among_names f x Gt h = among_right x (f Pmin) _ (among_right x (f Pmax) _ (among_left x (f Gt) _ h))
+among_names f x Pmin h = among-left x (f Pmin) _ h
+among_names f x Pmax h = among-right x (f Pmin) _ (among-left x (f Pmax) _ h)
+among_names f x Gt h = among-right x (f Pmin) _ (among-right x (f Pmax) _ (among-left x (f Gt) _ h))
 among_names f x Lt h =
-    among_right x (f Pmin) _ (among_right x (f Pmax) _ (among_right x (f Gt) _ (among_left x (f Lt) _ h)))
+    among-right x (f Pmin) _ (among-right x (f Pmax) _ (among-right x (f Gt) _ (among-left x (f Lt) _ h)))
 among_names f x St h =
-    among_right x (f Pmin) _ (among_right x (f Pmax) _ (among_right x (f Gt) _ (among_right x (f Lt) _
-    (among_left x (f St) _ h))))
+    among-right x (f Pmin) _ (among-right x (f Pmax) _ (among-right x (f Gt) _ (among-right x (f Lt) _
+    (among-left x (f St) _ h))))
 
 -- ---- how many parts
 
@@ -188,7 +175,7 @@ among_parameters : (client : Client) (server : ℕ) (inherits : Bool) (path : Pa
     × ((name_text n, number_text n z) ≡ x))
 among_parameters client server inherits path x h =
     let f = λ (n : Name). attribute_parameter n (shown_number client.attributes server inherits path n) in
-    elim (among_either x (dimension_parameter (dimension client.catalog client.store path))
+    elim (among-either x (dimension_parameter (dimension client.catalog client.store path))
     (attribute_parameters client server inherits path) h) [
       | inl k ↦ inl k
       | inr k ↦
@@ -203,7 +190,7 @@ attribute_there : (client : Client) (server : ℕ) (inherits : Bool) (path : Pat
 attribute_there client server inherits path n z h =
     let f = λ (m : Name). attribute_parameter m (shown_number client.attributes server inherits path m) in
     let x = set_to n z in
-    among_right x (dimension_parameter (dimension client.catalog client.store path))
+    among-right x (dimension_parameter (dimension client.catalog client.store path))
     (attribute_parameters client server inherits path)
     (among_names f x n (is_attribute n (shown_number client.attributes server inherits path n) z h))
 
@@ -216,7 +203,7 @@ dimension_there client server inherits o i r d ns defined_as many holds some =
     let is : dimension client.catalog client.store (Resource o i r) ≡ length ns =
     ap (λ (b : Bool). if b then length (parts_of client.store p) else 0) (ap is_multiple defined_as ∙ many)
     ∙ sym (as_long client.store p ns holds) in
-    among_left (dim (length ns))
+    among-left (dim (length ns))
     (dimension_parameter (dimension client.catalog client.store (Resource o i r)))
     (attribute_parameters client server inherits (Resource o i r))
     (subst (λ (n : ℕ). IsAmong (dim (length ns)) (dimension_parameter n)) (sym is)

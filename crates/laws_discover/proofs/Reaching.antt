@@ -1,6 +1,6 @@
 -- The attributes that servers set, in every state that a device can reach.
-use Rattle.std.proofs.Common.{ℕ, ◌==◌, Bool, true, false, List, [], ◌∷◌, Option, None, Some, Result, Ok, Err, refl}
-use Rattle.std.specs.Bool.{if◌then◌else◌}
+use Rattle.std.proofs.Common.{ℕ, ◌==◌, List, [], ◌∷◌, Option, None, Some, Result, Ok, Err, refl}
+use Rattle.lemmas.proofs.Tests.{either}
 use Rattle.coap_codec.specs.Message.{Message}
 use Rattle.coap_codec.specs.Reading.{reading_of}
 use Rattle.coap_codec.specs.declared.fault.CoapFault.{CoapFault}
@@ -47,10 +47,6 @@ stored_fit client stored h = record { valid = h.valid; agree = h.agree }
 
 abbrev LeavesFit : Reaction → Type 0
 LeavesFit r = IsFit r.flat.kept.client
-
-either : {X : Type 0} (P : X → Type 0) (b : Bool) (x y : X) → P x → P y → P (if b then x else y)
-either P true x y h k = h
-either P false x y h k = k
 
 replied : (k : Kept) (kind : Kind) (reply : Option Message) → IsFit k.client → IsFit (kept_after k kind reply).client
 replied k Con reply h = h

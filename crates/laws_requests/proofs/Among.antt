@@ -1,79 +1,28 @@
 -- What is among the elements of a list, among the entries of a map, and among the instances of an object.
-use Rattle.std.proofs.Common.{◌≡◌, ◌↔◌, inl, inr, ℕ, Bool, true, false, cond, ◌||◌, ◌==◌, List, [], ◌∷◌}
-use Rattle.std.proofs.Common.{map, Some, refl, sym, ap, subst, ◌∙◌}
+use Rattle.std.proofs.Common.{◌≡◌, ◌↔◌, inl, inr, ℕ, Bool, true, false, cond, List, [], ◌∷◌}
+use Rattle.std.proofs.Common.{Some, refl, sym, ap, subst, ◌∙◌}
 use Rattle.std.proofs.Math.Dec.{T}
 use Rattle.std.specs.Cmp.{eq_by_cmp_equiv}
 use Rattle.std.specs.FinMap as finite
 use Rattle.std.specs.FinMap.{find, is_sorted}
 use Rattle.std.specs.FinMap.Entries.{below_all}
 use Rattle.std.specs.List as lists
-use Rattle.std.specs.List.{filter, list_any}
+use Rattle.std.specs.List.{filter}
 use Rattle.std.specs.Ordering.{eq_by_cmp, is_eq}
 use Rattle.std.specs.declared.cmp.Ordering.TheVariants.{Less}
-use Rattle.std.proofs.lemmas.Bool.{eqb-true}
-use Rattle.lemmas.proofs.Numbers.{eqb_itself}
 use Rattle.lemmas.proofs.Tests.{T_first, T_second, T_both}
 use Rattle.lemmas.proofs.Orders.{is_less, is_equal}
 use Rattle.lwm2m_values.specs.declared.value.Value.{Value}
-use Rattle.object_defs.specs.Path.{instance_cmp, path_cmp}
+use Rattle.object_defs.specs.Path.{path_cmp}
 use Rattle.object_defs.specs.declared.path.FullPath.{FullPath}
-use Rattle.object_defs.specs.declared.path.InstancePath.{InstancePath}
-use Rattle.object_defs.proofs.PathOrder.{instance_exact, instance_total, path_exact, path_total}
+use Rattle.object_defs.proofs.PathOrder.{path_exact, path_total}
 use Rattle.instance_store.specs.Stored.{Stored, has_instance, instances_of, value_at}
 use Rattle.lwm2m_payloads.specs.Nodes.{Pairs}
 use Rattle.device_requests.specs.Laws.{IsAmong}
 use Rattle.device_requests.specs.Targets.{place_of}
+use Rattle.device_requests.proofs.LinksExist.{has_listed, listed_has}
 
 -- ---- a list
-
-pub among_map : {W X : Type 0} (f : W → X) (w : W) (ws : List W) → IsAmong w ws → IsAmong (f w) (map f ws)
-among_map f w [] h = absurd h
-among_map f w (v ∷ ws) (inl e) = inl (ap f e)
-among_map f w (v ∷ ws) (inr h) = inr (among_map f w ws h)
-
-pub mapped : {W X : Type 0} (f : W → X) (x : X) (ws : List W) → IsAmong x (map f ws) → (w : W) × IsAmong w ws
-    × (f w ≡ x)
-mapped f x [] h = absurd h
-mapped f x (v ∷ ws) (inl e) = (v, inl refl, e)
-mapped f x (v ∷ ws) (inr h) = let k = mapped f x ws h in (k.0, inr k.1, k.2)
-
-pub among_filter : {X : Type 0} (p : X → Bool) (x : X) (xs : List X) → p x ≡ true → IsAmong x xs
-    → IsAmong x (filter p xs)
-among_filter p x [] k h = absurd h
-among_filter p x (z ∷ xs) k (inl e) =
-    let q : p z ≡ true = rw e k in
-    rw q (inl e)
-among_filter p x (z ∷ xs) k (inr h) =
-    elim (p z) as (λ b. IsAmong x (cond b (z ∷ filter p xs) (filter p xs))) [
-      | true ↦ inr (among_filter p x xs k h)
-      | false ↦ among_filter p x xs k h
-    ]
-
-pub filtered : {X : Type 0} (p : X → Bool) (x : X) (xs : List X) → IsAmong x (filter p xs) → IsAmong x xs × (p x ≡ true)
-filtered p x [] h = absurd h
-filtered p x (z ∷ xs) h =
-    elim (p z) as (λ b. p z ≡ b → IsAmong x (cond b (z ∷ filter p xs) (filter p xs)) → IsAmong x (z ∷ xs)
-    × (p x ≡ true)) [
-      | true ↦ λ e k. elim k [
-        | inl i ↦ (inl i, rw (← i) e)
-        | inr j ↦ let r = filtered p x xs j in (inr r.0, r.1)
-      ]
-      | false ↦ λ e k. let r = filtered p x xs k in (inr r.0, r.1)
-    ] refl h
-
-pub any_found : {X : Type 0} (p : X → Bool) (xs : List X) → list_any p xs ≡ true → (x : X) × IsAmong x xs × (p x ≡ true)
-any_found {X} p [] h = cc
-any_found {X} p (z ∷ xs) h =
-    elim (p z) as (λ b. p z ≡ b → (b || list_any p xs) ≡ true → (x : X) × IsAmong x (z ∷ xs) × (p x ≡ true)) [
-      | true ↦ λ e k. (z, inl refl, e)
-      | false ↦ λ e k. let r = any_found p xs k in (r.0, inr r.1, r.2)
-    ] refl h
-
-pub among_any : {X : Type 0} (p : X → Bool) (x : X) (xs : List X) → IsAmong x xs → p x ≡ true → list_any p xs ≡ true
-among_any p x [] h k = absurd h
-among_any p x (z ∷ xs) (inl e) k = let q : p z ≡ true = rw e k in rw q refl
-among_any p x (z ∷ xs) (inr h) k =
-    elim (p z) as (λ b. (b || list_any p xs) ≡ true) [ true ↦ refl | false ↦ among_any p x xs h k ]
 
 pub found : {X : Type 0} (p : X → Bool) (x : X) (xs : List X) → lists.find p xs ≡ Some x → IsAmong x xs × (p x ≡ true)
 found p x [] h = cc
@@ -159,30 +108,6 @@ entry_held stored q v =
     )
 
 -- ---- the instances of an object
-
-place_found : (k : InstancePath) (o n : ℕ) → eq_by_cmp instance_cmp (place_of o n) k ≡ true → place_of o n ≡ k
-place_found k o n h = instance_exact (place_of o n) k (is_equal (instance_cmp (place_of o n) k) h)
-
-has_listed : (stored : Stored) (o n : ℕ) → has_instance stored (place_of o n) ≡ true → IsAmong n (instances_of stored o)
-has_listed stored o n h =
-    let k = any_found (eq_by_cmp instance_cmp (place_of o n)) (finite.keys stored.instances)
-    (sym (finite.contains_key-keys stored.instances (place_of o n)) ∙ h) in
-    let e : place_of o n ≡ k.0 = place_found k.0 o n k.2 in
-    let here : IsAmong (place_of o n) (finite.keys stored.instances) = rw e k.1 in
-    among_map (λ p. p.instance) (place_of o n) _ (among_filter (λ p. p.object == o) (place_of o n)
-    (finite.keys stored.instances) (eqb_itself o) here)
-
-place_is : (k : InstancePath) (o n : ℕ) → k.object ≡ o → k.instance ≡ n → k ≡ place_of o n
-place_is k o n h i = λ j. record { object = h j; instance = i j }
-
-listed_has : (stored : Stored) (o n : ℕ) → IsAmong n (instances_of stored o) → has_instance stored (place_of o n) ≡ true
-listed_has stored o n h =
-    let k = mapped (λ p. p.instance) n (filter (λ p. p.object == o) (finite.keys stored.instances)) h in
-    let f = filtered (λ p. p.object == o) k.0 (finite.keys stored.instances) k.1 in
-    let e : k.0 ≡ place_of o n = place_is k.0 o n (eqb-true k.0.object o f.1) k.2 in
-    finite.contains_key-keys stored.instances (place_of o n)
-    ∙ among_any (eq_by_cmp instance_cmp (place_of o n)) k.0 (finite.keys stored.instances) f.0
-    (ap (eq_by_cmp instance_cmp (place_of o n)) e ∙ (eq_by_cmp_equiv instance_total).refl (place_of o n))
 
 pub instance_listed : (stored : Stored) (o n : ℕ) → IsAmong n (instances_of stored o)
     ↔ (has_instance stored (place_of o n) ≡ true)

@@ -1,5 +1,5 @@
 -- What a Write-Attributes changes.
-use Rattle.std.proofs.Common.{◌≡◌, ◌≢◌, ℕ, ℤ, Bool, true, false, cond, not, ◌==◌, List, [], ◌∷◌, Option, None, Some}
+use Rattle.std.proofs.Common.{◌≡◌, ℕ, ℤ, Bool, true, false, cond, not, ◌==◌, List, [], ◌∷◌, Option, None, Some}
 use Rattle.std.proofs.Common.{Result, Ok, Err, refl, sym, ap, ◌∙◌}
 use Rattle.std.specs.Bool.{if◌then◌else◌}
 use Rattle.std.specs.Cmp.{eq_by_cmp_equiv, Equal-is}
@@ -8,7 +8,6 @@ use Rattle.std.specs.Option.{is_some, option_and_then}
 use Rattle.std.specs.Ordering.{eq_by_cmp}
 use Rattle.std.proofs.lemmas.Bool.{eq-eqb, eqb-true, false≢true, false_from_ne_true}
 use Rattle.object_defs.specs.declared.path.Path.{Path}
-use Rattle.object_defs.specs.declared.path.Path.TheVariants.{Object, Instance, Resource, Part}
 use Rattle.notifier.specs.declared.attribute.AttributeKey.{AttributeKey}
 use Rattle.notifier.specs.declared.attribute.Change.{Change}
 use Rattle.notifier.specs.declared.attribute.Name.{Name}
@@ -17,6 +16,7 @@ use Rattle.notifier.specs.Attributes.{Numbers, assigned, is_consistent, key_cmp,
 use Rattle.notifier.specs.Attributes.{with_number, written}
 use Rattle.notifier.specs.Query.{changes_of}
 use Rattle.notifier.proofs.Keys.{key_exact, key_total}
+use Rattle.notifier.proofs.AttributeLaws.{name_of_key, others_kept}
 use Rattle.device_requests.specs.declared.answer.Code.{Code}
 use Rattle.device_requests.specs.Laws.{is_refusal}
 use Rattle.device_requests.specs.Outcomes.{attributes_outcome}
@@ -25,12 +25,6 @@ use Rattle.device_requests.specs.WriteAttributes.{new_numbers, annotate_unless, 
 use Rattle.device_requests.specs.WriteAttributes.{level_at, spelled}
 use Rattle.laws_requests.specs.Annotations.{AttributesAreSet, changed_by}
 use Rattle.laws_requests.proofs.Asking.{fails, passes}
-
-name_in : (s : ℕ) (p : Path) (n : Name) → (key_of s p n).name ≡ n
-name_in s (Object o) n = refl
-name_in s (Instance o i) n = refl
-name_in s (Resource o i r) n = refl
-name_in s (Part o i r q) n = refl
 
 -- the keys of two names on one path are told apart as the names are
 name_test : (s : ℕ) (p : Path) (c n : Name) → eq_by_cmp key_cmp (key_of s p n) (key_of s p c) ≡ (rank c == rank n)
@@ -41,7 +35,7 @@ name_test s p c n =
           ∙ (eq_by_cmp_equiv key_total).refl (key_of s p n)
       | false ↦ λ h. false_from_ne_true _ (λ k.
           let keys = key_exact (key_of s p n) (key_of s p c) ((Equal-is _).0 k) in
-          let names = sym (name_in s p n) ∙ ap (λ (q : AttributeKey). q.name) keys ∙ name_in s p c in
+          let names = sym (name_of_key s p n) ∙ ap (λ (q : AttributeKey). q.name) keys ∙ name_of_key s p c in
           false≢true (sym h ∙ ap (λ (x : Name). rank c == rank x) names ∙ eq-eqb (rank c) (rank c) refl))
     ] refl
 
@@ -60,23 +54,6 @@ own_changed m s p [] n = refl
 own_changed m s p (c ∷ cs) n =
     own_changed (with_number m (key_of s p c.name) c.number) s p cs n
     ∙ ap (λ (z : Option ℤ). changed_by cs n z) (changed_at m s p c.name c.number n)
-
-differs : (j k : AttributeKey) → k ≢ j → eq_by_cmp key_cmp k j ≡ false
-differs j k other = false_from_ne_true _ (λ e. other (key_exact k j ((Equal-is _).0 e)))
-
-kept_at : (m : Numbers) (j : AttributeKey) (z : Option ℤ) (k : AttributeKey) → k ≢ j
-    → map.get (with_number m j z) k ≡ map.get m k
-kept_at m j None k other =
-    map.get-remove key_total m j k ∙ ap (λ (b : Bool). cond b None (map.get m k)) (differs j k other)
-kept_at m j (Some z) k other =
-    map.get-insert key_total m j z k ∙ ap (λ (b : Bool). cond b (Some z) (map.get m k)) (differs j k other)
-
-others_kept : (m : Numbers) (s : ℕ) (p : Path) (cs : List Change) (k : AttributeKey)
-    → ((n : Name) → k ≢ key_of s p n) → map.get (written m s p cs) k ≡ map.get m k
-others_kept m s p [] k other = refl
-others_kept m s p (c ∷ cs) k other =
-    others_kept (with_number m (key_of s p c.name) c.number) s p cs k other
-    ∙ kept_at m (key_of s p c.name) c.number k (other c.name)
 
 -- ---- the request
 

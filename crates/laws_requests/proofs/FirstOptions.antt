@@ -6,7 +6,7 @@ use Rattle.std.specs.Bool.{if◌then◌else◌}
 use Rattle.std.specs.Fmt.{decimal}
 use Rattle.std.specs.List as lists
 use Rattle.std.specs.List.{filter}
-use Rattle.std.proofs.lemmas.Bool.{le-leb, ne_eqb, eqb-true, both_ways, eqb-false}
+use Rattle.std.proofs.lemmas.Bool.{le-leb, ne_eqb, eqb-true, both_ways, eqb-false, leb-true}
 use Rattle.std.proofs.lemmas.Option.{same_Some}
 use Rattle.lemmas.proofs.Numbers.{eqb_itself}
 use Rattle.lemmas.proofs.Options.{option_and_then_parts}
@@ -25,7 +25,6 @@ use Rattle.laws_requests.specs.Understood.{NamePath}
 use Rattle.laws_requests.specs.Understood.{SegmentsName, ValuesInOrder, its_value, name_instance}
 use Rattle.laws_requests.specs.Understood.{name_object, name_part, name_resource, no_byte, no_value, one_byte}
 use Rattle.laws_requests.specs.Understood.{other_option, three_bytes, two_bytes}
-use Rattle.laws_requests.proofs.Understanding.{at_most}
 
 -- ---- the number of the first option
 
@@ -96,7 +95,7 @@ first_says number most os n small h =
     let a = option_and_then_parts (read_at_most most) (lists.find (λ o. o.number == number) os) n h in
     let f = first_found (λ (o : Opt). o.number == number) os a.0 a.1 in
     let u = kept_if (nat_le (length a.0.value) most) (Some (big_endian a.0.value)) n a.2 in
-    let l : length a.0.value ≤ most = at_most (length a.0.value) most u.0 in
+    let l : length a.0.value ≤ most = leb-true (length a.0.value) most u.0 in
     let l3 : length a.0.value ≤ 3 = omega arith in
     record {
       before = f.before;

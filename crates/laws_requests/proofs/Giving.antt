@@ -33,6 +33,7 @@ use Rattle.lwm2m_payloads.specs.declared.given.Given.TheVariants.{Single, Parts}
 use Rattle.lwm2m_payloads.specs.declared.given.Purpose.{Purpose}
 use Rattle.lwm2m_payloads.specs.declared.given.Purpose.TheVariants.{Write, Create}
 use Rattle.device_requests.specs.Laws.{IsAmong}
+use Rattle.device_requests.proofs.Among.{any_found, among-any}
 use Rattle.laws_requests.specs.Instances.{IsNamedIn}
 use Rattle.laws_requests.specs.Multiples.{HasPart}
 use Rattle.laws_requests.specs.Payloads.{RecordsGive, GiveParts, GivesInstance}
@@ -40,7 +41,7 @@ use Rattle.laws_requests.specs.Payloads.{GivesResource, GivesTo, InstancesAreGiv
 use Rattle.laws_requests.specs.Payloads.{OtherInstanceGivesNothing, ResourcesAreGiven, by_bytes}
 use Rattle.laws_requests.specs.Payloads.{by_instance, by_record, by_records, by_text, gives_parts, gives_value, no_part}
 use Rattle.laws_requests.specs.Payloads.{no_record, one_part_more, one_record_more}
-use Rattle.laws_requests.proofs.Among.{among_any, any_found, found}
+use Rattle.laws_requests.proofs.Among.{found}
 
 -- ---- a number that is given, or not
 
@@ -51,7 +52,7 @@ any_part ps n h =
     (f.0.1, subst (λ (k : ℕ). IsAmong (k, f.0.1) ps) (sym is) f.1)
 
 part_any : (ps : PartList) (n : ℕ) → HasPart ps n → list_any (λ p. p.0 == n) ps ≡ true
-part_any ps n h = among_any (λ (p : ℕ × Value). p.0 == n) (n, h.0) ps h.1 (eqb_itself n)
+part_any ps n h = among-any (λ (p : ℕ × Value). p.0 == n) (n, h.0) ps h.1 (eqb_itself n)
 
 pub any_named : (given : List Assignment) (r : ℕ) → list_any (λ b. b.resource == r) given ≡ true → IsNamedIn given r
 any_named given r h =
@@ -61,7 +62,7 @@ any_named given r h =
 
 pub named_any : (given : List Assignment) (r : ℕ) → IsNamedIn given r → list_any (λ b. b.resource == r) given ≡ true
 named_any given r h =
-    among_any (λ (b : Assignment). b.resource == r) (record { resource = r; given = h.0 }) given h.1 (eqb_itself r)
+    among-any (λ (b : Assignment). b.resource == r) (record { resource = r; given = h.0 }) given h.1 (eqb_itself r)
 
 -- ---- options that are there
 

@@ -9,7 +9,7 @@ use Rattle.std.specs.FinMap.Entries.{below_all}
 use Rattle.std.specs.List as lists
 use Rattle.std.specs.List.{AllByRecursion, cons_option, filter, filter_map, list_any}
 use Rattle.std.specs.List.Sorted.{IsStrictlySortedBy}
-use Rattle.std.specs.Option.{is_some, option_and_then, unwrap_or}
+use Rattle.std.specs.Option.{is_some, unwrap_or}
 use Rattle.std.specs.Ordering.{eq_by_cmp, is_lt, nat_cmp}
 use Rattle.std.specs.declared.cmp.Ordering.TheVariants.{Less}
 use Rattle.std.proofs.Math.Dec.{T}
@@ -27,7 +27,6 @@ use Rattle.object_defs.specs.Catalog.{definition_of, object_of, resource_in}
 use Rattle.object_defs.specs.Lines.{first_line}
 use Rattle.object_defs.specs.Operations.{can_read}
 use Rattle.object_defs.specs.Path.{part_of, path_cmp}
-use Rattle.object_defs.specs.declared.definition.ObjectDef.{ObjectDef}
 use Rattle.object_defs.specs.declared.definition.ResourceDef.{ResourceDef}
 use Rattle.object_defs.specs.declared.path.FullPath.{FullPath}
 use Rattle.object_defs.specs.declared.path.Path.TheVariants.{Resource}
@@ -51,10 +50,11 @@ use Rattle.device_requests.specs.Laws.{IsAmong, content_within}
 use Rattle.device_requests.specs.Outcomes.{read_answer}
 use Rattle.device_requests.specs.Read.{content_in, format_at, payload_in, read_payload}
 use Rattle.device_requests.specs.Refusals.{is_oversized, is_tlv}
-use Rattle.device_requests.specs.Targets.{defined, exists, is_readable, place_of, resource_place, resources_as}
+use Rattle.device_requests.specs.Targets.{defined, exists, is_readable, place_of, resource_place}
+use Rattle.device_requests.proofs.ReadBack.{shown}
+use Rattle.device_requests.proofs.LinksExist.{definition_in}
 use Rattle.laws_requests.specs.Multiples.{HoldsParts, MultipleIsRead, answer_of_parts, part_records}
 use Rattle.laws_requests.proofs.Executing.{apart}
-use Rattle.laws_requests.proofs.PartBack.{shown}
 
 -- ---- among parts given once
 
@@ -321,11 +321,6 @@ records resources p (e ∷ es) shows =
           ∙ record_first resources p e.0 e.0.part e.1 rest (parts_among p es) lies refl (records resources p es shows)
       | false ↦ λ away. records resources p es shows
     ] refl
-
-definition_in : (object : Option ObjectDef) (r : ℕ) → option_and_then (λ o. resource_in o.resources r) object
-    ≡ resource_in (resources_as object) r
-definition_in None r = refl
-definition_in (Some object) r = refl
 
 pub is_defined_in : (client : Client) (o r : ℕ) → definition_of client.catalog o r
     ≡ resource_in (defined client.catalog o) r

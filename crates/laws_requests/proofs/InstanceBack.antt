@@ -27,11 +27,11 @@ use Rattle.lwm2m_payloads.specs.declared.given.Mode.TheVariants.{Replace, Update
 use Rattle.lwm2m_payloads.proofs.EachOnce.{instance_once}
 use Rattle.device_requests.specs.Client.{Client}
 use Rattle.device_requests.specs.Targets.{defined, is_readable, resource_place}
+use Rattle.device_requests.proofs.Among.{any_found, among-any}
 use Rattle.laws_requests.specs.Instances.{InstancesHoldGiven, IsGivenTo, IsNamedIn, IsOptional, left_by}
 use Rattle.laws_requests.specs.Multiples.{HasPart}
 use Rattle.laws_requests.proofs.Holding.{among_value, is_defined_in, value_among}
 use Rattle.laws_requests.proofs.Writing.{instances_written}
-use Rattle.laws_requests.proofs.Among.{among_any, any_found}
 use Rattle.laws_requests.proofs.Giving.{any_named}
 
 -- ---- who is named
@@ -106,7 +106,7 @@ lost_by false mandatory writable named h k l m = cc
 is_taken : (resources : List ResourceDef) (given : List Assignment) (r : ℕ) → ¬ (IsNamedIn given r)
     → IsOptional resources r → is_taken_away resources given r ≡ true
 is_taken resources given r never d =
-    among_any (λ e. e.id == r && is_lost given e) d.0 resources d.1
+    among-any (λ e. e.id == r && is_lost given e) d.0 resources d.1
     (lost_by (d.0.id == r) d.0.mandatory (can_write d.0.ops) (list_any (λ a. a.resource == d.0.id) given)
     (ap (λ (n : ℕ). n == r) d.2 ∙ eqb_itself r) d.3 d.4
     (ap (λ (n : ℕ). list_any (λ a. a.resource == n) given) d.2 ∙ none_named given r never))

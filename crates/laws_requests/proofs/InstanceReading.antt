@@ -1,7 +1,6 @@
 -- What an instance was given is read again.
-use Rattle.std.proofs.Common.{◌≡◌, ◌≢◌, inl, inr, ℕ, Bool, true, false, not, ◌==◌, List, [], Option}
+use Rattle.std.proofs.Common.{◌≡◌, ◌≢◌, inl, inr, ℕ, true, false, not, ◌==◌, List, [], Option}
 use Rattle.std.proofs.Common.{None, Some, refl, sym, ap, subst, ◌∙◌}
-use Rattle.std.specs.Bool.{if◌then◌else◌}
 use Rattle.std.specs.FinMap as finite
 use Rattle.std.specs.Option.{is_some, option_map, unwrap_or}
 use Rattle.std.proofs.lemmas.Bool.{ne_eqb, eqb-false}
@@ -15,7 +14,7 @@ use Rattle.object_defs.specs.declared.definition.ResourceDef.{ResourceDef}
 use Rattle.object_defs.specs.declared.path.Path.TheVariants.{Instance, Resource}
 use Rattle.instance_store.specs.Existence.{has_resource}
 use Rattle.instance_store.specs.Stored.{Stored, has_instance, value_at}
-use Rattle.lwm2m_payloads.specs.Formats.{extent_as, format_for, many, one}
+use Rattle.lwm2m_payloads.specs.Formats.{format_for, one}
 use Rattle.lwm2m_payloads.specs.Nodes.{value_payload}
 use Rattle.lwm2m_payloads.specs.PartList.{PartList}
 use Rattle.lwm2m_payloads.specs.Written.{PartsOnce, part_value}
@@ -31,13 +30,13 @@ use Rattle.device_requests.specs.Outcomes.{read_answer, write_outcome}
 use Rattle.device_requests.specs.Read.{format_at, payload_in, read_payload}
 use Rattle.device_requests.specs.Refusals.{refusals_of, to_write}
 use Rattle.device_requests.specs.Targets.{defined, exists, is_readable, place_of, resource_place}
+use Rattle.device_requests.proofs.ReadBack.{shown, format_same}
 use Rattle.laws_requests.specs.Instances.{HoldsGiven, InstancesAreReadBack, IsInstanceReadBack, left_by}
 use Rattle.laws_requests.specs.Multiples.{HasPart, IsPartThen}
 use Rattle.laws_requests.proofs.Asking.{fails}
 use Rattle.laws_requests.proofs.Changing.{wrote}
 use Rattle.laws_requests.proofs.Holding.{among_value, multiple_read, value_among}
 use Rattle.laws_requests.proofs.InstanceBack.{instances_hold, is_once}
-use Rattle.laws_requests.proofs.PartBack.{shown}
 use Rattle.laws_requests.proofs.Writing.{is_stored, unrefused}
 
 -- ---- a single resource
@@ -50,13 +49,6 @@ record HoldsValue (client : Client) (o i r : ℕ) (d : ResourceDef) (v : Value) 
   alone : d.multiple ≡ false
   readable : can_read d.ops ≡ true
   value_is : value_at client.store (single_of (resource_place o i r)) ≡ Some v
-
-format_is : (client : Client) (o i r : ℕ) (d : ResourceDef) (accept : Option ℕ)
-    → definition_of client.catalog o r ≡ Some d → d.multiple ≡ false
-    → format_at client.catalog (Resource o i r) accept ≡ format_for (one d.kind) accept
-format_is client o i r d accept defined_as alone =
-    ap (λ (e : Option ResourceDef). format_for (extent_as e) accept) defined_as
-    ∙ ap (λ (b : Bool). format_for (if b then many else one d.kind) accept) alone
 
 value_there : (client : Client) (o i r : ℕ) (d : ResourceDef) (v : Value) → HoldsValue client o i r d v
     → exists client.catalog client.store (Resource o i r) ≡ true
@@ -77,7 +69,7 @@ value_read : (client : Client) (server o i r : ℕ) (d : ResourceDef) (v : Value
     ≡ content_within wanted (value_payload wanted (single r) v)
 value_read client server o i r d v accept wanted h may k =
     let path = Resource o i r in
-    let format = format_is client o i r d accept h.defined_as h.alone ∙ k in
+    let format = format_same client o i r d accept h.defined_as h.alone ∙ k in
     let payload : read_payload client server path accept ≡ value_payload wanted (single r) v =
     ap (λ (f : Option Format). unwrap_or (option_map (payload_in client server path) f) []) format
     ∙ value_shown client server o i r d v wanted h in

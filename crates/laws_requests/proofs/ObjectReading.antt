@@ -45,15 +45,15 @@ use Rattle.device_requests.specs.Laws.{IsAmong, content_within}
 use Rattle.device_requests.specs.Read.{content_in, format_at, payload_in, read_payload}
 use Rattle.device_requests.specs.Refusals.{is_oversized}
 use Rattle.device_requests.specs.Targets.{defined, exists, place_of}
+use Rattle.device_requests.proofs.ReadBack.{shown}
+use Rattle.device_requests.proofs.Among.{among-filter, filtered, any_found, mapped, among-any, among-map}
 use Rattle.laws_requests.specs.ObjectReads.{Ascend, HoldsReadable, InstanceIsShown, MayRead}
 use Rattle.laws_requests.specs.ObjectReads.{ObjectIsHidden, ObjectIsShown, RecordsSay, ShowsInstance, ShowsObject}
 use Rattle.laws_requests.specs.ObjectReads.{IsRecordIn}
-use Rattle.laws_requests.proofs.Among.{among_any, among_filter, among_map, any_found, entry_held}
-use Rattle.laws_requests.proofs.Among.{filtered}
-use Rattle.laws_requests.proofs.Among.{instance_listed, mapped, sorted_filtered, sorted_first}
+use Rattle.laws_requests.proofs.Among.{entry_held}
+use Rattle.laws_requests.proofs.Among.{instance_listed, sorted_filtered, sorted_first}
 use Rattle.laws_requests.proofs.Among.{sorted_rest}
 use Rattle.laws_requests.proofs.Holding.{is_defined_in, is_eleven}
-use Rattle.laws_requests.proofs.PartBack.{shown}
 use Rattle.laws_requests.proofs.Records.{IsFormed, Precedes, numbers_in, one_says, part_formed, says_one}
 use Rattle.laws_requests.proofs.Records.{single_formed}
 
@@ -260,9 +260,9 @@ held_is_read client o i r n bytes h =
     ∙ fits_shown (can_read h.definition.ops) h.definition.multiple (is_some n) h.readable h.fits in
     one_says (listed_in client o i) r n bytes (
       (q, h.value),
-      among_filter (λ d. is_shown (defined client.catalog o) d.0) (q, h.value)
+      among-filter (λ d. is_shown (defined client.catalog o) d.0) (q, h.value)
           (filter (λ d. lies_in (Instance o i) d.0) all) is_shown_there
-          (among_filter (λ d. lies_in (Instance o i) d.0) (q, h.value) all (lies_here o i r n) there),
+          (among-filter (λ d. lies_in (Instance o i) d.0) (q, h.value) all (lies_here o i r n) there),
       (refl, refl, h.written),
     )
 
@@ -358,8 +358,8 @@ object_shown client server o =
             (record { there = (instance_listed client.store o m.0).0 f.0; right = f.1 }),
         λ h. (
           nodes_of (listed_in client o i),
-          among_stands (node i) (map node ns) (among_map node i ns
-              (among_filter may i all h.right ((instance_listed client.store o i).1 h.there))),
+          among_stands (node i) (map node ns) (among-map node i ns
+              (among-filter may i all h.right ((instance_listed client.store o i).1 h.there))),
         ),
       );
     }
@@ -405,7 +405,7 @@ may_be_read client server o (inr m) =
     let all = instances_of client.store o in
     let may = reads client.store (length client.accounts) server o in
     or_right (length all == 0) (list_any may all)
-    (among_any may m.0 all ((instance_listed client.store o m.0).1 m.1.there) m.1.right)
+    (among-any may m.0 all ((instance_listed client.store o m.0).1 m.1.there) m.1.right)
 
 pub object_read : ObjectIsShown
 object_read client server o d accept other is may k =

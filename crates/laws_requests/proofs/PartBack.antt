@@ -2,14 +2,12 @@
 use Rattle.std.proofs.Common.{◌≡◌, ℕ, Bool, true, false, cond, not, ◌&&◌, ◌==◌, List, [], ◌∷◌, Option, None}
 use Rattle.std.proofs.Common.{Some, refl, sym, ap, subst, ◌∙◌}
 use Rattle.std.specs.Cmp.{eq_by_cmp_equiv}
-use Rattle.std.specs.Bool.{if◌then◌else◌}
 use Rattle.std.specs.Option.{is_some, option_and_then, option_map, unwrap_or}
 use Rattle.lwm2m_values.specs.Reading.{nodes_of_bytes, value_of_bytes, value_of_text}
 use Rattle.lwm2m_values.specs.Tree.{Trees, multi, part, none, more}
 use Rattle.lwm2m_values.specs.declared.kind.ValueKind.{ValueKind}
 use Rattle.lwm2m_values.specs.declared.value.Value.{Value}
 use Rattle.object_defs.specs.Catalog.{definition_of}
-use Rattle.object_defs.specs.Lines.{first_line}
 use Rattle.object_defs.specs.Operations.{can_read}
 use Rattle.object_defs.specs.Path.{part_of}
 use Rattle.object_defs.specs.declared.definition.ResourceDef.{ResourceDef}
@@ -25,18 +23,16 @@ use Rattle.lwm2m_payloads.specs.declared.given.Given.{Given}
 use Rattle.lwm2m_payloads.specs.declared.given.Given.TheVariants.{Parts}
 use Rattle.lwm2m_payloads.specs.declared.given.Mode.{Mode}
 use Rattle.device_requests.specs.declared.answer.Code.{Code}
-use Rattle.device_requests.specs.declared.answer.Code.TheVariants.{Unauthorized, NotFound, MethodNotAllowed}
-use Rattle.device_requests.specs.declared.answer.Code.TheVariants.{NotAcceptable, InternalServerError}
 use Rattle.device_requests.specs.Access.{may_read}
-use Rattle.device_requests.specs.Answer.{bare, refused_or}
 use Rattle.device_requests.specs.Client.{Client, with_stored}
 use Rattle.device_requests.specs.Laws.{content_within}
 use Rattle.device_requests.specs.Outcomes.{read_answer, write_outcome}
-use Rattle.device_requests.specs.Read.{content_in, format_at, one_payload, payload_in, read_payload}
-use Rattle.device_requests.specs.Refusals.{is_oversized, refusals_of, to_write}
+use Rattle.device_requests.specs.Read.{format_at, one_payload, payload_in, read_payload}
+use Rattle.device_requests.specs.Refusals.{refusals_of, to_write}
 use Rattle.device_requests.specs.Targets.{exists, is_multiple, is_readable, place_of, resource_place}
 use Rattle.device_requests.specs.Write.{given_to_part, values_given}
 use Rattle.device_requests.specs.Write.{write_unless}
+use Rattle.device_requests.proofs.ReadBack.{shown}
 use Rattle.laws_requests.specs.Readings.{IsPartReadBack, PartIsRead}
 use Rattle.laws_requests.proofs.Asking.{fails}
 use Rattle.laws_requests.proofs.Writing.{comes, leaves, unrefused}
@@ -75,27 +71,6 @@ pub both_are : (a b : Bool) → not (a && b) ≡ false → (a ≡ true) × (b �
 both_are true true h = (refl, refl)
 both_are true false h = cc
 both_are false b h = cc
-
--- by the rule of a payload's length
-by_length : (long : Bool) (format wanted : Format) (payload : List ℕ) → Some format ≡ Some wanted
-    → refused_or (if long then Some InternalServerError else None) (content_in (Some format) payload)
-    ≡ (if long then bare InternalServerError else content_in (Some wanted) payload)
-by_length true format wanted payload l = refl
-by_length false format wanted payload l = ap (λ (w : Option Format). content_in w payload) l
-
--- no rule of a Read holds but that of its payload's length
-pub shown : (a b s c : Bool) (format : Option Format) (wanted : Format) (payload : List ℕ) → a ≡ false → b ≡ false
-    → s ≡ false → c ≡ false → format ≡ Some wanted
-    → refused_or (first_line ((a, Unauthorized) ∷ (b, NotFound) ∷ (s, Unauthorized) ∷ (c, MethodNotAllowed)
-    ∷ (not (is_some format), NotAcceptable) ∷ (is_oversized payload, InternalServerError) ∷ []))
-    (content_in format payload) ≡ content_within wanted payload
-shown true b s c format wanted payload h j m k l = cc
-shown false true s c format wanted payload h j m k l = cc
-shown false false true c format wanted payload h j m k l = cc
-shown false false false true format wanted payload h j m k l = cc
-shown false false false false None wanted payload h j m k l = cc
-shown false false false false (Some format) wanted payload h j m k l =
-    by_length (is_oversized payload) format wanted payload l
 
 -- a part that can be read and has a value
 record HoldsPart (client : Client) (o i r n : ℕ) (d : ResourceDef) (value : Value) : Type 0 where

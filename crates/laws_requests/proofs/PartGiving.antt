@@ -26,12 +26,12 @@ use Rattle.lwm2m_payloads.specs.declared.given.Creation.{Creation}
 use Rattle.lwm2m_payloads.specs.declared.given.Given.{Given}
 use Rattle.lwm2m_payloads.specs.declared.given.Given.TheVariants.{Parts}
 use Rattle.lwm2m_payloads.specs.declared.given.Purpose.TheVariants.{Create}
+use Rattle.device_requests.proofs.Among.{any_found, among-any}
 use Rattle.laws_requests.specs.Payloads.{AreBytesOf, CreationsAreGiven, RecordsGive, GivesCreation}
 use Rattle.laws_requests.specs.Payloads.{GivesPart, HasMandatory}
 use Rattle.laws_requests.specs.Payloads.{PartsAreGiven}
 use Rattle.laws_requests.specs.Payloads.{part_alone, part_by_bytes}
 use Rattle.laws_requests.specs.Payloads.{part_by_text, part_in_resource, with_number, without_number}
-use Rattle.laws_requests.proofs.Among.{among_any, any_found}
 use Rattle.laws_requests.proofs.Giving.{all_give, any_named, give_all, given_some, named_any}
 use Rattle.laws_requests.proofs.Giving.{no_instance, unless_some}
 
@@ -144,7 +144,7 @@ has_mandatory : (resources : List ResourceDef) (given : List Assignment) → lac
 has_mandatory resources given h d among mandatory readable =
     let never : lacks_it given d ≡ false =
     false_from_ne_true (lacks_it given d) (λ k. both_ways (lacks_mandatory resources given) h
-    (among_any (lacks_it given) d resources among k)) in
+    (among-any (lacks_it given) d resources among k)) in
     any_named given d.id (lacking d.mandatory (can_read d.ops) (list_any (λ a. a.resource == d.id) given) mandatory
     readable never)
 

@@ -6,24 +6,21 @@ use Rattle.std.specs.List.{count_by, list_any}
 use Rattle.std.proofs.lemmas.Bool.{le-leb, eqb-true, and_parts, and_from, false_from_ne_true, both_ways, or_cases}
 use Rattle.std.proofs.lemmas.Bool.Decides.{nat_tests}
 use Rattle.std.proofs.lemmas.List.Sums.{sum_by-cons}
-use Rattle.std.proofs.lemmas.Bool.{or_left}
+use Rattle.std.proofs.lemmas.Bool.{or_left, leb-true}
 use Rattle.lemmas.proofs.Numbers.{eqb_itself}
 use Rattle.coap_codec.specs.declared.option.Opt.{Opt}
 use Rattle.device_requests.specs.Laws.{IsAmong}
 use Rattle.device_requests.specs.Options.{has_known_form, has_unknown_critical}
 use Rattle.device_requests.specs.Options.{has_unrecognized_critical, is_critical, known_options}
 use Rattle.device_requests.specs.Options.{repeats}
+use Rattle.device_requests.proofs.Among.{any_found, among-any}
 use Rattle.laws_requests.specs.Understood.{CriticalIsUnderstood, HasNo}
 use Rattle.laws_requests.specs.Understood.{IsRecognized, IsUnderstood}
 use Rattle.laws_requests.specs.Understood.{accept, content_format}
 use Rattle.laws_requests.specs.Understood.{observe}
 use Rattle.laws_requests.specs.Understood.{uri_host, uri_path, uri_port, uri_query}
-use Rattle.laws_requests.proofs.Among.{among_any, any_found}
 
 -- ---- the table of recognized options
-
-pub at_most : (a b : ℕ) → nat_le a b ≡ true → a ≤ b
-at_most a b h = grind (arith, nat_tests)
 
 -- a line of the table applies
 abbrev fits : ℕ → ℕ → ℕ → ℕ → ℕ → Bool
@@ -38,7 +35,7 @@ is_fit : (k least most n size : ℕ) → fits k least most n size ≡ true → F
 is_fit k least most n size h =
     let b = and_parts (k == n) (nat_le least size && nat_le size most) h in
     let c = and_parts (nat_le least size) (nat_le size most) b.1 in
-    record { same = eqb-true k n b.0; low = at_most least size c.0; high = at_most size most c.1 }
+    record { same = eqb-true k n b.0; low = leb-true least size c.0; high = leb-true size most c.1 }
 
 within : (least most size : ℕ) → least ≤ size → size ≤ most → (nat_le least size && nat_le size most) ≡ true
 within least most size h k = and_from (nat_le least size) (nat_le size most) (le-leb least size h) (le-leb size most k)
@@ -244,7 +241,7 @@ understood os h before after o splits odd =
     let test = λ (x : Opt). is_critical x && not (has_known_form x) in
     let critical : is_critical o ≡ true = ap (λ (k : ℕ). k == 1) odd in
     let off : test o ≡ false =
-    false_from_ne_true (test o) (λ k. both_ways (list_any test os) p.known (among_any test o os among k)) in
+    false_from_ne_true (test o) (λ k. both_ways (list_any test os) p.known (among-any test o os among k)) in
     let r = form_means o.number (length o.value) (known_then (is_critical o) (has_known_form o) off critical) in
     record {
       recognized = r;

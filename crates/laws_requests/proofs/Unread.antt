@@ -71,6 +71,7 @@ use Rattle.device_requests.specs.WriteAttributes.{annotate_unless, attributes_gi
 use Rattle.device_requests.proofs.Reading.{said}
 use Rattle.laws_requests.specs.Unread.{AnswersHideUnread, DiffersUnread, asks_firmware, is_package}
 use Rattle.device_requests.proofs.Depending.{read_by, same_instance, same_list}
+use Rattle.device_requests.proofs.Hiding.{same_map}
 use Rattle.laws_requests.proofs.Differing.{instance_below, resource_below, same_below, same_excess, same_excesses}
 use Rattle.laws_requests.proofs.Differing.{same_exists, same_parts, same_reads, same_rights, same_target}
 
@@ -102,17 +103,6 @@ hidden_by client path accept e false new old h =
     let format = format_at client.catalog path accept in
     unread (object_in path == 0) (not e) (lines_behind client path accept new) (lines_behind client path accept old)
     (content_in format new) (content_in format old)
-
--- maps that agree on what passes
-same_map : (p : ℕ → Bool) (f g : ℕ → Tree) → ((i : ℕ) → p i ≡ true → f i ≡ g i) → (ns : List ℕ) → map f (filter p ns)
-    ≡ map g (filter p ns)
-same_map p f g h [] = refl
-same_map p f g h (n ∷ ns) =
-    elim (p n) as (λ b. (b ≡ true → f n ≡ g n) → map f (if b then n ∷ filter p ns else filter p ns)
-    ≡ map g (if b then n ∷ filter p ns else filter p ns)) [
-      | true ↦ λ k. λ j. k refl j ∷ same_map p f g h ns j
-      | false ↦ λ k. same_map p f g h ns
-    ] (h n)
 
 abbrev shown_by : List ResourceDef → Pairs → List ℕ
 shown_by resources es = shortest_tlv (nodes_of (filter (λ e. is_shown resources e.0) es))

@@ -32,6 +32,7 @@ use Rattle.device_template.specs.Values.{fits, fits_object, fits_resource, has_a
 use Rattle.device_template.specs.Values.{is_set_at_start}
 use Rattle.device_template.specs.declared.fault.TemplateFault.{TemplateFault}
 use Rattle.device_template.specs.declared.fault.TemplateFault.TheVariants.{Range, Missing, Duplicate, Full}
+use Rattle.device_template.proofs.OwnKinds.{own_kind}
 use Rattle.laws_tables.specs.Refusals.{IsOwn, IsSetByDevice, IsShortEnough, IsSound, IsVendors, MayBe, RefusedInOrder}
 use Rattle.laws_tables.specs.Refusals.{SuitsObject, SuitsPath, SuitsResource}
 
@@ -396,14 +397,6 @@ named (Link x y) kind.Flag h = cc
 named (Link x y) kind.Opaque h = cc
 named (Link x y) kind.Moment h = cc
 named (Link x y) kind.Link h = refl
-
-own_kind : (v : Value) → has_kind v (kind_of v) ≡ true
-own_kind (Text x) = refl
-own_kind (Whole x) = refl
-own_kind (Flag x) = refl
-own_kind (Opaque x) = refl
-own_kind (Moment x) = refl
-own_kind (Link x y) = refl
 
 tells_kind : (v : Value) (k : ValueKind) → Tells (has_kind v k) (k ≡ kind_of v)
 tells_kind v k = record { said = named v k; so = λ e. ap (has_kind v) e ∙ own_kind v }

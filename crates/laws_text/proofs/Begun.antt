@@ -1,6 +1,7 @@
 -- What had an effect; and that `scenario 1` stands before it.
 use Rattle.std.proofs.Common.{◌≡◌, ℕ, ◌+◌, Bool, true, false, cond, List, [], ◌∷◌, Option, None, Some, Result, Ok, Err}
 use Rattle.std.proofs.Common.{refl, sym, ap, ◌∙◌}
+use Rattle.lemmas.proofs.Tests.{never_both}
 use Rattle.device_template.specs.Template.{Template}
 use Rattle.device_machine.specs.declared.event.Event.TheVariants as event
 use Rattle.scenario_image.specs.declared.step.Step.{Step}
@@ -137,14 +138,11 @@ stays_begun [] n d e h begun = let same : d ≡ e = cc in sym (ap (λ x. x.begun
 stays_begun (line ∷ more) n d e h begun =
     stays_at more n d e (statement_of (words line)) h begun (λ f g b. stays_begun more (n + 1) f e g b)
 
-both : (b : Bool) → b ≡ true → b ≡ false → ⊥
-both b p q = cc
-
 blank_by : (line : List ℕ) (more : List (List ℕ)) (n : ℕ) (d e : Draft) (s : Statement) (r : Result Draft Cause)
     → effect s d ≡ r → go_on more n r ≡ Ok e → e.begun ≡ false → AreBlank (line ∷ more)
 blank_by line more n d e s (Err cause) is h unbegun = absurd cc
 blank_by line more n d e s (Ok f) is h unbegun =
-    absurd (both e.begun (stays_begun more (n + 1) f e h (begun_behind s d f is)) unbegun)
+    absurd (never_both e.begun (stays_begun more (n + 1) f e h (begun_behind s d f is)) unbegun)
 
 blank_at : (line : List ℕ) (more : List (List ℕ)) (n : ℕ) (d e : Draft) (q : Result (Option Statement) Cause)
     → statement_of (words line) ≡ q → go_on more n (q >>= (λ o. effect_of o d)) ≡ Ok e → e.begun ≡ false

@@ -8,6 +8,7 @@ use Rattle.std.specs.Ordering.{eq_by_cmp}
 use Rattle.std.specs.Cmp.{IsTotalOrder}
 use Rattle.std.proofs.lemmas.Cmp.{eq_by_cmp_equiv}
 use Rattle.std.proofs.lemmas.Map.Views.{tells_apart}
+use Rattle.lemmas.proofs.Tests.{never_both}
 use Rattle.lwm2m_values.specs.declared.value.Value.{Value}
 use Rattle.object_defs.specs.Catalog.{definition_of, object_of, resource_in}
 use Rattle.object_defs.specs.Path.{instance_cmp, path_cmp}
@@ -27,9 +28,6 @@ use Rattle.instance_store.specs.Stored.{Stored, has_instance, value_at, with_ins
 -- what is there after an addition: what was there, and what was added
 abbrev pub Grows : Type 0 → Type 0 → Type 0 → Type 0
 Grows now before added = now ↔ (before ⊎ added)
-
-not_true : (b : Bool) → b ≡ true → b ≡ false → ⊥
-not_true b p q = cc
 
 either_of : {A : Type 0} → A ⊎ A → A
 either_of (inl h) = h
@@ -95,7 +93,7 @@ object_by c id q true e free =
           ∙ ap is_some (object_of-with_object_same c id free)),
     )
 object_by c id q false e free =
-    let other : q ≢ id = λ k. not_true (eqb q id) (ap (λ n. eqb n id) k ∙ same_number id) e in
+    let other : q ≢ id = λ k. never_both (eqb q id) (ap (λ n. eqb n id) k ∙ same_number id) e in
     let is = ap is_some (object_of-with_object_other c id q other) in (
       (λ h. inl (sym is ∙ h)),
       (λ h. is ∙ before_or (λ k. other (sym k)) h),
@@ -115,7 +113,7 @@ resource_keeps_by c id d q true e =
     ∙ sym (ap (λ n. is_some (object_of (with_resource c id d) n)) same)
 resource_keeps_by c id d q false e =
     sym (ap is_some (object_of-with_resource_other c id d q
-    (λ k. not_true (eqb q id) (ap (λ n. eqb n id) k ∙ same_number id) e)))
+    (λ k. never_both (eqb q id) (ap (λ n. eqb n id) k ∙ same_number id) e)))
 
 -- a resource adds no object
 pub resource_keeps : (c : List ObjectDef) (id : ℕ) (d : ResourceDef) (q : ℕ)
@@ -137,7 +135,7 @@ object_keeps_by c id q r true e free =
     ∙ sym (ap (λ n. definition_of (with_object c id) n r) same)
 object_keeps_by c id q r false e free =
     sym (ap (λ x. option_and_then (λ p. resource_in p.resources r) x)
-    (object_of-with_object_other c id q (λ k. not_true (eqb q id) (ap (λ n. eqb n id) k ∙ same_number id) e)))
+    (object_of-with_object_other c id q (λ k. never_both (eqb q id) (ap (λ n. eqb n id) k ∙ same_number id) e)))
 
 -- a new object defines no resource
 pub object_keeps : (c : List ObjectDef) (id q r : ℕ) → vendor_fault c id ≡ None
@@ -185,9 +183,9 @@ definition_by c id d q r e true true is at free =
       (λ h. defined_now c id d q r e now before h),
     )
 definition_by c id d q r e true false is at free =
-    other_definition c id d q r e (λ k. not_true (eqb r d.id) (ap (λ n. eqb n d.id) k.1 ∙ same_number d.id) at)
+    other_definition c id d q r e (λ k. never_both (eqb r d.id) (ap (λ n. eqb n d.id) k.1 ∙ same_number d.id) at)
 definition_by c id d q r e false b is at free =
-    other_definition c id d q r e (λ k. not_true (eqb q id) (ap (λ n. eqb n id) k.0 ∙ same_number id) is)
+    other_definition c id d q r e (λ k. never_both (eqb q id) (ap (λ n. eqb n id) k.0 ∙ same_number id) is)
 
 pub definition_grows : (c : List ObjectDef) (id : ℕ) (d : ResourceDef) (q r : ℕ) (e : ResourceDef)
     → resource_fault c id d ≡ None
@@ -198,7 +196,7 @@ definition_grows c id d q r e free = definition_by c id d q r e (eqb q id) (eqb 
 
 apart_from : {K : Type 0} {R : K → K → Ordering} (o : IsTotalOrder R) (q k : K) → eq_by_cmp R q k ≡ false → k ≡ q → ⊥
 apart_from {R = R} o q k e same =
-    not_true (eq_by_cmp R q k) (ap (eq_by_cmp R q) same ∙ (eq_by_cmp_equiv o).refl q) e
+    never_both (eq_by_cmp R q k) (ap (eq_by_cmp R q) same ∙ (eq_by_cmp_equiv o).refl q) e
 
 instance_by : (s : Stored) (p q : InstancePath) (b : Bool) → eq_by_cmp instance_cmp q p ≡ b
     → Grows (has_instance (with_instance s p) q ≡ true) (has_instance s q ≡ true) (p ≡ q)

@@ -1,9 +1,10 @@
 -- A class holds what its part states.
 use Rattle.std.proofs.Common.{◌≡◌, ◌↔◌, ◌⊎◌, inl, inr, ℕ, ◌<◌, Bool, true, false, List, [], ◌∷◌, Option, None, Some, Ok}
-use Rattle.std.proofs.Common.{option_map, eqb, eqb-true, refl, sym, ap, subst, ◌∙◌, arith}
+use Rattle.std.proofs.Common.{eqb, eqb-true, refl, sym, ap, subst, ◌∙◌, arith}
 use Rattle.std.specs.Prelude.{is_some, nat_le, not}
 use Rattle.std.specs.FinMap.{get-empty}
 use Rattle.std.specs.List.{list_any}
+use Rattle.lemmas.proofs.Options.{option_map_none, none_from_test}
 use Rattle.lwm2m_values.specs.declared.value.Value.{Value}
 use Rattle.lwm2m_values.specs.Value.{has_good_length}
 use Rattle.object_defs.specs.Catalog.{definition_of, object_of}
@@ -57,14 +58,6 @@ data IsChange : Statement → Option ℕ → Template → Template → Type 0 wh
   value : (path : Path) (p : FullPath) (v : Value) (o : Option ℕ) (c : Template) → full_path path ≡ Some p
       → value_at c.store p ≡ None → IsChange (says.Value path v) o c (with_store c (with_value c.store p v))
 
-unmapped : {A B : Type 0} (f : A → B) (o : Option A) → option_map f o ≡ None → o ≡ None
-unmapped f None h = refl
-unmapped f (Some x) h = absurd cc
-
-is_new : {A : Type 0} (o : Option A) → is_some o ≡ false → o ≡ None
-is_new None h = refl
-is_new (Some x) h = absurd cc
-
 is_unset : (a b : Bool) → first_line ((a, Range) ∷ (not b, Duplicate) ∷ []) ≡ None → b ≡ true
 is_unset true b h = absurd cc
 is_unset false true h = refl
@@ -83,7 +76,7 @@ valued path None v o c e is h = absurd cc
 valued path (Some p) v o c e is h =
     let u = unrefused (value_cause c (Some p) v) (with_store c (with_value c.store p v)) e h in
     subst (IsChange (says.Value path v) o c) u.1
-    (value path p v o c is (is_new (value_at c.store p)
+    (value path p v o c is (none_from_test (value_at c.store p)
     (is_free _ _ (not (has_good_length v)) (nat_le 65535 (value_count c.store)) (has_all_parts c.store p) u.0)))
 
 no_change : (s : Statement) (o : Option ℕ) (c e : Template) → is_of_class s ≡ false → c ≡ e → IsChange s o c e
@@ -101,12 +94,12 @@ change (says.Account server) o c e h =
 change (says.Object id) o c e h =
     let u = unrefused _ _ e h in
     subst (IsChange (says.Object id) o c) u.1
-    (object id o c (unmapped fault_of _ (unmapped template_cause _ u.0)))
+    (object id o c (option_map_none fault_of _ (option_map_none template_cause _ u.0)))
 change (says.Def d) o c e h =
     let u = unrefused _ _ e h.2 in
     subst (λ x. IsChange (says.Def d) x c e) (sym h.1)
     (subst (IsChange (says.Def d) (Some h.0) c) u.1
-    (resource d h.0 c (unmapped fault_of _ (unmapped template_cause _ u.0))))
+    (resource d h.0 c (option_map_none fault_of _ (option_map_none template_cause _ u.0))))
 change (says.Instance place) o c e h =
     subst (IsChange (says.Instance place) o c) (unrefused _ _ e (needed _ _ e h).1).1 (instance place o c)
 change (says.Value path v) o c e h = valued path (full_path path) v o c e refl (needed _ _ e h).1

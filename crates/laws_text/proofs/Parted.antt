@@ -1,13 +1,13 @@
 -- The classes and the devices of a text's scenario are what its parts say.
-use Rattle.std.proofs.Common.{◌≡◌, ℕ, suc, ◌-◌, Bool, true, false, cond, List, []}
-use Rattle.std.proofs.Common.{◌∷◌, ◌++◌, length, Option, None, Some}
-use Rattle.std.proofs.Common.{Result, Ok, Err, refl, sym, ap, subst, ◌∙◌, set, append_assoc, append-nil, arith}
-use Rattle.std.specs.List.{slice_get}
+use Rattle.std.proofs.Common.{◌≡◌, ℕ, Bool, true, false, cond, List, []}
+use Rattle.std.proofs.Common.{◌∷◌, ◌++◌, Option, None, Some}
+use Rattle.std.proofs.Common.{Result, Ok, Err, refl, sym, ap, subst, ◌∙◌, append_assoc, append-nil}
 use Rattle.device_template.specs.Template.{Template, empty_class}
 use Rattle.device_machine.specs.declared.event.Event.TheVariants as event
 use Rattle.scenario_image.specs.Scenario.{Row, Scenario, last_row, longer, with_last}
 use Rattle.scenario_image.specs.declared.step.Step.{Step}
 use Rattle.scenario_image.specs.declared.step.Step.TheVariants as step
+use Rattle.scenario_image.proofs.RowLaws.{last_longer}
 use Rattle.scenario_words.specs.declared.cause.Cause.{Cause}
 use Rattle.scenario_words.specs.Words.{lines, words}
 use Rattle.scenario_words.specs.Reading.{◌>>=◌}
@@ -227,34 +227,6 @@ classes_from (s ∷ ss) d e h =
 
 -- ---- the rows
 
-length_push : {X : Type 0} (xs : List X) (x : X) → length (xs ++ x ∷ []) ≡ suc (length xs)
-length_push [] x = refl
-length_push (y ∷ xs) x = ap suc (length_push xs x)
-
-minus_one : (n : ℕ) → suc n - 1 ≡ n
-minus_one n = omega arith
-
-last_push : {X : Type 0} (xs : List X) (x : X) → length (xs ++ x ∷ []) - 1 ≡ length xs
-last_push xs x = ap (λ n. n - 1) (length_push xs x) ∙ minus_one (length xs)
-
-get_last : {X : Type 0} (xs : List X) (x : X) → slice_get (xs ++ x ∷ []) (length xs) ≡ Some x
-get_last [] x = refl
-get_last (y ∷ xs) x = get_last xs x
-
-set_last : {X : Type 0} (xs : List X) (x z : X) → set (xs ++ x ∷ []) (length xs) z ≡ xs ++ z ∷ []
-set_last [] x z = refl
-set_last (y ∷ xs) x z = ap (λ t. y ∷ t) (set_last xs x z)
-
-is_last : (rows : List Row) (r : Row) → last_row (rows ++ r ∷ []) ≡ Some r
-is_last rows r = ap (slice_get (rows ++ r ∷ [])) (last_push rows r) ∙ get_last rows r
-
-with_longer : (rows : List Row) (r : Row) (x : Step)
-    → with_last (rows ++ r ∷ []) (last_row (rows ++ r ∷ [])) x ≡ rows ++ longer r x ∷ []
-with_longer rows r x =
-    ap (λ o. with_last (rows ++ r ∷ []) o x) (is_last rows r)
-    ∙ ap (λ n. set (rows ++ r ∷ []) n (longer r x)) (last_push rows r)
-    ∙ set_last rows r (longer r x)
-
 -- the rows from here on: those that are there, to the last of which the steps up to the next `device` belong
 abbrev RowsFrom : List Row → List Statement → List Row → Type 0
 RowsFrom there ss rows =
@@ -280,7 +252,7 @@ rows_longer : (s : Statement) (x : Step) (ss : List Statement) (there new rows :
 rows_longer s x ss there new rows same steps others h = (
   (λ none. h.0 (sym same ∙ ap (λ rs. with_last rs (last_row rs) x) none) ∙ sym others),
   (λ front r is. h.1 front (longer r x)
-      (sym same ∙ ap (λ rs. with_last rs (last_row rs) x) is ∙ with_longer front r x)
+      (sym same ∙ ap (λ rs. with_last rs (last_row rs) x) is ∙ last_longer front r x)
       ∙ ap (λ xs. front ++ record { class = r.class; steps = xs } ∷ said_rows ss)
       (append_assoc r.steps (x ∷ []) (said_steps ss) ∙ ap (λ xs. r.steps ++ xs) (sym steps))
       ∙ ap (λ rs. front ++ record { class = r.class; steps = r.steps ++ said_steps (s ∷ ss) } ∷ rs) (sym others)),

@@ -45,10 +45,6 @@ front_taken (x ∷ xs) ys n d e h =
     let rest = front_taken xs ys (n + 1) s.0 e s.2 in
     (rest.0, ap (go_on xs n) s.1 ∙ rest.1)
 
-pub one_more : (xs : List (List ℕ)) (line : List ℕ) (n : ℕ) (d e f : Draft) → lines_after xs n d ≡ Ok e
-    → line_after line e ≡ Ok f → lines_after (xs ++ line ∷ []) n d ≡ Ok f
-one_more xs line n d e f h taken = run_on xs (line ∷ []) n d e h ∙ ap (go_on [] (n + length xs)) taken
-
 -- the line after those that are taken is refused
 pub refused_behind : (xs : List (List ℕ)) (line : List ℕ) (ys : List (List ℕ)) (n : ℕ) (d e : Draft) (cause : Cause)
     → lines_after xs n d ≡ Ok e → line_after line e ≡ Err cause

@@ -3,6 +3,7 @@ use Rattle.std.proofs.Common.{◌≡◌, ℕ, ◌+◌, ◌-◌, List, [], ◌∷
 use Rattle.std.proofs.Common.{Result, Ok, Err, refl, sym, ap, subst, ◌∙◌, arith}
 use Rattle.std.proofs.lemmas.List.{take-append-drop}
 use Rattle.std.proofs.Math.Seq.{take-append-add, take-append_seam}
+use Rattle.lemmas.proofs.Lists.{each_front}
 use Rattle.scenario_words.specs.declared.cause.Cause.{Cause}
 use Rattle.scenario_words.specs.declared.cause.Cause.TheVariants.{Missing}
 use Rattle.scenario_words.specs.Words.{lines, words}
@@ -15,7 +16,7 @@ use Rattle.laws_text.specs.SameWords.{AreAlike, BlankLinesAddNothing, BlankLines
 use Rattle.laws_text.specs.SameWords.{worded}
 use Rattle.laws_text.specs.WrongLine.{AreBlank, StatesNothing}
 use Rattle.laws_text.proofs.Runs.{StopsAt, first_taken, go_on, stop_is, stops_at}
-use Rattle.laws_text.proofs.Wrong.{fault_at, front_all, line_is, nothing_is_missing, number, same_whole, states_nothing}
+use Rattle.laws_text.proofs.Wrong.{fault_at, line_is, nothing_is_missing, number, same_whole, states_nothing}
 use Rattle.laws_text.proofs.Wrong.{taken_whole}
 
 -- ---- the same words in each line
@@ -219,7 +220,7 @@ worded_blank (line ∷ more) h = worded_blank_by (words line) line more refl h (
 blank_front : (ls : List (List ℕ)) (n : ℕ) → AreBlank ls → worded (take n ls) ≡ []
 blank_front ls n h =
     blank_worded (take n ls)
-    (front_all (λ line. words line ≡ []) (take n ls) (drop n ls) (subst AreBlank (sym (take-append-drop n ls)) h))
+    (each_front (λ line. words line ≡ []) (take n ls) (drop n ls) (subst AreBlank (sym (take-append-drop n ls)) h))
 
 -- of texts that state nothing
 nothing_moved : (text other : List ℕ) (f : AsmFault) → worded (lines text) ≡ worded (lines other)

@@ -5,6 +5,7 @@ use Rattle.std.proofs.Common.{append_assoc, arith}
 use Rattle.std.specs.List.{AllByRecursion, flat_map, onto_first}
 use Rattle.std.proofs.lemmas.List.{take-append-drop}
 use Rattle.std.proofs.Math.Seq.{take-append-add}
+use Rattle.lemmas.proofs.Lists.{each_appended, each_front}
 use Rattle.scenario_image.specs.Scenario.{Scenario}
 use Rattle.scenario_words.specs.declared.cause.Cause.{Cause}
 use Rattle.scenario_words.specs.declared.cause.Cause.TheVariants.{Duplicate, Missing}
@@ -20,12 +21,12 @@ use Rattle.scenario_asm.specs.Denotes.{Denotes}
 use Rattle.scenario_asm.specs.Draft.{Draft, closed, nothing}
 use Rattle.scenario_asm.specs.Text.{assembled, effect_of, line_after, lines_after, whole, whole_of}
 use Rattle.scenario_asm.proofs.Denoting.{denotes_so, so_denotes}
-use Rattle.scenario_asm.proofs.Each.{each_append}
+use Rattle.scenario_asm.proofs.Lines.{taken_more}
 use Rattle.laws_text.specs.WrongLine.{CanBegin, IsFirstWrong, IsRefusedAt, LaterLinesChangeNothing}
 use Rattle.laws_text.specs.WrongLine.{NothingElseEndsWrong, NothingIsMissing}
 use Rattle.laws_text.specs.WrongLine.{RefusedAtFirstWrong, StatesNothing}
 use Rattle.laws_text.proofs.Begun.{are_blank, blank_run}
-use Rattle.laws_text.proofs.Runs.{front_taken, go_on, one_more, refused_behind, run_on, stop_is, stops_at}
+use Rattle.laws_text.proofs.Runs.{front_taken, go_on, refused_behind, run_on, stop_is, stops_at}
 
 -- ---- each line of a text stands alone in a text
 
@@ -42,15 +43,11 @@ each_alone : (bs : List ℕ) → AllByRecursion IsLine (lines bs)
 each_alone [] = (refl, tt)
 each_alone (b ∷ bs) = alone_by b (eqb b 10) bs (lines bs) refl refl (each_alone bs)
 
-pub front_all : {X : Type 0} (P : X → Type 0) (xs ys : List X) → AllByRecursion P (xs ++ ys) → AllByRecursion P xs
-front_all P [] ys h = tt
-front_all P (x ∷ xs) ys h = (h.0, front_all P xs ys h.1)
-
 -- those of a text up to a line
 front_alone : (text : List ℕ) (before behind : List (List ℕ)) → lines text ≡ before ++ behind
     → AllByRecursion IsLine before
 front_alone text before behind cut =
-    front_all IsLine before behind (subst (AllByRecursion IsLine) cut (each_alone text))
+    each_front IsLine before behind (subst (AllByRecursion IsLine) cut (each_alone text))
 
 -- ---- lines that are taken begin the text of a scenario
 
@@ -86,10 +83,10 @@ first_line_taken d unbegun =
 begins_by : (ls : List (List ℕ)) (d : Draft) (b : Bool) → d.begun ≡ b → AllByRecursion IsLine ls
     → lines_after ls 0 nothing ≡ Ok d → CanBegin ls
 begins_by ls d true begun alone taken =
-    begins ls [] d d (each_append IsLine ls [] alone tt) taken refl begun
+    begins ls [] d d (each_appended IsLine ls [] alone tt) taken refl begun
 begins_by ls d false begun alone taken =
     begins ls (line_of says.Scenario ∷ []) d (begun_now d)
-    (each_append IsLine ls (line_of says.Scenario ∷ []) alone (line_alone says.Scenario tt, tt)) taken
+    (each_appended IsLine ls (line_of says.Scenario ∷ []) alone (line_alone says.Scenario tt, tt)) taken
     (ap (go_on ([] ∷ []) (0 + length ls)) (first_line_taken d begun)) refl
 
 can_begin : (ls : List (List ℕ)) (d : Draft) → AllByRecursion IsLine ls → lines_after ls 0 nothing ≡ Ok d → CanBegin ls
@@ -188,7 +185,7 @@ wrong_by text line w d (Ok e) taken is =
     absurd (w.wrong (can_begin (w.before ++ w.here ∷ []) e
     (front_alone text (w.before ++ w.here ∷ []) w.behind
     (w.cut ∙ sym (append_assoc w.before (w.here ∷ []) w.behind)))
-    (one_more w.before w.here 0 nothing d e taken is)))
+    (taken_more w.before w.here 0 nothing d e taken is)))
 
 wrong_refused : (text : List ℕ) (line : ℕ) → IsFirstWrong text line → IsRefusedAt text line
 wrong_refused text line w =
@@ -224,7 +221,7 @@ later_by text other fault (Ok d) is h w same =
     (front_alone text (w.before ++ w.here ∷ []) w.behind
     (w.cut ∙ sym (append_assoc w.before (w.here ∷ []) w.behind)))
     (blank_run (w.before ++ w.here ∷ []) 0 nothing
-    (front_all (λ line. words line ≡ []) (w.before ++ w.here ∷ []) w.behind
+    (each_front (λ line. words line ≡ []) (w.before ++ w.here ∷ []) w.behind
     (subst (AllByRecursion (λ line. words line ≡ []))
     (w.cut ∙ sym (append_assoc w.before (w.here ∷ []) w.behind)) states.0)))))
 later_by text other fault (Err first) is h w same =

@@ -1,5 +1,6 @@
 -- Tests that are made of others. `Rattle.std.proofs.lemmas.Bool` has further ones.
-use Rattle.std.proofs.Common.{◌≡◌, Bool, true, false, not, ◌&&◌, ◌||◌, refl}
+use Rattle.std.proofs.Common.{◌≡◌, Bool, true, false, not, ◌&&◌, ◌||◌, refl, sym, ap}
+use Rattle.std.specs.Bool.{if◌then◌else◌}
 use Rattle.std.proofs.Math.Dec.{T}
 
 pub T_first : (a b : Bool) → T (a && b) → T a
@@ -41,3 +42,12 @@ second_if_denied false b h = cc
 
 pub never_both : (b : Bool) → b ≡ true → b ≡ false → ⊥
 never_both b p q = cc
+
+pub negated : (b c : Bool) → c ≡ not b → b ≡ not c
+negated true c h = sym (ap not h)
+negated false c h = sym (ap not h)
+
+-- whichever of two it is
+pub either : {X : Type 0} (P : X → Type 0) (b : Bool) (x y : X) → P x → P y → P (if b then x else y)
+either P true x y h k = h
+either P false x y h k = k

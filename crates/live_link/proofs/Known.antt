@@ -1,5 +1,5 @@
 -- What stays so when one more address is known.
-use Rattle.std.proofs.Common.{◌≡◌, ℕ, zero, suc, ◌+◌, ◌<◌, ◌≤◌, ◌⊎◌, List, [], ◌∷◌, ◌++◌, length, Option, None, Some}
+use Rattle.std.proofs.Common.{◌≡◌, ℕ, suc, ◌+◌, ◌<◌, ◌≤◌, ◌⊎◌, List, [], ◌∷◌, ◌++◌, length, Option, None, Some}
 use Rattle.std.proofs.Common.{Result, Ok, Err, IfOk, OnErr}
 use Rattle.std.proofs.Common.{inl, inr, refl, sym, ap, subst, ◌∙◌, append-nil, get_or, arith}
 use Rattle.std.proofs.lemmas.Bool.{cases_lt}
@@ -38,13 +38,6 @@ found_nowhere xs x None h = λ k e. absent_within xs x (length xs) h k (slice_ge
 found_nowhere xs x (Some i) h = tt
 
 -- ---- one more address
-
--- an item stays at its place
-still_at : {X : Type 0} (xs : List X) (y : X) (k : ℕ) (x : X) → slice_get xs k ≡ Some x
-    → slice_get (xs ++ y ∷ []) k ≡ Some x
-still_at [] y k x h = let e : None ≡ Some x = h in absurd cc
-still_at (z ∷ xs) y zero x h = h
-still_at (z ∷ xs) y (suc k) x h = still_at xs y k x h
 
 -- an item that was not there is at no two places
 once_more : {X : Type 0} (xs : List X) (y : X) → ((k : ℕ) → slice_get xs k ≡ Some y → ⊥)

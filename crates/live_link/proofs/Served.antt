@@ -4,6 +4,7 @@ use Rattle.std.proofs.Common.{Option, Result, Ok, Err, ◌↔◌, OnOk, IfErr, r
 use Rattle.std.proofs.Common.{append-nil, arith, zero-add}
 use Rattle.std.specs.Bool.{IsTrue}
 use Rattle.std.specs.List.{AllByRecursion}
+use Rattle.lemmas.proofs.Tests.{never_both}
 use Rattle.device_machine.specs.declared.event.Event.{Event as Happening}
 use Rattle.device_machine.specs.declared.event.Event.TheVariants.{Recv, Put, Firmware, Tick}
 use Rattle.device_machine.specs.declared.fault.StepFault.TheVariants as faults
@@ -12,6 +13,7 @@ use Rattle.device_machine.specs.Reactions.{outputs_of, flat_after, is_refused, p
 use Rattle.scenario_image.specs.declared.step.Step.{Step}
 use Rattle.scenario_image.specs.declared.step.Step.TheVariants.{Event}
 use Rattle.scenario_image.specs.Play.{state_after, step_after, step_outputs}
+use Rattle.scenario_image.proofs.Played.{after_push}
 use Rattle.live_link.specs.declared.packet.Packet.{Packet}
 use Rattle.live_link.specs.declared.session.LiveEnd.{LiveEnd}
 use Rattle.live_link.specs.declared.session.LiveEnd.TheVariants.{Turns, ReceiveFault, SendFault, Memory, Spent}
@@ -22,12 +24,6 @@ use Rattle.live_link.specs.Serving.{AreSent, AreCutShort, IsBroken, IsEarlyEnd, 
 use Rattle.live_link.proofs.Sent.{carries_both}
 
 -- ---- one step more
-
--- the state after one step more
-state_push : (f : Machine) (steps : List Step) (step : Step)
-    → state_after f (steps ++ step ∷ []) ≡ step_after (state_after f steps) step
-state_push f [] step = refl
-state_push f (s ∷ steps) step = state_push (step_after f s) steps step
 
 -- what steps output, with one step more
 pub sent_push : (f : Machine) (steps : List Step) (step : Step)
@@ -42,9 +38,6 @@ live_push : (steps : List Step) (step : Step) → AllByRecursion IsLiveStep step
     → AllByRecursion IsLiveStep (steps ++ step ∷ [])
 live_push [] step all one = (one, tt)
 live_push (s ∷ steps) step all one = (all.0, live_push steps step all.1 one)
-
-never_both : (b : Bool) → b ≡ true → b ≡ false → ⊥
-never_both b h k = let e : true ≡ false = sym h ∙ k in cc
 
 -- an event that is taken is not refused
 pub accepted : {T : Type 0} (o : T) (b : Bool) → ((Ok o ≡ Err faults.Spent) ↔ IsTrue b) → b ≡ false
@@ -77,7 +70,7 @@ pub step_served : (first : Device) (before : Option Traffic) (received : List (O
 step_served first before received device newer steps more sent noted between after event gone h live shows free
     put_out went e =
     subst (λ (s : List Step). IsServing first before received newer s noted after) (sym e) (record {
-      shows = λ f k. subst (Shows newer) (sym (state_push f steps (Event event)))
+      shows = λ f k. subst (Shows newer) (sym (after_push f steps (Event event)))
           (shows (state_after f steps) (h.shows f k));
       deaf = λ k. absurd (spent_refuses device event (h.deaf k).0 free);
       put_out = λ f k. went.noted ∙ ap (λ s. s ++ gone) (h.put_out f k)
@@ -160,7 +153,7 @@ step_cut end first before received device steps more sent noted between after ev
     })
 
 -- a device that is not spent refuses nothing but what passes its last second
-refused_late : (device : Device) (f : Machine) (event : Happening) → Shows device f → is_refused device event ≡ true
+pub refused_late : (device : Device) (f : Machine) (event : Happening) → Shows device f → is_refused device event ≡ true
     → passes_end f.kept.clock event ≡ true
 refused_late device f event h refused =
     ap (λ (g : Machine). passes_end g.kept.clock event) (sym h.holds)

@@ -122,7 +122,7 @@ receive_refused first before received device steps sent between after h k =
 
 -- ---- readings
 
-none_read : (read : Option (List ℕ)) → AreRead read read []
+pub none_read : (read : Option (List ℕ)) → AreRead read read []
 none_read None = tt
 none_read (Some readings) = sym (append-nil readings)
 

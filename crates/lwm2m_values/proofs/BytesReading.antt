@@ -12,7 +12,9 @@ use Rattle.std.proofs.lemmas.Nat.{from_be_bytes-to_be_bytes_4, from_be_bytes-to_
 use Rattle.std.specs.Str.{IsUtf8}
 use Rattle.base64.specs.GeneralPurpose.{IsBytes}
 use Rattle.std.specs.Result.{IfOk, IfErr, MatchResult}
+use Rattle.std.proofs.lemmas.Bool.{and_parts, and_from}
 use Rattle.lemmas.proofs.Numbers.{small_byte}
+use Rattle.lemmas.proofs.Options.{option_map_parts}
 use Rattle.lwm2m_values.specs.declared.fault.ValueFault.{ValueFault}
 use Rattle.lwm2m_values.specs.declared.fault.ValueFault.TheVariants.{BadValue, Memory}
 use Rattle.lwm2m_values.specs.declared.value.Value.{Value}
@@ -23,7 +25,7 @@ use Rattle.lwm2m_values.specs.declared.kind.ValueKind.TheVariants as kind
 use Rattle.lwm2m_values.specs.Value.{kind_of, holds_bytes, IsGood, IsIntegerOf, IsInteger, IsBytesOf, bytes_of}
 use Rattle.lwm2m_values.specs.Reading.{are_bytes, flag_by, width_of, integer_of_bytes, pair_of_bytes, spelled_by_bytes}
 use Rattle.lwm2m_values.specs.Reading.{value_of_bytes}
-use Rattle.lwm2m_values.proofs.Choices.{both, both_back, chosen, kept_if, mapped}
+use Rattle.lwm2m_values.proofs.Choices.{chosen, kept_if}
 use Rattle.lwm2m_values.proofs.GoodValue.{bytes_from, good_kept, good_back}
 use Rattle.lwm2m_values.proofs.OneBytes.{bits_8, bits_16, bits_32, bits_64, bytes_written}
 
@@ -86,7 +88,7 @@ byte_small (suc i) n = omega arith
 
 bytes_high : (k n : ℕ) → are_bytes (bytes_high_first k n) ≡ true
 bytes_high zero n = refl
-bytes_high (suc k) n = both_back _ _ (lt-ltb (byte_at k n) 256 (byte_small k n)) (bytes_high k n)
+bytes_high (suc k) n = and_from _ _ (lt-ltb (byte_at k n) 256 (byte_small k n)) (bytes_high k n)
 
 integer_read : (w : Width) (k : ℕ) (n : ℕ) (z : ℤ) (bytes : List ℕ) → bytes ≡ bytes_high_first k n
     → width_of (length (bytes_high_first k n)) ≡ Some w → from_be_bytes w (bytes_high_first k n) ≡ n
@@ -136,7 +138,7 @@ pair_from : (bytes : List ℕ) (o i : ℕ) → pair_of_bytes bytes ≡ Some (o, 
 pair_from bytes o i e =
     let h = chosen (are_bytes bytes && (length bytes == 4))
     (from_be_bytes w16 (take 2 bytes), from_be_bytes w16 (drop 2 bytes)) (o, i) e in
-    let tests = both (are_bytes bytes) (length bytes == 4) h.0 in
+    let tests = and_parts (are_bytes bytes) (length bytes == 4) h.0 in
     four_from bytes o i (eqb-true (length bytes) 4 tests.1) (bytes_from bytes tests.0) (ap (λ p. p.0) h.1)
     (ap (λ p. p.1) h.1)
 
@@ -144,8 +146,8 @@ pair_to : (bytes : List ℕ) (o i : ℕ) → o < 65536 → i < 65536 → bytes �
     → pair_of_bytes bytes ≡ Some (o, i)
 pair_to bytes o i p q e =
     let are : are_bytes (to_be_bytes w16 o ++ to_be_bytes w16 i) ≡ true =
-    both_back _ _ (lt-ltb (byte_at 1 o) 256 (byte_small 1 o))
-    (both_back _ _ (lt-ltb (byte_at 0 o) 256 (byte_small 0 o)) (bytes_high 2 i)) in
+    and_from _ _ (lt-ltb (byte_at 1 o) 256 (byte_small 1 o))
+    (and_from _ _ (lt-ltb (byte_at 0 o) 256 (byte_small 0 o)) (bytes_high 2 i)) in
     let first : from_be_bytes w16 (to_be_bytes w16 o) ≡ o = from_be_bytes-to_be_bytes_2 o (omega arith) in
     let second : from_be_bytes w16 (to_be_bytes w16 i) ≡ i = from_be_bytes-to_be_bytes_2 i (omega arith) in
     let here : ℕ × ℕ = (from_be_bytes w16 (to_be_bytes w16 o), from_be_bytes w16 (to_be_bytes w16 i)) in
@@ -179,19 +181,19 @@ spelled_from kind.Text v t e =
     let same : value.Text t ≡ v = cc e in
     subst (λ (x : Value). (kind_of x ≡ kind.Text) × IsBytesOf x t) same (refl, refl)
 spelled_from kind.Whole v t e =
-    let h = mapped value.Whole (integer_of_bytes t) v e in
+    let h = option_map_parts value.Whole (integer_of_bytes t) v e in
     subst (λ (x : Value). (kind_of x ≡ kind.Whole) × IsBytesOf x t) h.2 (refl, integer_from t h.0 h.1)
 spelled_from kind.Flag v t e =
-    let h = mapped value.Flag (flag_by 0 1 t) v e in
+    let h = option_map_parts value.Flag (flag_by 0 1 t) v e in
     subst (λ (x : Value). (kind_of x ≡ kind.Flag) × IsBytesOf x t) h.2 (refl, flag_from t h.0 h.1)
 spelled_from kind.Opaque v t e =
     let same : value.Opaque t ≡ v = cc e in
     subst (λ (x : Value). (kind_of x ≡ kind.Opaque) × IsBytesOf x t) same (refl, refl)
 spelled_from kind.Moment v t e =
-    let h = mapped value.Moment (integer_of_bytes t) v e in
+    let h = option_map_parts value.Moment (integer_of_bytes t) v e in
     subst (λ (x : Value). (kind_of x ≡ kind.Moment) × IsBytesOf x t) h.2 (refl, integer_from t h.0 h.1)
 spelled_from kind.Link v t e =
-    let h = mapped (λ p. value.Link p.0 p.1) (pair_of_bytes t) v e in
+    let h = option_map_parts (λ p. value.Link p.0 p.1) (pair_of_bytes t) v e in
     subst (λ (x : Value). (kind_of x ≡ kind.Link) × IsBytesOf x t) h.2 (refl, pair_from t h.0.0 h.0.1 h.1)
 
 spelled_to : (v : Value) (t : List ℕ) → IsGood v → IsBytesOf v t → spelled_by_bytes (kind_of v) t ≡ Some v

@@ -1,5 +1,5 @@
 -- What a choice or an `Option` that came to a value came from.
-use Rattle.std.proofs.Common.{◌≡◌, Bool, true, false, if◌then◌else◌, ◌&&◌, Option, Some, None, option_map, refl, ap}
+use Rattle.std.proofs.Common.{◌≡◌, Bool, true, false, if◌then◌else◌, Option, Some, None, option_map, refl, ap}
 use Rattle.std.specs.Option.{option_zip}
 
 pub chosen : {T : Type 0} (b : Bool) (x y : T) → (if b then Some x else None) ≡ Some y → (b ≡ true) × (x ≡ y)
@@ -10,19 +10,6 @@ pub kept_if : {T : Type 0} (b : Bool) (o : Option T) (y : T) → (if b then o el
     × (o ≡ Some y)
 kept_if true o y e = (refl, e)
 kept_if false o y e = cc e
-
-pub both : (a b : Bool) → (a && b) ≡ true → (a ≡ true) × (b ≡ true)
-both true true e = (refl, refl)
-both true false e = cc e
-both false b e = cc e
-
-pub both_back : (a b : Bool) → a ≡ true → b ≡ true → (a && b) ≡ true
-both_back a b p q = rw (p, q) refl
-
-pub mapped : {A B : Type 0} (f : A → B) (o : Option A) (y : B) → option_map f o ≡ Some y → (x : A) × (o ≡ Some x)
-    × (f x ≡ y)
-mapped f (Some x) y e = (x, refl, cc)
-mapped f None y e = cc e
 
 pub zipped : {A B : Type 0} (a : Option A) (b : Option B) (x : A) (y : B) → option_zip a b ≡ Some (x, y) → (a ≡ Some x)
     × (b ≡ Some y)

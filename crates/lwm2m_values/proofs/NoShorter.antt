@@ -3,6 +3,7 @@ use Rattle.std.proofs.Common.{◌≡◌, ℕ, ◌+◌, ◌%◌, ◌<◌, ◌≤�
 use Rattle.std.proofs.Common.{◌∙◌, arith, length-append}
 use Rattle.std.specs.Int.Digits.{number_from_digits, AllBelowBase}
 use Rattle.std.proofs.lemmas.Bool.Decides.{nat_tests}
+use Rattle.lemmas.proofs.Lists.{below_front, below_back}
 use Rattle.lwm2m_values.specs.declared.level.RecordType.{RecordType}
 use Rattle.lwm2m_values.specs.declared.level.RecordType.TheVariants.{Instance, Part, Multi, Single}
 use Rattle.lwm2m_values.specs.declared.level.Around.{Around}
@@ -10,14 +11,6 @@ use Rattle.lwm2m_values.specs.declared.level.Around.TheVariants.{InInstance, InM
 use Rattle.lwm2m_values.specs.Tree.{Tree, Trees, instance, multi, part, single, none, more}
 use Rattle.lwm2m_values.specs.Tlv.{IsHead, Holds, IsNodes, id_field, size_field, shortest_head, shortest_node}
 use Rattle.lwm2m_values.specs.Tlv.{shortest_tlv}
-
-below_left : (xs ys : List ℕ) → AllBelowBase 256 (xs ++ ys) → AllBelowBase 256 xs
-below_left [] ys p = tt
-below_left (x ∷ xs) ys p = (p.0, below_left xs ys p.1)
-
-below_right : (xs ys : List ℕ) → AllBelowBase 256 (xs ++ ys) → AllBelowBase 256 ys
-below_right [] ys p = p
-below_right (x ∷ xs) ys p = below_right xs ys p.1
 
 id_wide : (id : ℕ) → length (id_field id) ≤ 2
 id_wide id = grind (arith, nat_tests)
@@ -55,11 +48,11 @@ no_shorter_head : (head : List ℕ) (kind : RecordType) (id n m : ℕ) → IsHea
     → n ≤ m → length (shortest_head kind id n) ≤ length head
 no_shorter_head head kind id n m h below fewer =
     let all = subst (AllBelowBase 256) h.parts below in
-    let ids = no_shorter_id id h.id_bytes (below_left h.id_bytes h.size_bytes all.1) h.id_is
+    let ids = no_shorter_id id h.id_bytes (below_front h.id_bytes h.size_bytes all.1) h.id_is
     (omega (arith, h.id_width)) in
     let size_is : m ≡ cond (eqb (length h.size_bytes) 0) (h.first % 8) (number_from_digits 256 h.size_bytes) =
     h.size_is ∙ ap (λ x. cond (eqb x 0) (h.first % 8) (number_from_digits 256 h.size_bytes)) (sym h.size_width) in
-    let sizes = no_shorter_size n m (h.first % 8) h.size_bytes (below_right h.id_bytes h.size_bytes all.1) fewer
+    let sizes = no_shorter_size n m (h.first % 8) h.size_bytes (below_back h.id_bytes h.size_bytes all.1) fewer
     (omega arith) size_is in
     omega (arith, ap length h.parts, length-append h.id_bytes h.size_bytes, length-append (id_field id) (size_field n))
 
@@ -109,10 +102,10 @@ mutual
   no_shorter_nodes none level bytes p below = omega arith
   no_shorter_nodes (more n ns) level bytes p below =
       let all = subst (AllBelowBase 256) p.6 below in
-      let behind = below_right p.2 (p.3 ++ p.4) all in
-      let first = no_shorter_node n p.0 p.1 p.2 p.3 p.5 p.8 (below_left p.2 (p.3 ++ p.4) all)
-      (below_left p.3 p.4 behind) in
-      let later = no_shorter_nodes ns level p.4 p.9 (below_right p.3 p.4 behind) in
+      let behind = below_back p.2 (p.3 ++ p.4) all in
+      let first = no_shorter_node n p.0 p.1 p.2 p.3 p.5 p.8 (below_front p.2 (p.3 ++ p.4) all)
+      (below_front p.3 p.4 behind) in
+      let later = no_shorter_nodes ns level p.4 p.9 (below_back p.3 p.4 behind) in
       omega (
         arith,
         ap length p.6,

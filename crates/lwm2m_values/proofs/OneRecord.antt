@@ -1,22 +1,13 @@
 -- The bytes at the front are one record's: a head is read in one way, and so is a record.
-use Rattle.std.proofs.Common.{◌≡◌, ℕ, ◌+◌, ◌/◌, ◌%◌, ◌<◌, List, [], ◌∷◌, ◌++◌, length, drop, take-append-drop, cond}
+use Rattle.std.proofs.Common.{◌≡◌, ℕ, ◌+◌, ◌/◌, ◌%◌, ◌<◌, List, ◌∷◌, ◌++◌, length, drop, take-append-drop, cond}
 use Rattle.std.proofs.Common.{eqb, refl, sym, ap, ◌∙◌, arith, length-append}
 use mathlib.Core.List.{append_assoc}
 use Rattle.std.specs.List.{IsFirstAndRest, IsSplitAt}
 use Rattle.std.specs.Int.Digits.{number_from_digits}
+use Rattle.lemmas.proofs.Lists.{same_parts}
 use Rattle.lwm2m_values.specs.declared.level.RecordType.{RecordType}
 use Rattle.lwm2m_values.specs.declared.level.RecordType.TheVariants.{Instance, Part, Multi, Single}
 use Rattle.lwm2m_values.specs.Tlv.{type_bits, IsHead, IsCut}
-
--- two fronts of one length are one front
-pub cut_at : (a b r s : List ℕ) → length a ≡ length b → a ++ r ≡ b ++ s → (a ≡ b) × (r ≡ s)
-cut_at [] [] r s n e = (refl, e)
-cut_at [] (y ∷ b) r s n e = absurd (omega arith)
-cut_at (x ∷ a) [] r s n e = absurd (omega arith)
-cut_at (x ∷ a) (y ∷ b) r s n e =
-    let first : x ≡ y = cc in
-    let same = cut_at a b r s (omega arith) cc in
-    (cc, same.1)
 
 pub one_type : (k l : RecordType) → type_bits k ≡ type_bits l → k ≡ l
 one_type Instance Instance e = refl
@@ -44,8 +35,9 @@ one_head h g k l i j n m r s p q e =
     ∙ regroup g q.first q.id_bytes q.size_bytes s q.parts in
     let first : p.first ≡ q.first = cc whole in
     let tail : p.id_bytes ++ (p.size_bytes ++ r) ≡ q.id_bytes ++ (q.size_bytes ++ s) = cc whole in
-    let ids = cut_at p.id_bytes q.id_bytes _ _ (p.id_width ∙ ap (λ x. 1 + x / 32 % 2) first ∙ sym q.id_width) tail in
-    let sizes = cut_at p.size_bytes q.size_bytes r s
+    let ids = same_parts p.id_bytes q.id_bytes _ _
+    (p.id_width ∙ ap (λ x. 1 + x / 32 % 2) first ∙ sym q.id_width) tail in
+    let sizes = same_parts p.size_bytes q.size_bytes r s
     (p.size_width ∙ ap (λ x. x / 8 % 4) first ∙ sym q.size_width) ids.1 in
     let value : ℕ → List ℕ → ℕ = λ x bytes. cond (eqb (x / 8 % 4) 0) (x % 8) (number_from_digits 256 bytes) in
     record {
@@ -68,7 +60,7 @@ pub one_record : (h g : List ℕ) (k l : RecordType) (i j : ℕ) (c d r s : List
     → IsHead g l j (length d) → h ++ (c ++ r) ≡ g ++ (d ++ s) → SameRecord h g k l i j c d r s
 one_record h g k l i j c d r s p q e =
     let heads = one_head h g k l i j (length c) (length d) (c ++ r) (d ++ s) p q e in
-    let contents = cut_at c d r s heads.size heads.rest in
+    let contents = same_parts c d r s heads.size heads.rest in
     record { head = heads.head; kind = heads.kind; id = heads.id; content = contents.0; rest = contents.1 }
 
 -- a head whose size goes past the end begins no record

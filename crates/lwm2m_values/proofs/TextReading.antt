@@ -15,6 +15,8 @@ use Rattle.base64.specs.GeneralPurpose.{encode_of, decode_of, IsBytes}
 use Rattle.base64.specs.Engines.{standard}
 use Rattle.base64.proofs.EngineFacts.{decode_of-encode_of, decode_of_strict, IsAscii-encode_of}
 use Rattle.std.specs.Result.{IfOk, IfErr, MatchResult}
+use Rattle.std.proofs.lemmas.Bool.{and_parts, and_from}
+use Rattle.lemmas.proofs.Options.{option_map_parts}
 use Rattle.lwm2m_values.specs.declared.fault.ValueFault.{ValueFault}
 use Rattle.lwm2m_values.specs.declared.fault.ValueFault.TheVariants.{BadValue, Memory}
 use Rattle.lwm2m_values.specs.declared.value.Value.{Value}
@@ -26,7 +28,7 @@ use Rattle.lwm2m_values.specs.Value.{kind_of, holds_bytes, IsGood, IsDecimal, Is
 use Rattle.lwm2m_values.specs.Value.{text_of}
 use Rattle.lwm2m_values.specs.Reading.{are_bytes, number_of_text, signed_of_text, flag_by, pair_of_text, opaque_of_text}
 use Rattle.lwm2m_values.specs.Reading.{spelled_by_text, value_of_text}
-use Rattle.lwm2m_values.proofs.Choices.{both, both_back, chosen, kept_if, mapped, zipped}
+use Rattle.lwm2m_values.proofs.Choices.{chosen, kept_if, zipped}
 use Rattle.lwm2m_values.proofs.GoodValue.{bytes_from, bytes_to, good_kept, good_back}
 use Rattle.lwm2m_values.proofs.OneText.{text_written}
 
@@ -37,11 +39,11 @@ are_digits t = list_all (λ d. nat_lt (digit_value d) 10) t
 
 digits_from : (t : List ℕ) → are_digits t ≡ true → AllDigits 10 t
 digits_from [] e = tt
-digits_from (c ∷ cs) e = let h = both _ _ e in (ltb-true (digit_value c) 10 h.0, digits_from cs h.1)
+digits_from (c ∷ cs) e = let h = and_parts _ _ e in (ltb-true (digit_value c) 10 h.0, digits_from cs h.1)
 
 digits_to : (t : List ℕ) → AllDigits 10 t → are_digits t ≡ true
 digits_to [] h = refl
-digits_to (c ∷ cs) h = both_back _ _ (lt-ltb (digit_value c) 10 h.0) (digits_to cs h.1)
+digits_to (c ∷ cs) h = and_from _ _ (lt-ltb (digit_value c) 10 h.0) (digits_to cs h.1)
 
 number_from : (t : List ℕ) (n : ℕ) → number_of_text t ≡ Some n → IsDecimal n t
 number_from [] n e = cc e
@@ -60,10 +62,10 @@ signed_case : (c : ℕ) (cs : List ℕ) (z : ℤ) (b : Bool) → (c == 45) ≡ b
     → (if b then option_map (λ n. neg_ℤ (pos n)) (number_of_text cs) else option_map pos (number_of_text (c ∷ cs)))
     ≡ Some z → IsSigned z (c ∷ cs)
 signed_case c cs z true q e =
-    let h = mapped (λ n. neg_ℤ (pos n)) (number_of_text cs) z e in
+    let h = option_map_parts (λ n. neg_ℤ (pos n)) (number_of_text cs) z e in
     inr (h.0, cs, ap (λ x. x ∷ cs) (eqb-true c 45 q), number_from cs h.0 h.1, sym h.2)
 signed_case c cs z false q e =
-    let h = mapped pos (number_of_text (c ∷ cs)) z e in
+    let h = option_map_parts pos (number_of_text (c ∷ cs)) z e in
     inl (h.0, number_from (c ∷ cs) h.0 h.1, sym h.2)
 
 signed_from : (t : List ℕ) (z : ℤ) → signed_of_text t ≡ Some z → IsSigned z t
@@ -166,19 +168,19 @@ spelled_from kind.Text v t e =
     let same : value.Text t ≡ v = cc e in
     subst (λ (x : Value). (kind_of x ≡ kind.Text) × IsText x t) same (refl, refl)
 spelled_from kind.Whole v t e =
-    let h = mapped value.Whole (signed_of_text t) v e in
+    let h = option_map_parts value.Whole (signed_of_text t) v e in
     subst (λ (x : Value). (kind_of x ≡ kind.Whole) × IsText x t) h.2 (refl, signed_from t h.0 h.1)
 spelled_from kind.Flag v t e =
-    let h = mapped value.Flag (flag_by 48 49 t) v e in
+    let h = option_map_parts value.Flag (flag_by 48 49 t) v e in
     subst (λ (x : Value). (kind_of x ≡ kind.Flag) × IsText x t) h.2 (refl, flag_from t h.0 h.1)
 spelled_from kind.Opaque v t e =
-    let h = mapped value.Opaque (opaque_of_text t) v e in
+    let h = option_map_parts value.Opaque (opaque_of_text t) v e in
     subst (λ (x : Value). (kind_of x ≡ kind.Opaque) × IsText x t) h.2 (refl, opaque_from t h.0 h.1)
 spelled_from kind.Moment v t e =
-    let h = mapped value.Moment (signed_of_text t) v e in
+    let h = option_map_parts value.Moment (signed_of_text t) v e in
     subst (λ (x : Value). (kind_of x ≡ kind.Moment) × IsText x t) h.2 (refl, signed_from t h.0 h.1)
 spelled_from kind.Link v t e =
-    let h = mapped (λ p. value.Link p.0 p.1) (pair_of_text t) v e in
+    let h = option_map_parts (λ p. value.Link p.0 p.1) (pair_of_text t) v e in
     subst (λ (x : Value). (kind_of x ≡ kind.Link) × IsText x t) h.2 (refl, pair_from t h.0.0 h.0.1 h.1)
 
 spelled_to : (v : Value) (t : List ℕ) → IsGood v → IsText v t → spelled_by_text (kind_of v) t ≡ Some v

@@ -7,6 +7,7 @@ use mathlib.Core.List.{append_assoc}
 use Rattle.std.proofs.Math.Seq.{take-append_seam, drop-append_seam}
 use Rattle.std.specs.Int.Digits.{number_from_digits}
 use Rattle.std.specs.Result.{IfOk, IfErr, MatchResult}
+use Rattle.lemmas.proofs.Options.{option_map_parts}
 use Rattle.lwm2m_values.specs.declared.fault.TlvFault.{TlvFault}
 use Rattle.lwm2m_values.specs.declared.fault.TlvFault.TheVariants.{Memory}
 use Rattle.lwm2m_values.specs.declared.level.RecordType.{RecordType}
@@ -18,7 +19,7 @@ use Rattle.lwm2m_values.specs.Tlv.{type_bits, is_allowed, IsHead, Holds, IsNodes
 use Rattle.lwm2m_values.specs.Tlv.{shortest_tlv}
 use Rattle.lwm2m_values.specs.Reading.{type_of_bits, id_width, size_width, size_of, Record, record_of, is_whole}
 use Rattle.lwm2m_values.specs.Reading.{record_at, tree_of_record, with_tree, nodes_from, read_nodes, nodes_of_bytes}
-use Rattle.lwm2m_values.proofs.Choices.{kept_if, mapped}
+use Rattle.lwm2m_values.proofs.Choices.{kept_if}
 use Rattle.lwm2m_values.proofs.OneRecord.{regroup}
 use Rattle.lwm2m_values.proofs.OneTlv.{not_both}
 use Rattle.lwm2m_values.proofs.Shortest.{nodes_written}
@@ -87,7 +88,7 @@ pub record_from : (bytes : List ℕ) (r : Record) → record_at bytes ≡ Some r
 record_from [] r e = cc e
 record_from (first ∷ rest) r e =
     let h = kept_if (is_whole first rest) (option_map (record_of first rest) (type_of_bits (first / 64))) r e in
-    let m = mapped (record_of first rest) (type_of_bits (first / 64)) r h.1 in
+    let m = option_map_parts (record_of first rest) (type_of_bits (first / 64)) r h.1 in
     subst (IsRecordOf (first ∷ rest)) m.2 (whole_from first rest m.0 h.0 (type_from (first / 64) m.0 m.1))
 
 pub record_to : (bytes head content rest : List ℕ) (kind : RecordType) (id : ℕ) → IsHead head kind id (length content)
@@ -145,10 +146,10 @@ tree_from : (within : Around → List ℕ → Option Trees) → IsSound within
     → (kind : RecordType) (id : ℕ) (content : List ℕ) (t : Tree) → tree_of_record within kind id content ≡ Some t
     → Holds t kind id content
 tree_from within sound Instance id content t e =
-    let h = mapped (instance id) (within InInstance content) t e in
+    let h = option_map_parts (instance id) (within InInstance content) t e in
     subst (λ (x : Tree). Holds x Instance id content) h.2 (refl, refl, sound InInstance content h.0 h.1)
 tree_from within sound Multi id content t e =
-    let h = mapped (multi id) (within InMulti content) t e in
+    let h = option_map_parts (multi id) (within InMulti content) t e in
     subst (λ (x : Tree). Holds x Multi id content) h.2 (refl, refl, sound InMulti content h.0 h.1)
 tree_from within sound Part id content t e =
     let same : part id content ≡ t = cc e in

@@ -20,6 +20,7 @@ use Rattle.device_notifications.specs.Period.{pmin_of, pmax_of}
 use Rattle.device_notifications.specs.Report.{number_at}
 use Rattle.device_notifications.specs.Second.{age_of, evaluation_of, is_due_now, present, triggers_now, turn_as}
 use Rattle.device_notifications.specs.Second.{turn_by, turn_of}
+use Rattle.device_notifications.proofs.Turns.{due_waits}
 use Rattle.notification_reasons.specs.Finding.{reason_at, reason_by, reason_in, resent_reason, times_of, trigger_of}
 use Rattle.notification_reasons.specs.Reasons.{IsDueBy, IsEnd, IsNotificationReason, IsReady, IsResending, SendsNothing}
 use Rattle.notification_reasons.specs.Reasons.{gt_of, lt_of, st_of}
@@ -37,10 +38,6 @@ abbrev said_of : Bool → Bool → ℕ → Option ℕ → ℕ → Outlook
 said_of c t pmin pmax code =
     if c then record { pending = if t then Changed else Idle; pmin = pmin; pmax = pmax }
     else record { pending = pending.Gone code; pmin = pmin; pmax = pmax }
-
-waits : (age pmin : ℕ) (pmax : Option ℕ) (t : Bool) → is_due age pmin pmax t ≡ true → pmin ≤ age
-waits age pmin None t h = grind (arith, nat_tests)
-waits age pmin (Some m) t h = grind (arith, nat_tests)
 
 never_due : (age pmin : ℕ) → is_due age pmin None false ≡ true → ⊥
 never_due age pmin h = grind (arith, nat_tests)
@@ -72,12 +69,12 @@ by_outlook : (c t : Bool) (age pmin : ℕ) (pmax : Option ℕ) (code : ℕ) (by 
     → (c ≡ false → P (Some (Ended code)))
     → P (reason_by (said_of c t pmin pmax code) by age)
 by_outlook true true age pmin pmax code by P n d m g =
-    choose (is_due age pmin pmax true) _ _ P (λ h. d refl refl h (waits age pmin pmax true h)) (λ h. n refl h)
+    choose (is_due age pmin pmax true) _ _ P (λ h. d refl refl h (due_waits age pmin pmax true h)) (λ h. n refl h)
 by_outlook true false age pmin None code by P n d m g =
     choose (is_due age pmin None false) _ _ P (λ h. absurd (never_due age pmin h)) (λ h. n refl h)
 by_outlook true false age pmin (Some k) code by P n d m g =
     choose (is_due age pmin (Some k) false) _ _ P
-    (λ h. m k refl refl h refl (waits age pmin (Some k) false h) (elapsed age pmin k h)) (λ h. n refl h)
+    (λ h. m k refl refl h refl (due_waits age pmin (Some k) false h) (elapsed age pmin k h)) (λ h. n refl h)
 by_outlook false t age pmin pmax code by P n d m g = g refl
 
 -- ---- what is found

@@ -1,8 +1,7 @@
 -- Which resending comes at a second.
-use Rattle.std.proofs.Common.{◌≡◌, ◌==◌, ℕ, ◌+◌, ◌-◌, ◌*◌, ◌<◌, ◌≤◌, nat_le, Bool, true, false, ◌||◌, Option, None}
+use Rattle.std.proofs.Common.{◌≡◌, ◌==◌, ℕ, ◌+◌, ◌-◌, ◌*◌, ◌<◌, ◌≤◌, Bool, true, false, ◌||◌, Option, None}
 use Rattle.std.proofs.Common.{Some, zero, suc, if◌then◌else◌, refl, sym, ap, ◌∙◌, arith}
-use Rattle.std.proofs.lemmas.Bool.{eq-eqb, eqb-true, ne_eqb}
-use Rattle.std.proofs.lemmas.Bool.Decides.{nat_tests}
+use Rattle.std.proofs.lemmas.Bool.{eq-eqb, eqb-true, ne_eqb, leb-false}
 use Rattle.notifier.specs.Resending.{after_timeouts, is_timed_out, resending, turn_with}
 use Rattle.notifier.specs.declared.observation.Timer.{Timer}
 use Rattle.notifier.specs.declared.turn.Turn.TheVariants.{Wait, Resend, Expire}
@@ -49,9 +48,6 @@ last_sum : (s t : ℕ) → after_timeouts s t 5 ≡ s + 31 * t
 last_sum s t =
     let sum : s + t + 2 * t + 2 * (2 * t) + 2 * (2 * (2 * t)) + 2 * (2 * (2 * (2 * t))) ≡ s + 31 * t = omega arith in
     sum
-
-early : (n clock : ℕ) → nat_le n clock ≡ false → clock < n
-early n clock h = grind (arith, nat_tests)
 
 -- it is sent again only with a timeout above 0
 some_timeout : (s t clock k : ℕ) → IsKth s t clock k → clock < s + 31 * t → 0 < t
@@ -116,7 +112,7 @@ again s timer clock h =
     let t = timer.first in
     let parts = chosen s t clock (is_at s t clock 1) (is_at s t clock 2) (is_at s t clock 3) (is_at s t clock 4)
     (is_timed_out s t clock) refl refl refl refl h in
-    let before = early (after_timeouts s t 5) clock parts.0 in
+    let before = leb-false (after_timeouts s t 5) clock parts.0 in
     let some : 0 < t = some_timeout s t clock parts.1.0 parts.1.1 (omega (arith, before, last_sum s t)) in
     let times : times_of t (clock - s) ≡ parts.1.0 = times_are s t clock parts.1.0 some parts.1.1 in
     record {

@@ -1,33 +1,19 @@
 -- The reason of the observation at a place, by its turn and by what was last said of it.
 use Rattle.std.proofs.Common.{◌≡◌, ℕ, List, Option, Some, slice_get, sym, ap, ◌∙◌}
 use Rattle.std.specs.Option.{option_map}
-use Rattle.std.proofs.lemmas.Option.{slice_get-map}
 use Rattle.notifier.specs.Resending.{turn_at}
 use Rattle.notifier.specs.declared.observation.Observation.{Observation}
 use Rattle.notifier.specs.declared.pending.Outlook.{Outlook}
-use Rattle.notifier.specs.declared.turn.Turn.{Turn}
 use Rattle.notifier.specs.declared.turn.Turn.TheVariants.{Evaluate, Resend}
 use Rattle.device_requests.specs.Client.{Client}
-use Rattle.device_notifications.specs.Outlooks.{outlook_of, outlooks_of}
+use Rattle.device_notifications.specs.Outlooks.{outlooks_of}
 use Rattle.device_notifications.specs.Second.{age_of}
+use Rattle.device_notifications.proofs.Deeding.{outlook_is, turn_is}
 use Rattle.notification_reasons.specs.Finding.{reason_at, reason_by, reason_in, resent_reason, trigger_of}
 use Rattle.notification_reasons.specs.declared.reasons.NotificationReason.{NotificationReason}
 
 some_same : {X : Type 0} (x y : X) → Some x ≡ Some y → x ≡ y
 some_same x y h = cc
-
-turn_here : (os : List Observation) (place clock : ℕ) (o : Observation) (turn : Turn) → slice_get os place ≡ Some o
-    → option_map (λ x. turn_at x clock) (slice_get os place) ≡ Some turn → turn_at o clock ≡ turn
-turn_here os place clock o turn at h =
-    some_same (turn_at o clock) turn (sym (ap (λ x. option_map (λ y. turn_at y clock) x) at) ∙ h)
-
-said_here : (client : Client) (os : List Observation) (said : List Outlook) (place : ℕ) (o : Observation) (s : Outlook)
-    → said ≡ outlooks_of client os → slice_get os place ≡ Some o → slice_get said place ≡ Some s
-    → s ≡ outlook_of client o
-said_here client os said place o s known at h =
-    some_same s (outlook_of client o)
-    (sym h ∙ ap (λ xs. slice_get xs place) known ∙ slice_get-map (outlook_of client) os place
-    ∙ ap (option_map (outlook_of client)) at)
 
 pub evaluated_is : (client : Client) (os : List Observation) (said : List Outlook) (place clock : ℕ) (o p : Observation)
     (s : Outlook) (found : Option NotificationReason)
@@ -36,9 +22,9 @@ pub evaluated_is : (client : Client) (os : List Observation) (said : List Outloo
     → found ≡ reason_by s (trigger_of client p) (age_of clock p) → found ≡ reason_at client clock o
 evaluated_is client os said place clock o p s found known at here turn h is =
     let same = some_same p o (here ∙ at) in
-    is ∙ (λ i. reason_by (said_here client os said place o s known at h i) (trigger_of client (same i))
+    is ∙ (λ i. reason_by (outlook_is client os said place o s known at h i) (trigger_of client (same i))
     (age_of clock (same i)))
-    ∙ ap (reason_in client clock o) (sym (turn_here os place clock o Evaluate at turn))
+    ∙ ap (reason_in client clock o) (sym (turn_is os place clock o Evaluate at turn))
 
 pub resent_is : (client : Client) (os : List Observation) (place clock : ℕ) (o p : Observation)
     (found : Option NotificationReason) → slice_get os place ≡ Some o → Some p ≡ slice_get os place
@@ -47,4 +33,4 @@ pub resent_is : (client : Client) (os : List Observation) (place clock : ℕ) (o
 resent_is client os place clock o p found at here turn is =
     let same = some_same p o (here ∙ at) in
     is ∙ (λ i. resent_reason (same i).timer (age_of clock (same i)))
-    ∙ ap (reason_in client clock o) (sym (turn_here os place clock o Resend at turn))
+    ∙ ap (reason_in client clock o) (sym (turn_is os place clock o Resend at turn))

@@ -1,6 +1,6 @@
 -- What the answers of several functions need.
 use Rattle.std.proofs.Common.{◌≡◌, ◌∙◌, Bool, true, cond, List, [], ◌∷◌, ◌++◌, map, filter, Result, Ok, Err}
-use Rattle.std.proofs.Common.{MatchResult, IfOk, IfErr, OnErr, IsErrAnd, IsErrOf, ap, subst, sym}
+use Rattle.std.proofs.Common.{MatchResult, IfOk, IfErr, IsErrAnd, IsErrOf, ap, subst, sym}
 
 pub if_ok : {X E : Type 0} (r : Result X E) (P S : X → Type 0) (Q : E → Type 0) → MatchResult r P Q
     → ((x : X) → P x → S x) → IfOk r S
@@ -11,11 +11,6 @@ if_ok (Err e) P S Q h k = tt
 pub handed : {X E : Type 0} (r : Result X E) (P : E → Type 0) (e : E) → IsErrAnd r (λ f. f ≡ e) → P e → IfErr r P
 handed (Ok x) P e h p = absurd h
 handed (Err f) P e h p = subst P (sym h) p
-
--- a fact, said of the errors alone
-pub on_error : {X E : Type 0} (r : Result X E) (P : Type 0) → P → OnErr r P
-on_error (Ok x) P p = tt
-on_error (Err e) P p = p
 
 -- an error that is handed on is the one that came
 pub same_fault : {X Y E : Type 0} (r : Result X E) (s : Result Y E) (e f : E) → IsErrAnd r (λ g. g ≡ e) → s ≡ Err e

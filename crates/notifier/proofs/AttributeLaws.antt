@@ -1,6 +1,6 @@
 -- Changes of attributes, one after another.
 use Rattle.std.proofs.Common.{◌≡◌, ℕ, ℤ, true, false, cond, List, [], ◌∷◌, Option, None, Some, refl, sym, ap, ◌∙◌, ◌≤◌}
-use Rattle.std.proofs.Common.{length, drop, rules}
+use Rattle.std.proofs.Common.{◌≢◌, Bool, length, drop, rules}
 use Rattle.std.proofs.lemmas.List.{drop_all}
 use Rattle.std.specs.Ordering.{eq_by_cmp}
 use Rattle.std.specs.Cmp.{eq_by_cmp_equiv, Equal-is}
@@ -26,7 +26,7 @@ last_of z (c ∷ cs) n = last_of (cond (eq-value.it c.name n) c.number z) cs n
 pub nothing_left : (z : Option ℤ) (cs : List Change) (n : Name) (i : ℕ) → length cs ≤ i → z ≡ last_of z (drop i cs) n
 nothing_left z cs n i end = ap (λ t. last_of z t n) (sym (drop_all i cs end))
 
-name_of_key : (s : ℕ) (p : Path) (n : Name) → (key_of s p n).name ≡ n
+pub name_of_key : (s : ℕ) (p : Path) (n : Name) → (key_of s p n).name ≡ n
 name_of_key s (Object o) n = refl
 name_of_key s (Instance o i) n = refl
 name_of_key s (Resource o i r) n = refl
@@ -81,3 +81,22 @@ none_left (e ∷ es) h =
     in
     let gone : Some e.1 ≡ None = sym there ∙ ap (λ m. map.get m e.0) h ∙ map.get-empty key_cmp e.0 in
     cc
+
+-- ---- other keys
+
+differs : (j k : AttributeKey) → k ≢ j → eq_by_cmp key_cmp k j ≡ false
+differs j k other = false_from_ne_true _ (λ e. other (key_exact k j ((Equal-is _).0 e)))
+
+kept_at : (m : Numbers) (j : AttributeKey) (z : Option ℤ) (k : AttributeKey) → k ≢ j
+    → map.get (with_number m j z) k ≡ map.get m k
+kept_at m j None k other =
+    map.get-remove key_total m j k ∙ ap (λ (b : Bool). cond b None (map.get m k)) (differs j k other)
+kept_at m j (Some z) k other =
+    map.get-insert key_total m j z k ∙ ap (λ (b : Bool). cond b (Some z) (map.get m k)) (differs j k other)
+
+pub others_kept : (m : Numbers) (s : ℕ) (p : Path) (cs : List Change) (k : AttributeKey)
+    → ((n : Name) → k ≢ key_of s p n) → map.get (written m s p cs) k ≡ map.get m k
+others_kept m s p [] k other = refl
+others_kept m s p (c ∷ cs) k other =
+    others_kept (with_number m (key_of s p c.name) c.number) s p cs k other
+    ∙ kept_at m (key_of s p c.name) c.number k (other c.name)

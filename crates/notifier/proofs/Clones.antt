@@ -2,6 +2,7 @@
 use Rattle.std.proofs.Common.{◌≡◌, List, [], ◌∷◌, Option, None, Some, refl, ap, subst, sym, ◌∙◌, rules}
 use Rattle.std.specs.List.{AllZip, AllByRecursion}
 use Rattle.std.specs.Map.{values_of}
+use Rattle.lemmas.proofs.Lists.{same_list}
 use Rattle.notifier.specs.declared.observation.Observation.{Observation}
 use Rattle.notifier.specs.declared.observation.Report.{Report}
 use Rattle.notifier.specs.declared.observation.Timer.{Timer}
@@ -11,13 +12,6 @@ use Rattle.notifier.specs.contracts.entries.KeyClone.TheImpl.{is_clone-value as 
 use Rattle.notifier.specs.contracts.observation.ReportClone.TheImpl.{is_clone-value as report_clone}
 use Rattle.notifier.specs.contracts.observation.TimerClone.TheImpl.{is_clone-value as timer_clone}
 use Rattle.notifier.specs.contracts.observation.ObservationClone.TheImpl.{is_clone-value as observation_clone}
-
-pub same_list : {X : Type 0} (C : X → X → Type 0) → ((x y : X) → C x y → y ≡ x) → (xs ys : List X) → AllZip C xs ys
-    → ys ≡ xs
-same_list C same [] [] h = refl
-same_list C same [] (y ∷ ys) h = absurd h
-same_list C same (x ∷ xs) [] h = absurd h
-same_list C same (x ∷ xs) (y ∷ ys) h = λ i. same x y h.0 i ∷ same_list C same xs ys h.1 i
 
 same_key : (k j : Key) → key_clone.it k j → (j.server ≡ k.server) × (j.token.items ≡ k.token.items)
 same_key k j h = (h.0, same_list _ (λ x y e. e) _ _ h.1.0)

@@ -8,6 +8,9 @@ use Rattle.std.specs.Str.Parse.{digits_value}
 use Rattle.std.proofs.lemmas.Bool.Decides.{nat_tests}
 use Rattle.std.proofs.lemmas.List.Quantifiers.{position-Some}
 use Rattle.std.proofs.lemmas.Str.Parse.{digits_value_short}
+use Rattle.std.proofs.Math.Bool.{and-false}
+use Rattle.std.proofs.lemmas.Bool.{le-leb}
+use Rattle.lemmas.proofs.Numbers.{nat_le_above}
 use Rattle.object_defs.proofs.Digits.{AreDigits, own}
 use Rattle.notifier.specs.Query.{is_digit, are_digits, digits_of, seconds_of}
 
@@ -23,22 +26,18 @@ all_digits (x ∷ xs) h =
     ap (λ b. b && list_all is_digit xs) (digit x (h 0 (omega arith)))
     ∙ all_digits xs (λ i inside. h (suc i) (omega arith))
 
-and_false : (b : Bool) → (b && false) ≡ false
-and_false true = refl
-and_false false = refl
-
 pub one_stray : (s : List ℕ) (i : ℕ) → i < length s → (IsInRange 48 57 (get_or s i 0) → ⊥) → list_all is_digit s ≡ false
 one_stray [] i inside h = absurd (omega arith)
 one_stray (x ∷ xs) zero inside h = ap (λ b. b && list_all is_digit xs) (stray x h)
 one_stray (x ∷ xs) (suc i) inside h =
-    ap (λ b. is_digit x && b) (one_stray xs i (omega arith) h) ∙ and_false (is_digit x)
+    ap (λ b. is_digit x && b) (one_stray xs i (omega arith) h) ∙ and-false (is_digit x)
 
 are_digits-all : (s : List ℕ) → AreDigits s → 0 < length s → are_digits s ≡ true
 are_digits-all s h some = (λ i. lt-ltb 0 (length s) some i && all_digits s h i)
 
 are_digits-stray : (s : List ℕ) (i : ℕ) → i < length s → (IsInRange 48 57 (get_or s i 0) → ⊥) → are_digits s ≡ false
 are_digits-stray s i inside h =
-    ap (λ b. nat_lt 0 (length s) && b) (one_stray s i inside h) ∙ and_false (nat_lt 0 (length s))
+    ap (λ b. nat_lt 0 (length s) && b) (one_stray s i inside h) ∙ and-false (nat_lt 0 (length s))
 
 are_digits-empty : (s : List ℕ) → length s ≡ 0 → are_digits s ≡ false
 are_digits-empty [] h = refl
@@ -57,21 +56,15 @@ pub digits_of-stray : (most : ℕ) (s : List ℕ) (i : ℕ) → i < length s →
 digits_of-stray most s i inside h =
     refused (are_digits s) (nat_le (length s) most) (digits_value 10 s) (are_digits-stray s i inside h)
 
-longer : (n m : ℕ) → m < n → nat_le n m ≡ false
-longer n m h = grind (arith, nat_tests)
-
-shorter : (n m : ℕ) → n ≤ m → nat_le n m ≡ true
-shorter n m h = grind (arith, nat_tests)
-
 pub digits_of-long : (most : ℕ) (s : List ℕ) → most < length s → None ≡ digits_of most s
 digits_of-long most s h =
     sym (ap (λ b. cond b (Some (digits_value 10 s)) None)
-    (ap (λ b. are_digits s && b) (longer (length s) most h) ∙ and_false (are_digits s)))
+    (ap (λ b. are_digits s && b) (nat_le_above (length s) most h) ∙ and-false (are_digits s)))
 
 pub digits_of-all : (most : ℕ) (s : List ℕ) → AreDigits s → 0 < length s → length s ≤ most
     → digits_of most s ≡ Some (digits_value 10 s)
 digits_of-all most s h some short =
-    (λ i. cond (are_digits-all s h some i && shorter (length s) most short i) (Some (digits_value 10 s)) None)
+    (λ i. cond (are_digits-all s h some i && le-leb (length s) most short i) (Some (digits_value 10 s)) None)
 
 pub small : (s : List ℕ) → AreDigits s → length s ≤ 15 → digits_value 10 s < 10 ^ 15
 small s h short = digits_value_short own s 15 h short
@@ -102,7 +95,7 @@ seconds_of-short s h some below =
 pub seconds_of-long : (s : List ℕ) → 2147483648 ≤ digits_value 10 s → None ≡ seconds_of s
 seconds_of-long s above =
     sym (ap (λ b. cond b (Some (digits_value 10 s)) None)
-    (ap (λ b. are_digits s && b) (le-ltb (digits_value 10 s) 2147483648 above) ∙ and_false (are_digits s)))
+    (ap (λ b. are_digits s && b) (le-ltb (digits_value 10 s) 2147483648 above) ∙ and-false (are_digits s)))
 
 -- ---- a place
 

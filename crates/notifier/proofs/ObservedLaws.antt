@@ -1,8 +1,8 @@
 -- The observations of an insertion-ordered map whose keys are their names.
-use Rattle.std.proofs.Common.{◌≡◌, ℕ, ◌+◌, ◌<◌, ◌≤◌, length, arith, zero, suc, ◌==◌, Bool, true, false, cond, not, ◌&&◌}
+use Rattle.std.proofs.Common.{◌≡◌, ℕ, ◌+◌, ◌<◌, ◌≤◌, length, arith, zero, suc, ◌==◌, Bool, true, false, cond, ◌&&◌}
 use Rattle.std.proofs.Common.{◌||◌, List, [], ◌∷◌, ◌++◌, Option, None, Some, filter, map, remove, slice_get, slice_set}
 use Rattle.std.proofs.Common.{IfSome, refl, sym, ap, subst, ◌∙◌, if◌then◌else◌, eqb-true}
-use Rattle.std.proofs.lemmas.Bool.{and_parts}
+use Rattle.std.proofs.lemmas.Bool.{and_parts, or_parts}
 use Rattle.std.proofs.lemmas.Nat.{mod_below}
 use Rattle.std.proofs.lemmas.Slice.Eq.{bytes_eq-Decides}
 use Rattle.std.specs.List.{AllByRecursion, IsDistinct, list_any}
@@ -10,11 +10,12 @@ use Rattle.std.specs.Option.{option_map_or}
 use Rattle.std.specs.Map.{keys_of, values_of, lookup}
 use Rattle.std.specs.Str.{bytes_eq}
 use Rattle.indexmap.specs.IndexMap.{set_value_at}
+use Rattle.lemmas.proofs.Lists.{none_found}
 use Rattle.notifier.specs.declared.observation.Observation.{Observation}
 use Rattle.notifier.specs.declared.entries.Key.{Key}
 use Rattle.notifier.specs.Observed.{HasNumber, IsKeyed, HaveDistinctNames, is_named, next_number, number_for}
 use Rattle.notifier.specs.Observed.{as_closed, registered}
-use Rattle.notifier.proofs.Places.{IsFirst, find_first, find_none, passes_first}
+use Rattle.notifier.proofs.Places.{IsFirst, find_first, passes_first}
 
 -- ---- the values of a map
 
@@ -62,28 +63,10 @@ each-remove P [] (suc i) h = tt
 each-remove P (x ∷ xs) zero h = h.1
 each-remove P (x ∷ xs) (suc i) h = (h.0, each-remove P xs i h.1)
 
-pub each-filter : {X : Type 0} (P : X → Type 0) (q : X → Bool) (xs : List X) → AllByRecursion P xs
-    → AllByRecursion P (filter q xs)
-each-filter P q [] h = tt
-each-filter P q (x ∷ xs) h =
-    elim (q x) as (λ b. AllByRecursion P (cond b (x ∷ filter q xs) (filter q xs))) [
-      | true ↦ (h.0, each-filter P q xs h.1)
-      | false ↦ each-filter P q xs h.1
-    ]
-
-pub each-append : {X : Type 0} (P : X → Type 0) (xs : List X) (x : X) → AllByRecursion P xs → P x
-    → AllByRecursion P (xs ++ x ∷ [])
-each-append P [] x h p = (p, tt)
-each-append P (y ∷ ys) x h p = (h.0, each-append P ys x h.1 p)
-
 -- a number that comes next has 24 bits
 pub next_fits : (n m : ℕ) → m ≡ next_number n → m < 16777216
 next_fits n m next = let positive : 0 < 16777216 =
     omega arith in subst (λ (k : ℕ). k < 16777216) (sym next) (mod_below (n + 1) 16777216 positive)
-
-pub negated : (b c : Bool) → c ≡ not b → b ≡ not c
-negated true c h = sym (ap not h)
-negated false c h = sym (ap not h)
 
 -- an observation that comes in the place of another of its name
 pub keyed_set : (es : List (Key × Observation)) (i : ℕ) (o w : Observation) → AllByRecursion IsKeyed es
@@ -138,17 +121,13 @@ numbers_fit (e ∷ es) h = (h.0.number, numbers_fit es h.1)
 abbrev pub tests_names : (Key → Key → Bool) → Type 0
 tests_names eq = (k j : Key) → eq k j ≡ (k.server == j.server && bytes_eq k.token.items j.token.items)
 
-either : (a b : Bool) → (a || b) ≡ false → (a ≡ false) × (b ≡ false)
-either true b h = cc
-either false b h = (refl, h)
-
 -- a name that no observation has is no key
 pub no_key : (eq : Key → Key → Bool) → tests_names eq → (k : Key) (es : List (Key × Observation))
     → AllByRecursion IsKeyed es → list_any (is_named k.server k.token.items) (values_of es) ≡ false
     → lookup (eq k) es ≡ None
 no_key eq law k [] h none = refl
 no_key eq law k (e ∷ es) h none =
-    let parts = either (is_named k.server k.token.items e.1) _ none in
+    let parts = or_parts (is_named k.server k.token.items e.1) _ none in
     let at : eq k e.0 ≡ false =
     law k e.0 ∙ (λ j. k.server == h.0.server j && bytes_eq k.token.items (h.0.token j)) ∙ parts.0 in
     ap (λ b. cond b (Some e.1) (lookup (eq k) es)) at ∙ no_key eq law k es h.1 parts.1
@@ -162,7 +141,7 @@ number_for-first os server token i o first at =
 
 pub number_for-none : (os : List Observation) (server : ℕ) (token : List ℕ)
     → list_any (is_named server token) os ≡ false → number_for os server token ≡ 0
-number_for-none os server token none = ap (λ f. option_map_or (λ x. next_number x.number) f 0) (find_none _ os none)
+number_for-none os server token none = ap (λ f. option_map_or (λ x. next_number x.number) f 0) (none_found _ os none)
 
 pub registered-first : (os : List Observation) (new o : Observation) (i : ℕ)
     → IsFirst (is_named new.server new.token) os i → slice_get os i ≡ Some o
@@ -180,7 +159,7 @@ pub registered-none : (os : List Observation) (new : Observation) → list_any (
     → registered os new ≡ os ++ record new { number = 0 } ∷ []
 registered-none [] new none = refl
 registered-none (x ∷ os) new none =
-    let parts = either _ _ none in
+    let parts = or_parts _ _ none in
     ap (λ b. if b then record new { number = next_number x.number } ∷ os else x ∷ registered os new) parts.0
     ∙ ap (λ t. x ∷ t) (registered-none os new parts.1)
 

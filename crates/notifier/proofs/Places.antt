@@ -1,5 +1,5 @@
 -- The first place in a list at which a test passes.
-use Rattle.std.proofs.Common.{◌≡◌, ℕ, zero, suc, ◌+◌, Bool, true, false, cond, ◌||◌, List, [], ◌∷◌, None, Some}
+use Rattle.std.proofs.Common.{◌≡◌, ℕ, zero, suc, ◌+◌, Bool, true, false, cond, ◌||◌, List, [], ◌∷◌, Some}
 use Rattle.std.proofs.Common.{position, slice_get, refl, sym, ap, subst, ◌∙◌, arith}
 use Rattle.std.specs.List.{position_from, list_any, find}
 use Rattle.std.specs.Option.{is_some}
@@ -36,14 +36,6 @@ pub find_first : {X : Type 0} (p : X → Bool) (xs : List X) (i : ℕ) → IsFir
 find_first p [] i h = absurd h
 find_first p (x ∷ xs) zero h = ap (λ b. cond b (Some x) (find p xs)) h
 find_first p (x ∷ xs) (suc i) h = ap (λ b. cond b (Some x) (find p xs)) h.0 ∙ find_first p xs i h.1
-
-pub find_none : {X : Type 0} (p : X → Bool) (xs : List X) → list_any p xs ≡ false → find p xs ≡ None
-find_none p [] h = refl
-find_none p (x ∷ xs) h =
-    elim (p x) as (λ b. (b || list_any p xs) ≡ false → cond b (Some x) (find p xs) ≡ None) [
-      | true ↦ λ k. cc
-      | false ↦ λ k. find_none p xs k
-    ] h
 
 pub passes_first : {X : Type 0} (p : X → Bool) (xs : List X) (i : ℕ) (x : X) → IsFirst p xs i → slice_get xs i ≡ Some x
     → p x ≡ true

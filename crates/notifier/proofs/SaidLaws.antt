@@ -89,13 +89,3 @@ said_last server token (o ∷ os) (s ∷ ss) len none =
       | true ↦ λ k. cc
       | false ↦ λ k. ap (λ t. s ∷ t) (said_last server token os ss shorter k)
     ] none
-
--- ---- a test, or one that holds
-
-pub or_true : (a : Bool) → (a || true) ≡ true
-or_true true = refl
-or_true false = refl
-
-pub or_false : (a : Bool) → (a || false) ≡ a
-or_false true = refl
-or_false false = refl

@@ -2,7 +2,7 @@
 use Rattle.std.proofs.Common.{◌≡◌, ℕ, ◌+◌, ◌*◌, ◌<◌, ◌≤◌, ◌↔◌, ◌==◌, nat_le, ◌⊎◌, inl, inr}
 use Rattle.std.proofs.Common.{Bool, true, false, ◌||◌, if◌then◌else◌, refl, sym, ap, ◌∙◌, arith}
 use Rattle.std.proofs.lemmas.Bool.{eqb-true, eq-eqb, le-leb, leb-true}
-use Rattle.std.proofs.lemmas.Bool.Decides.{nat_tests}
+use Rattle.lemmas.proofs.Numbers.{nat_le_above}
 use Rattle.notifier.specs.Due.{acts_in}
 use Rattle.notifier.specs.Resending.{after_timeouts, is_timed_out, resending}
 use Rattle.notifier.specs.declared.pending.Outlook.{Outlook}
@@ -115,16 +115,14 @@ before_the_end s t clock some (inr (inl h)) = omega (arith, some, h)
 before_the_end s t clock some (inr (inr (inl h))) = omega (arith, some, h)
 before_the_end s t clock some (inr (inr (inr h))) = omega (arith, some, h)
 
-not_over : (n clock : ℕ) → clock < n → nat_le n clock ≡ false
-not_over n clock h = grind (arith, nat_tests)
-
 pub resent : (s t clock : ℕ) → 0 < t → (resending s t clock ≡ Resend) ↔ IsOneOf s t clock
 resent s t clock some = (
   λ h. seconds_are s t clock (chosen_once (is_at s t clock 1) (is_at s t clock 2) (is_at s t clock 3)
       (is_at s t clock 4) (is_timed_out s t clock) h),
   λ h. chosen_by_one (is_at s t clock 1) (is_at s t clock 2) (is_at s t clock 3) (is_at s t clock 4)
       (is_timed_out s t clock)
-      (ap (λ n. nat_le n clock) (sym (all_passed s t)) ∙ not_over (s + 31 * t) clock (before_the_end s t clock some h))
+      (ap (λ n. nat_le n clock) (sym (all_passed s t))
+      ∙ nat_le_above (s + 31 * t) clock (before_the_end s t clock some h))
       (tests_are s t clock h),
 )
 

@@ -15,6 +15,7 @@ use Rattle.std.proofs.lemmas.Slice.Eq.{bytes_eq-Decides, text_from_reads}
 use Rattle.std.proofs.Common.{take, length-take, get_or-take, Result, Ok, Err, le-ltb, take_all}
 use Rattle.std.proofs.lemmas.Bool.Decides.{nat_tests}
 use Rattle.std.proofs.lemmas.Bool.{and_parts, cases_eq}
+use Rattle.std.proofs.lemmas.Option.{cond_some}
 use Rattle.object_defs.specs.Decimal.{decimal_number}
 
 abbrev pub AreDigits : List ℕ → Type 0
@@ -23,15 +24,11 @@ AreDigits ds = (i : ℕ) → i < length ds → IsInRange 48 57 (get_or ds i 0)
 pub own : IsNumeralModel AreDigits (digits_value 10)
 own = numerals_by_value AreDigits tells_by_index
 
-checked : (b : Bool) (n m : ℕ) → cond b (Some n) None ≡ Some m → (b ≡ true) × (n ≡ m)
-checked true n m h = (refl, cc)
-checked false n m h = cc
-
 -- the number that a decimal form gives is that number
 pub decimal_number-law : (s : List ℕ) (n : ℕ) → (decimal_number s ≡ Some n) ↔ ((n < 65536) × (s ≡ decimal n))
 decimal_number-law s n = (
   (λ h.
-      let parts = checked _ _ _ h in
+      let parts = cond_some _ _ _ h in
       let tests = and_parts _ _ parts.0 in (
         subst (λ m. m < 65536) parts.1 (ltb-true _ _ tests.0),
         sym ((bytes_eq-Decides _ _).0 tests.1) ∙ ap decimal parts.1,

@@ -56,7 +56,7 @@ resource_absent_in : (d : ResourceDef) (o : Option ObjectDef) → resource_fault
 resource_absent_in d None h = refl
 resource_absent_in d (Some o) h = none_from_test (resource_in o.resources d.id) (second _ _ _ _ _ _ h)
 
-vendor_is : (b : Bool) (d : ResourceDef) (o : Option ObjectDef) → resource_fault_in d (cond b o None) ≡ None
+pub vendor_is : (b : Bool) (d : ResourceDef) (o : Option ObjectDef) → resource_fault_in d (cond b o None) ≡ None
     → (b ≡ true) × (resource_fault_in d o ≡ None)
 vendor_is true d o h = (refl, h)
 vendor_is false d o h = let f : ⊥ = cc in absurd f

@@ -5,6 +5,7 @@ use Rattle.std.specs.Option.{option_and_then}
 use Rattle.std.specs.List.{list_any}
 use Rattle.std.proofs.lemmas.Bool.{lt-leb}
 use Rattle.lemmas.proofs.Tests.{never_both, or_first}
+use Rattle.lemmas.proofs.Options.{option_map_none}
 use Rattle.lwm2m_payloads.specs.Changes.{has_too_many, is_kept_as, is_too_many}
 use Rattle.lwm2m_payloads.specs.Given.{instance_given}
 use Rattle.lwm2m_payloads.specs.declared.format.Format.{Format}
@@ -43,16 +44,12 @@ none_found p (a ∷ given) h =
       | false ↦ λ e. none_found p given e
     ] h
 
-pub mapped_none : {X Y : Type 0} (f : X → Y) (o : Option X) → option_map f o ≡ None → o ≡ None
-mapped_none f None h = refl
-mapped_none f (Some x) h = cc
-
 no_excess : (mode : Mode) (resources : List ResourceDef) (stored : Stored) (place : InstancePath)
     (given : List Assignment) → excess_in mode resources stored place given ≡ None
     → has_too_many mode resources stored place given ≡ false
 no_excess mode resources stored place given h =
     none_found (is_excess mode resources stored place) given
-    (mapped_none _ (find (is_excess mode resources stored place) given) h)
+    (option_map_none _ (find (is_excess mode resources stored place) given) h)
 
 defined_as : (r : ℕ) (o : Option ObjectDef) → option_and_then (λ (x : ObjectDef). resource_in x.resources r) o
     ≡ resource_in (resources_as o) r

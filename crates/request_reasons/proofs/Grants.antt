@@ -2,7 +2,7 @@
 use Rattle.std.proofs.Common.{◌≡◌, ℕ, ℤ, Bool, true, false, not, ◌==◌, nat_le, cond, List, [], ◌∷◌, length, filter}
 use Rattle.std.proofs.Common.{None, Some, refl, sym, ap, subst, ◌∙◌, ◌≤◌, get_or, arith}
 use Rattle.std.specs.List.{list_any}
-use Rattle.std.proofs.lemmas.Bool.{ne_eqb}
+use Rattle.std.proofs.lemmas.Bool.{ne_eqb, not-true}
 use Rattle.lemmas.proofs.Tests.{never_both, or_first, or_second}
 use Rattle.object_defs.specs.Path.{object_in}
 use Rattle.object_defs.specs.declared.path.Path.{Path}
@@ -67,15 +67,11 @@ never_none : (is_control : Bool) → cond is_control (Some letter.W) (Some lette
 never_none true e = cc
 never_none false e = cc
 
-refuted : (b : Bool) → not b ≡ true → b ≡ false
-refuted true h = cc
-refuted false h = refl
-
 lacked : (rights : Rights) (asked given : Letter) → Some asked ≡ Some given → not (has_letter asked rights) ≡ true
     → has_letter given rights ≡ false
 lacked rights asked given e h =
     let same : asked ≡ given = cc in
-    ap (λ (l : Letter). has_letter l rights) (sym same) ∙ refuted (has_letter asked rights) h
+    ap (λ (l : Letter). has_letter l rights) (sym same) ∙ not-true (has_letter asked rights) h
 
 lacked_by : (rights : Rights) (is_control : Bool) (given : Letter)
     → cond is_control (Some letter.W) (Some letter.R) ≡ Some given

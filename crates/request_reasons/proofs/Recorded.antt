@@ -4,6 +4,7 @@ use Rattle.std.proofs.Common.{Some, option_map, if◌then◌else◌, refl, sym, 
 use Rattle.std.specs.Option.{is_some, option_or}
 use Rattle.std.specs.List.{list_any}
 use Rattle.std.proofs.lemmas.Bool.{eqb-true, eq-eqb}
+use Rattle.lemmas.proofs.Options.{option_map_none}
 use Rattle.lwm2m_values.specs.declared.kind.ValueKind.{ValueKind}
 use Rattle.lwm2m_values.specs.declared.value.Value.{Value}
 use Rattle.lwm2m_values.specs.Reading.{value_of_bytes}
@@ -21,7 +22,6 @@ use Rattle.request_reasons.specs.Payloads.{fault_as, fault_in, first_refused, ha
 use Rattle.request_reasons.specs.Payloads.{part_refused, parts_fault, refused_for}
 use Rattle.request_reasons.specs.declared.payload.RecordFault.{RecordFault}
 use Rattle.request_reasons.specs.declared.payload.RecordFault.TheVariants as record_fault
-use Rattle.request_reasons.proofs.Exceeding.{mapped_none}
 
 pub neither_found : {A : Type 0} (a b : Option A) → option_or a b ≡ None → (a ≡ None) × (b ≡ None)
 neither_found None b h = (refl, h)
@@ -171,7 +171,7 @@ assigned purpose resources place (more node nodes) h =
     (first_refused purpose resources (place + 1) nodes) h in
     let u = neither_found (fault_as purpose node found)
     (if has_number (number_in node) nodes then Some record_fault.Twice else None)
-    (mapped_none (named place node) (refused_for purpose resources node nodes) t.0) in
+    (option_map_none (named place node) (refused_for purpose resources node nodes) t.0) in
     with_record node nodes (assigned_as purpose node found) (assignments purpose resources nodes)
     (assigned_when purpose node found (id_found resources (number_in node)) u.0)
     (twice_not (has_number (number_in node) nodes) u.1)

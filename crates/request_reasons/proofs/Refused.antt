@@ -3,6 +3,8 @@ use Rattle.std.proofs.Common.{◌≡◌, ℕ, ◌==◌, Bool, true, false, not, 
 use Rattle.std.proofs.Common.{None, Some, option_map, if◌then◌else◌, refl, ap, ◌∙◌}
 use Rattle.std.specs.Option.{is_some, option_and_then, option_or}
 use Rattle.std.specs.List.{list_any}
+use Rattle.std.proofs.lemmas.Bool.{not-false}
+use Rattle.lemmas.proofs.Options.{option_map_none}
 use Rattle.lwm2m_values.specs.declared.kind.ValueKind.{ValueKind}
 use Rattle.lwm2m_values.specs.declared.value.Value.{Value}
 use Rattle.lwm2m_values.specs.Reading.{nodes_of_bytes, value_of_bytes, value_of_text}
@@ -43,7 +45,6 @@ use Rattle.request_reasons.specs.declared.payload.PayloadFault.{PayloadFault}
 use Rattle.request_reasons.specs.declared.payload.PayloadFault.TheVariants as fault
 use Rattle.request_reasons.specs.declared.payload.RecordFault.{RecordFault}
 use Rattle.request_reasons.specs.declared.payload.RecordFault.TheVariants as record_fault
-use Rattle.request_reasons.proofs.Exceeding.{mapped_none}
 use Rattle.request_reasons.proofs.Recorded.{assigned, given_when, neither_found}
 
 mapped_some : {A B : Type 0} (f : A → B) (o : Option A) → is_some o ≡ true → is_some (option_map f o) ≡ true
@@ -86,7 +87,7 @@ record_if : (b : Bool) (number : ℕ) (f : Option RecordFault) (g : Option Given
     → (f ≡ None → is_some g ≡ true)
     → (if b then option_map (λ why. fault.Record 1 number why) f
     else Some (fault.Record 1 number record_fault.Number)) ≡ None → is_some (given_if b g) ≡ true
-record_if true number f g k h = k (mapped_none (λ why. fault.Record 1 number why) f h)
+record_if true number f g k h = k (option_map_none (λ why. fault.Record 1 number why) f h)
 record_if false number f g k h = cc
 
 resource_when : (d : ResourceDef) (nodes : Trees) → resource_fault d nodes ≡ None
@@ -130,7 +131,7 @@ lone_when : (kind : ValueKind) (n : ℕ) (nodes : Trees) → lone_part_fault kin
     → is_some (lone_part kind n nodes) ≡ true
 lone_when kind n (more (part m bytes) none) h =
     part_if (m == n) n kind (value_of_bytes kind bytes)
-    (mapped_none (λ why. fault.Record 1 m why) (lone_part_in kind n (part m bytes)) h)
+    (option_map_none (λ why. fault.Record 1 m why) (lone_part_in kind n (part m bytes)) h)
 lone_when kind n none h = cc
 lone_when kind n (more (instance i inner) none) h = cc
 lone_when kind n (more (multi r inner) none) h = cc
@@ -187,10 +188,6 @@ values_when client (Part o i r n) payload format t h =
     mapped_some _ (given_to_part (definition_of client.catalog o r) n format payload)
     (to_part (definition_of client.catalog o r) (has_instance client.store (place_of o i)) n format payload t h)
 
-denied : (b : Bool) → not b ≡ false → b ≡ true
-denied true h = refl
-denied false h = cc
-
 in_format : {A : Type 0} (client : Client) (path : Path) (payload : List ℕ) (gives : Format → Option A)
     (format : Option Format)
     → ((f : Format) → write_fault client.catalog path payload f ≡ None → is_some (gives f) ≡ true)
@@ -242,7 +239,7 @@ records_when stored o resources number nodes h =
     let g = assigned Create resources 1 nodes t.0 in
     complete_when stored o resources number (assignments Create resources nodes) g.items g.are
     (lacks_none resources nodes g.items g.numbers
-    (mapped_none (λ (d : ResourceDef). fault.Mandatory d.id) (find (is_lacking nodes) resources) u.0))
+    (option_map_none (λ (d : ResourceDef). fault.Mandatory d.id) (find (is_lacking nodes) resources) u.0))
     (numbered_when stored o number u.1)
 
 creation_when : (stored : Stored) (o : ℕ) (resources : List ResourceDef) (nodes : Trees)
@@ -275,8 +272,8 @@ has_fault client server path (to_write mode number payload) t s h e =
     contrary _ h
     (in_format client path payload (values_given client.catalog path payload)
     (format_at client.catalog path number)
-    (λ f none. values_when client path payload f (denied _ t) none)
-    (denied _ s) e)
+    (λ f none. values_when client path payload f (not-false _ t) none)
+    (not-false _ s) e)
 has_fault client server path (to_write_attributes queries) t s h e =
     some_or (query_fault [] (level_at client.catalog path) 1 queries) fault.Inconsistent e
 has_fault client server path (to_create number payload) t s h e =

@@ -1,28 +1,17 @@
 -- Queries from the left: those that are changes, then the first that is not.
-use Rattle.std.proofs.Common.{◌≡◌, ℕ, ◌+◌, true, false, List, [], ◌∷◌, ◌++◌, Some, Result, Ok, Err, cond}
-use Rattle.std.proofs.Common.{refl, sym, ap, ◌∙◌, map, filter, ◌==◌, ◌-◌, ◌≤◌, length, take, drop, get_or, arith}
+use Rattle.std.proofs.Common.{◌≡◌, ℕ, ◌+◌, List, [], ◌∷◌, ◌++◌, Some, Result, Ok, Err}
+use Rattle.std.proofs.Common.{sym, ap, ◌∙◌, ◌-◌, ◌≤◌, length, take, drop, get_or, arith}
 use Rattle.std.proofs.lemmas.Bool.{eq-eqb}
+use Rattle.std.proofs.Math.Seq.{take-length}
 use Rattle.coap_codec.specs.declared.option.Opt.{Opt}
 use Rattle.notifier.specs.Query.{changes_of, reading_of}
 use Rattle.notifier.specs.declared.attribute.Change.{Change}
 use Rattle.notifier.specs.declared.attribute.Level.{Level}
 use Rattle.notifier.specs.declared.fault.QueryFault.{QueryFault}
 use Rattle.device_requests.specs.Options.{queries_of}
+use Rattle.device_requests.proofs.Queries.{taken}
 use Rattle.request_reasons.specs.Payloads.{query_fault}
 use Rattle.request_reasons.specs.declared.payload.PayloadFault.TheVariants as fault
-
--- an option that is a query, and one that is not
-pub query_next : (o : Opt) (os : List Opt) → (o.number == 15) ≡ true → queries_of (o ∷ os) ≡ o.value ∷ queries_of os
-query_next o os h =
-    ap (λ b. map (λ (x : Opt). x.value) (cond b (o ∷ filter (λ x. x.number == 15) os)
-    (filter (λ x. x.number == 15) os)))
-    h
-
-pub no_query_next : (o : Opt) (os : List Opt) → (o.number == 15) ≡ false → queries_of (o ∷ os) ≡ queries_of os
-no_query_next o os h =
-    ap (λ b. map (λ (x : Opt). x.value) (cond b (o ∷ filter (λ x. x.number == 15) os)
-    (filter (λ x. x.number == 15) os)))
-    h
 
 same_ok : {A E : Type 0} (a b : A) → ◌≡◌ {A = Result A E} (Ok a) (Ok b) → a ≡ b
 same_ok a b h = cc
@@ -58,23 +47,19 @@ query_bad before level place q qs why h =
     read_bad (reading_of before level q) (λ c. before ++ c ∷ []) (λ cs. query_fault cs level (place + 1) qs)
     (λ e. Some (fault.Query place q e)) why h
 
-all_taken : {A : Type 0} (xs : List A) → take (length xs) xs ≡ xs
-all_taken [] = refl
-all_taken (x ∷ xs) = ap (λ ys. x ∷ ys) (all_taken xs)
-
 -- options as the first of them and the others
 pub first_and_others : (rest : List Opt) (o : Opt) → 1 ≤ length rest → o ≡ get_or rest 0 o
     → rest ≡ o ∷ take (length rest - 1) (drop 1 rest)
 first_and_others [] o h e = absurd (omega (arith, h))
 first_and_others (x ∷ xs) o h e =
     let fewer : length (x ∷ xs) - 1 ≡ length xs = omega arith in
-    ap (λ y. y ∷ xs) (sym e) ∙ ap (λ ys. o ∷ ys) (sym (all_taken xs) ∙ ap (λ n. take n xs) (sym fewer))
+    ap (λ y. y ∷ xs) (sym e) ∙ ap (λ ys. o ∷ ys) (sym (take-length xs) ∙ ap (λ n. take n xs) (sym fewer))
 
 begins_with_query : (rest : List Opt) (o : Opt) (q : List ℕ) → 1 ≤ length rest → o ≡ get_or rest 0 o
     → o.number ≡ 15 → q ≡ o.value → queries_of rest ≡ q ∷ queries_of (take (length rest - 1) (drop 1 rest))
 begins_with_query rest o q h e n v =
     let others = take (length rest - 1) (drop 1 rest) in
-    ap queries_of (first_and_others rest o h e) ∙ query_next o others (eq-eqb o.number 15 n)
+    ap queries_of (first_and_others rest o h e) ∙ taken o others (eq-eqb o.number 15 n)
     ∙ ap (λ x. x ∷ queries_of others) (sym v)
 
 -- what is at fault in options that begin with a query: where it is a change, what is at fault in the others after it

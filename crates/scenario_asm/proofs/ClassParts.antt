@@ -1,11 +1,12 @@
 -- What accepted additions put into a class has numbers of 16 bits, and valid values.
 use Rattle.std.proofs.Common.{◌≡◌, ℕ, ◌≤◌, ◌<◌, Bool, true, false, ◌&&◌, leb, List, [], ◌∷◌, length, None, refl, sym}
-use Rattle.std.proofs.Common.{subst, ◌∙◌, arith}
+use Rattle.std.proofs.Common.{subst, ◌∙◌}
 use Rattle.std.specs.Prelude.{not, ◌==◌, nat_le, is_some}
 use Rattle.std.specs.List.{AllByRecursion, list_any}
 use Rattle.std.specs.FinMap as finite
 use Rattle.std.specs.declared.cmp.Ordering.{Ordering}
 use Rattle.std.proofs.lemmas.Bool.{and_parts, leb-true}
+use Rattle.lemmas.proofs.Lists.{empty_from_length}
 use Rattle.lwm2m_values.specs.Value.{IsGood}
 use Rattle.lwm2m_values.specs.declared.value.Value.{Value}
 use Rattle.object_defs.specs.Catalog.{object_of}
@@ -64,14 +65,10 @@ instance_range c p h =
     let both = and_parts _ _ (first (may_stand p) Range (instance_lines c p) h) in
     leb-true p.instance 65534 (and_parts (leb p.instance 65534) _ both.1).0
 
-no_length : {X : Type 0} (xs : List X) → length xs ≡ 0 → xs ≡ []
-no_length [] h = refl
-no_length (x ∷ xs) h = absurd (omega (arith, h))
-
 each_empty : {K X : Type 0} (R : K → K → Ordering) (P : K × X → Type 0)
     → AllByRecursion P (finite.entries (finite.empty {X = X} {R = R}))
 each_empty R P =
-    subst (AllByRecursion P) (sym (no_length (finite.entries finite.empty)
+    subst (AllByRecursion P) (sym (empty_from_length (finite.entries finite.empty)
     (sym (finite.len-entries finite.empty) ∙ finite.len-empty _ _))) tt
 
 pub has_words : (c : Template) → IsBuilt c → HasWords c

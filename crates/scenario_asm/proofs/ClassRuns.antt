@@ -5,7 +5,7 @@ use Rattle.std.proofs.Common.{append_assoc, arith}
 use Rattle.std.specs.Prelude.{is_some, nat_le, nat_lt}
 use Rattle.std.specs.List.{AllByRecursion, flat_map, list_all}
 use Rattle.std.specs.Ordering.{is_lt}
-use Rattle.std.proofs.lemmas.Bool.{eqb-true}
+use Rattle.std.proofs.lemmas.Bool.{eqb-true, and_parts}
 use Rattle.std.proofs.lemmas.Bool.Decides.{nat_tests}
 use Rattle.std.proofs.lemmas.List.{append-nil}
 use Rattle.byte_layout.specs.Layout.{each}
@@ -28,6 +28,9 @@ use Rattle.object_defs.proofs.LookUps.{same_number}
 use Rattle.instance_store.specs.Stored.{has_instance, instances_of, value_at, value_count, with_instance, with_value}
 use Rattle.scenario_layout.specs.Value.{kind_numbered, kind_number, of_kind, opaque, text, value}
 use Rattle.std.specs.Int.{w8}
+use Rattle.lemmas.proofs.Tests.{never_both}
+use Rattle.lemmas.proofs.Lists.{length_pushed}
+use Rattle.lemmas.proofs.Numbers.{nat_le_below}
 use Rattle.scenario_layout.specs.Definition.{resource, resources}
 use Rattle.device_template.specs.Template.{Template, empty_class, instance_fault, kind_taken}
 use Rattle.device_template.specs.Template.{kind_taken_by, object_fault, plain, value_fault, value_fault_at, may_stand}
@@ -46,8 +49,9 @@ use Rattle.scenario_layout.proofs.Defined.{defined_end, not_refused_at}
 use Rattle.scenario_layout.proofs.Filling.{instance_added as more_instances, instances_itself, instances_none}
 use Rattle.scenario_layout.proofs.Filling.{value_added as more_values, values_itself, values_none}
 use Rattle.scenario_layout.proofs.GoodClass.{class_good}
-use Rattle.scenario_layout.proofs.Items.{instance_made, object_vendor, value_made}
-use Rattle.scenario_layout.proofs.Ordered.{both_true, inserted_end}
+use Rattle.scenario_layout.proofs.Items.{instance_made, object_vendor, value_made, number_again}
+use Rattle.scenario_layout.proofs.Ordered.{inserted_end}
+use Rattle.scenario_layout.proofs.GoodEntries.{plain_short}
 use Rattle.scenario_image.specs.Layout.{path_to, path_with}
 use Rattle.scenario_image.specs.Scenario.{Scenario, class_fault}
 use Rattle.scenario_image.specs.declared.fault.ScenarioFault.TheVariants as scenario
@@ -60,7 +64,7 @@ use Rattle.scenario_asm.specs.Draft.{Draft, closed}
 use Rattle.scenario_asm.specs.Effect.{class_begun, effect}
 use Rattle.scenario_asm.specs.Denotes.{Lead}
 use Rattle.scenario_asm.proofs.Canonical.{lead_append}
-use Rattle.scenario_asm.proofs.ClassValues.{plain_short, same_fit, short_told, too_long}
+use Rattle.scenario_asm.proofs.ClassValues.{same_fit, short_told, too_long}
 use Rattle.scenario_asm.proofs.Opened.{opened, taken_is, items_lead, accounts_lead, notify_lead}
 
 -- ---- instances
@@ -86,7 +90,7 @@ unfolding instance
 instance_lead s o c before p same good =
     let k = with_instances c before in
     let u = with_store k (with_instance k.store p) in
-    let both = both_true (list_all (λ q. is_lt (instance_cmp q p)) before) (is_taken (instance_fault k p)) good.1 in
+    let both = and_parts (list_all (λ q. is_lt (instance_cmp q p)) before) (is_taken (instance_fault k p)) good.1 in
     let free : instance_fault k p ≡ None = taken_is _ both.1 in
     let more : instances_in u ≡ before ++ p ∷ [] =
     more_instances k p (ap (list_all (λ q. is_lt (instance_cmp q p))) same ∙ both.0)
@@ -121,14 +125,6 @@ five_lines : (a b d e g : Bool)
 five_lines true true d e g h = (refl, refl)
 five_lines false b d e g h = absurd cc
 five_lines true false d e g h = absurd cc
-
-number_again : (k : ValueKind) → kind_numbered (kind_number k) ≡ k
-number_again kinds.Text = refl
-number_again kinds.Whole = refl
-number_again kinds.Flag = refl
-number_again kinds.Opaque = refl
-number_again kinds.Moment = refl
-number_again kinds.Link = refl
 
 up_to : (n m : ℕ) → n < suc m → nat_le n m ≡ true
 up_to n m h = grind (arith, nat_tests)
@@ -207,10 +203,6 @@ stated_at : (k : Template) (o i r : ℕ) (part : Option ℕ)
 stated_at k o i r None = refl
 stated_at k o i r (Some n) = refl
 
-not_both : (b : Bool) → b ≡ true → b ≡ false → ⊥
-not_both true h k = let e : true ≡ false = k in cc
-not_both false h k = let e : false ≡ true = h in cc
-
 value_taken : (s : Scenario) (o : Option ℕ) (k : Template) (p : FullPath) (v : Value) → value_fault_at k p v ≡ None
     → has_good_length v ≡ true
     → effect (says.Value (path_to p) v) (opened s k o) ≡ Ok (opened s (with_store k (with_value k.store p v)) o)
@@ -221,7 +213,7 @@ value_taken s o k p v free short =
     (has_all_parts k.store p) free).1 in
     let stated : is_stated k (path_to p) ≡ true = stated_at k p.object p.instance p.resource p.part ∙ placed in
     let cause : value_cause k (full_path (path_to p)) v ≡ None =
-    short_told k (path_to p) v stated (λ long. not_both (has_good_length v) short (too_long v long))
+    short_told k (path_to p) v stated (λ long. never_both (has_good_length v) short (too_long v long))
     ∙ ap (λ q. option_map template_cause (value_fault k q v)) full
     ∙ ap (option_map template_cause) free in
     ap (λ b. needs b (unless (value_cause k (full_path (path_to p)) v)
@@ -240,7 +232,7 @@ value_lead s o c before e same good =
     let p = e.0 in
     let v = e.1 in
     let u = with_store k (with_value k.store p v) in
-    let both = both_true (list_all (λ q. is_lt (path_cmp q.0 p)) before) (is_some (kind_taken k p)) good.0.1 in
+    let both = and_parts (list_all (λ q. is_lt (path_cmp q.0 p)) before) (is_some (kind_taken k p)) good.0.1 in
     let found = some_kind (kind_taken k p) both.1 in
     let fit = of_kind_taken found.0 v (subst (λ w. (value w).Good v) found.1 good.1.0) in
     let free : value_fault_at k p v ≡ None = value_free k p v found.0 found.1 fit.0 fit.1 in
@@ -267,7 +259,7 @@ found_last : (front : List ObjectDef) (id : ℕ) (ds : List ResourceDef) → lis
     → object_of (front ++ defined id ds ∷ []) id ≡ Some (defined id ds)
 found_last [] id ds low = ap (λ b. cond b (Some (defined id ds)) None) (same_number id)
 found_last (o ∷ front) id ds low =
-    let p = both_true (ltb o.id id) (list_all (λ q. nat_lt q.id id) front) low in
+    let p = and_parts (ltb o.id id) (list_all (λ q. nat_lt q.id id) front) low in
     ap (λ b. cond b (Some o) (object_of (front ++ defined id ds ∷ []) id)) (other o.id id p.0)
     ∙ found_last front id ds p.1
 
@@ -276,10 +268,6 @@ one_definition : (front : List ObjectDef) (id : ℕ) (before : List ResourceDef)
     → with_resource (front ++ defined id before ∷ []) id d ≡ front ++ defined id (before ++ d ∷ []) ∷ []
 unfolding each
 one_definition front id before d low good = defined_end (suc zero) front id before (d ∷ []) low (good, refl)
-
-length_push : {X : Type 0} (xs : List X) (x : X) → length (xs ++ x ∷ []) ≡ suc (length xs)
-length_push [] x = refl
-length_push (y ∷ xs) x = ap suc (length_push xs x)
 
 one_less : (m n k : ℕ) → m + suc n ≤ k → suc m + n ≤ k
 one_less m n k h = omega (arith, h)
@@ -293,24 +281,24 @@ definitions_lead : (s : Scenario) (c : Template) (front : List ObjectDef) (id : 
     → Lead (opened s (with_catalog c (front ++ defined id before ∷ [])) (Some id)) (map (λ d. says.Def d) ds)
     (opened s (with_catalog c (front ++ defined id (before ++ ds) ∷ [])) (Some id))
 unfolding each
-definitions_lead s c front id zero before ds vendor low few good =
+definitions_lead s c front id zero before ds vendor low nat_le_below good =
     subst (λ ys. Lead (opened s (with_catalog c (front ++ defined id before ∷ [])) (Some id))
     (map (λ d. says.Def d) ys) (opened s (with_catalog c (front ++ defined id (before ++ ys) ∷ [])) (Some id)))
     (sym good)
     (ap (λ ys. opened s (with_catalog c (front ++ defined id ys ∷ [])) (Some id)) (sym (append-nil before)))
-definitions_lead s c front id (suc n) before [] vendor low few good = absurd good
-definitions_lead s c front id (suc n) before (d ∷ ds) vendor low few good =
+definitions_lead s c front id (suc n) before [] vendor low nat_le_below good = absurd good
+definitions_lead s c front id (suc n) before (d ∷ ds) vendor low nat_le_below good =
     let k = with_catalog c (front ++ defined id before ∷ []) in (
       opened s (with_catalog c (front ++ defined id (before ++ d ∷ []) ∷ [])) (Some id),
       ap (λ f. unless (option_map template_cause f) (with_catalog k (with_resource k.catalog id d)) >>=
           (λ e. Ok (opened s e (Some id)))) (not_refused_at k id before d vendor (found_last front id before low) good.0
-          (is_below (length before) n 64 few))
+          (is_below (length before) n 64 nat_le_below))
           ∙ ap (λ t. Ok (opened s (with_catalog c t) (Some id))) (one_definition front id before d low good.0),
       subst (λ ys. Lead (opened s (with_catalog c (front ++ defined id (before ++ d ∷ []) ∷ [])) (Some id))
           (map (λ d. says.Def d) ds) (opened s (with_catalog c (front ++ defined id ys ∷ [])) (Some id)))
           (append_assoc before (d ∷ []) ds)
           (definitions_lead s c front id n (before ++ d ∷ []) ds vendor low
-          (subst (λ m. m + n ≤ 64) (sym (length_push before d)) (one_less (length before) n 64 few)) good.1),
+          (subst (λ m. m + n ≤ 64) (sym (length_pushed before d)) (one_less (length before) n 64 nat_le_below)) good.1),
     )
 
 short_list : (n : ℕ) → nat_lt n 65 ≡ true → 0 + n ≤ 64
@@ -323,7 +311,7 @@ object_lead : (s : Scenario) (c : Template) (before : List ObjectDef) (o : Objec
 unfolding object object_id resources
 object_lead s c before o num good =
     let k = with_objects c before in
-    let both = both_true (list_all (λ q. nat_lt q.id o.id) (base ++ before))
+    let both = and_parts (list_all (λ q. nat_lt q.id o.id) (base ++ before))
     (is_taken (object_fault k o.id)) good.0.1 in
     let free : object_fault k o.id ≡ None = taken_is _ both.1 in (
       opened s (with_catalog c ((base ++ before) ++ defined o.id [] ∷ [])) (Some o.id),
@@ -373,9 +361,6 @@ objects_lead s c xs num none good =
 
 -- ---- a class
 
-few : (n m : ℕ) → n < m → nat_le m n ≡ false
-few n m h = grind (arith, nat_tests)
-
 begin_lead : (s : Scenario) (d : Draft) → d.begun ≡ true → closed d ≡ s → length s.classes < 256
     → effect says.Class d ≡ Ok (opened s empty_class None)
 begin_lead s d begun same room =
@@ -384,7 +369,7 @@ begin_lead s d begun same room =
     (record { begun = d.begun; scenario = t; open_class = Some empty_class; object = None })) same
     ∙ ap (λ b. unless (option_map scenario_cause (cond b (Some scenario.Limit) None))
     (record { begun = d.begun; scenario = s; open_class = Some empty_class; object = None }))
-    (few (length s.classes) 256 room)
+    (nat_le_below (length s.classes) 256 room)
     ∙ ap (λ b. Ok (record { begun = b; scenario = s; open_class = Some empty_class; object = None })) begun
 
 -- the statements of a class make it, from a draft that has room for it
@@ -428,7 +413,7 @@ classes_lead cs [] d begun same built room = (d, refl, begun, same ∙ ap script
 classes_lead cs (c ∷ todo) d begun same built room =
     let one = class_lead (script cs) c d built.0 begun same (is_below (length cs) (length todo) 256 room) in
     let rest = classes_lead (cs ++ c ∷ []) todo (opened (script cs) c one.0) refl refl built.1
-    (subst (λ n. n + length todo ≤ 256) (sym (length_push cs c)) (one_less (length cs) (length todo) 256 room)) in (
+    (subst (λ n. n + length todo ≤ 256) (sym (length_pushed cs c)) (one_less (length cs) (length todo) 256 room)) in (
       rest.0,
       lead_append d (opened (script cs) c one.0) rest.0 (of_class c) (flat_map of_class todo) one.1 rest.1,
       rest.2,

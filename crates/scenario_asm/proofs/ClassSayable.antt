@@ -5,6 +5,7 @@ use Rattle.std.proofs.lemmas.Bool.Decides.{nat_tests}
 use Rattle.std.specs.Prelude.{IfSome}
 use Rattle.std.specs.List.{AllByRecursion, flat_map}
 use Rattle.std.specs.FinMap as finite
+use Rattle.lemmas.proofs.Lists.{each_appended, each_flat}
 use Rattle.lwm2m_values.specs.Value.{IsGood}
 use Rattle.lwm2m_values.specs.declared.value.Value.{Value}
 use Rattle.object_defs.specs.Base.{base}
@@ -20,7 +21,7 @@ use Rattle.scenario_words.specs.PathWord.{IsPath}
 use Rattle.scenario_statements.specs.declared.statement.Statement.TheVariants as says
 use Rattle.scenario_statements.specs.Spelling.{IsWithin, IsSayable}
 use Rattle.scenario_asm.specs.Canonical.{of_notify, of_object, of_value, of_class}
-use Rattle.scenario_asm.proofs.Each.{each_append, each_map, each_flat}
+use Rattle.scenario_asm.proofs.Each.{each_map}
 use Rattle.scenario_asm.proofs.Numbers.{good_value}
 use Rattle.scenario_asm.proofs.OwnObjects.{HasOwn, IsOwn}
 use Rattle.scenario_asm.proofs.ClassParts.{IsPlace, has_words}
@@ -61,11 +62,11 @@ class_said c built =
     let places = each_map (λ (e : InstancePath × Unit {0}). IsPlace e.0 × Unit {0}) IsPlace
     (λ (e : InstancePath × Unit {0}). e.0) (λ e k. k.0) (finite.entries c.store.instances) has.instances in (
       tt,
-      each_append IsSayable (of_notify c.notify) _ (notify_said c.notify (is_one_of c built))
-          (each_append IsSayable (map (λ s. says.Account s) c.accounts) _
+      each_appended IsSayable (of_notify c.notify) _ (notify_said c.notify (is_one_of c built))
+          (each_appended IsSayable (map (λ s. says.Account s) c.accounts) _
           (each_map (IsWithin 1 65534) IsSayable (λ s. says.Account s) (λ s k. k) c.accounts has.accounts)
-          (each_append IsSayable (flat_map of_object (objects_in c)) _ (own_said c has.objects)
-          (each_append IsSayable (map (λ p. says.Instance p) (instances_in c)) _
+          (each_appended IsSayable (flat_map of_object (objects_in c)) _ (own_said c has.objects)
+          (each_appended IsSayable (map (λ p. says.Instance p) (instances_in c)) _
           (each_map IsPlace IsSayable (λ p. says.Instance p) (λ p k. k) (instances_in c) places)
           (each_map (λ (e : FullPath × Value). IsShort e.0 × IsGood e.1) IsSayable of_value value_said
           (values_in c) has.values)))),

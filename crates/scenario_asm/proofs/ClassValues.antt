@@ -1,8 +1,10 @@
--- A value that is added to a class, and one that is too long.
+-- A value that is added to a class, and one that is too nat_le_above.
 use Rattle.std.proofs.Common.{◌≡◌, ◌≢◌, ℕ, ◌<◌, ◌≤◌, Bool, true, false, cond, ◌&&◌, [], ◌∷◌, length, Option, None, Some}
 use Rattle.std.proofs.Common.{Result, Ok, Err, IfErr, OnOk, option_map, refl, sym, ap, subst, ◌∙◌, arith}
 use Rattle.std.specs.Prelude.{not, nat_le, is_some}
 use Rattle.std.proofs.lemmas.Bool.Decides.{nat_tests}
+use Rattle.lemmas.proofs.Options.{not_refused}
+use Rattle.lemmas.proofs.Numbers.{nat_le_above}
 use Rattle.lwm2m_values.specs.declared.kind.ValueKind.{ValueKind}
 use Rattle.lwm2m_values.specs.declared.kind.ValueKind.TheVariants as kind
 use Rattle.lwm2m_values.specs.declared.value.Value.{Value}
@@ -25,6 +27,7 @@ use Rattle.device_template.specs.Values.{is_set_at_start, with_value_at}
 use Rattle.lwm2m_values.specs.Value.{has_good_length}
 use Rattle.device_template.specs.declared.fault.TemplateFault.{TemplateFault}
 use Rattle.device_template.specs.declared.fault.TemplateFault.TheVariants as template
+use Rattle.scenario_layout.proofs.GoodEntries.{plain_short}
 use Rattle.scenario_words.specs.ValueWords.{IsTooLong}
 use Rattle.scenario_words.specs.declared.cause.Cause.{Cause}
 use Rattle.scenario_words.specs.declared.cause.Cause.TheVariants.{Range, Duplicate, Limit, Memory}
@@ -33,9 +36,6 @@ use Rattle.scenario_asm.specs.ClassLines.{is_stated, value_added, value_cause}
 
 -- ---- lengths
 
-long : (n m : ℕ) → m < n → nat_le n m ≡ false
-long n m h = grind (arith, nat_tests)
-
 short : (n m : ℕ) → (m < n → ⊥) → nat_le n m ≡ true
 short n m h = let le : n ≤ m = omega (arith, h) in below n m le
   where
@@ -43,10 +43,10 @@ short n m h = let le : n ≤ m = omega (arith, h) in below n m le
     below n m le = grind (arith, nat_tests)
 
 pub too_long : (v : Value) → IsTooLong v → has_good_length v ≡ false
-too_long (held.Text t) h = long (length t) 255 h
+too_long (held.Text t) h = nat_le_above (length t) 255 h
 too_long (held.Whole z) h = absurd h
 too_long (held.Flag b) h = absurd h
-too_long (held.Opaque b) h = long (length b) 1024 h
+too_long (held.Opaque b) h = nat_le_above (length b) 1024 h
 too_long (held.Moment z) h = absurd h
 too_long (held.Link o i) h = absurd h
 
@@ -59,14 +59,6 @@ not_long (held.Moment z) h = refl
 not_long (held.Link o i) h = refl
 
 -- ---- the empty value of a kind fits where a value of the kind does
-
-pub plain_short : (k : ValueKind) → has_good_length (plain k) ≡ true
-plain_short kind.Text = refl
-plain_short kind.Whole = refl
-plain_short kind.Flag = refl
-plain_short kind.Opaque = refl
-plain_short kind.Moment = refl
-plain_short kind.Link = refl
 
 same_kind : (v : Value) (k : ValueKind) → has_kind (plain (kind_of v)) k ≡ has_kind v k
 same_kind (held.Text t) kind.Text = refl
@@ -139,7 +131,7 @@ told_short true true true false false false hw hb = refl
 told_short false a b d e g hw hb = absurd cc
 told_short true a false d e g hw hb = absurd cc
 
--- what is left of a long one's refusals
+-- what is left of a nat_le_above one's refusals
 abbrev else_long : Option TemplateFault → Option Cause
 else_long None = Some Limit
 else_long (Some f) = Some (template_cause f)
@@ -193,12 +185,6 @@ long_told c (Part o i r n) v stated is_long =
 
 -- ---- what the calls make
 
--- what answers Ok was not refused
-not_refused : {X Y : Type 0} (refusal : Option Y) (r : Result X Y) (x : X) → r ≡ Ok x
-    → ((f : Y) → refusal ≡ Some f → r ≡ Err f) → refusal ≡ None
-not_refused None r x ok refuses = refl
-not_refused (Some f) r x ok refuses = let e : r ≡ Err f = refuses f refl in cc
-
 -- a cause is of memory only where the class's refusal is
 not_memory : (f : TemplateFault) → template_cause f ≢ Memory → f ≢ template.Memory
 not_memory f h e = h (ap template_cause e)
@@ -246,7 +232,7 @@ pub short_made : (c : Template) (p : Path) (v : Value) (added : Result (Unit {0}
 short_made c p v added result new stated fits more refused refuses same =
     subst (λ r. Makes r new (value_added p v c)) (sym same) (short_at c p v added new stated fits more refused refuses)
 
--- one that is too long
+-- one that is too nat_le_above
 pub long_made : (c : Template) (p : Path) (v w : Value) (added : Result (Unit {0}) TemplateFault)
     (result : Result (Unit {0}) Cause) (new : Template) → w ≡ plain (kind_of v) → is_stated c p ≡ true → IsTooLong v
     → IfErr added (λ f. f ≢ template.Memory → value_fault c (full_path p) w ≡ Some f)

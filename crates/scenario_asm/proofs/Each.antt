@@ -1,8 +1,7 @@
 -- What holds of each in a list.
-use Rattle.std.proofs.Common.{◌≡◌, ℕ, zero, suc, Bool, true, false, cond, ltb, List, [], ◌∷◌, ◌++◌, map, None, Some}
-use Rattle.std.proofs.Common.{Ordering, refl, subst}
-use Rattle.std.specs.Prelude.{slice_get}
-use Rattle.std.specs.List.{AllByRecursion, flat_map}
+use Rattle.std.proofs.Common.{◌≡◌, ℕ, Bool, true, false, cond, ltb, List, [], ◌∷◌, map}
+use Rattle.std.proofs.Common.{Ordering, refl}
+use Rattle.std.specs.List.{AllByRecursion}
 use Rattle.std.specs.declared.cmp.Ordering.TheVariants.{Less, Equal, Greater}
 use Rattle.std.specs.FinMap.Entries.{put, by_order}
 use Rattle.object_defs.specs.Vendor.{inserted}
@@ -11,26 +10,10 @@ pub chosen : {A : Type 0} (P : A → Type 0) (b : Bool) (x y : A) → (b ≡ tru
 chosen P true x y h k = h refl
 chosen P false x y h k = k refl
 
-pub each_append : {A : Type 0} (P : A → Type 0) (xs ys : List A) → AllByRecursion P xs → AllByRecursion P ys
-    → AllByRecursion P (xs ++ ys)
-each_append P [] ys h k = k
-each_append P (x ∷ xs) ys h k = (h.0, each_append P xs ys h.1 k)
-
 pub each_map : {A B : Type 0} (Q : A → Type 0) (P : B → Type 0) (f : A → B) → ((a : A) → Q a → P (f a)) → (xs : List A)
     → AllByRecursion Q xs → AllByRecursion P (map f xs)
 each_map Q P f g [] h = tt
 each_map Q P f g (x ∷ xs) h = (g x h.0, each_map Q P f g xs h.1)
-
-pub each_flat : {A B : Type 0} (Q : A → Type 0) (P : B → Type 0) (f : A → List B)
-    → ((a : A) → Q a → AllByRecursion P (f a)) → (xs : List A) → AllByRecursion Q xs → AllByRecursion P (flat_map f xs)
-each_flat Q P f g [] h = tt
-each_flat Q P f g (x ∷ xs) h = each_append P (f x) (flat_map f xs) (g x h.0) (each_flat Q P f g xs h.1)
-
-pub each_at : {A : Type 0} (P : A → Type 0) (xs : List A) (i : ℕ) (x : A) → AllByRecursion P xs
-    → slice_get xs i ≡ Some x → P x
-each_at P [] i x h e = let f : None ≡ Some x = e in absurd cc
-each_at P (y ∷ ys) zero x h e = subst P (let f : Some y ≡ Some x = e in cc) h.0
-each_at P (y ∷ ys) (suc i) x h e = each_at P ys i x h.1 e
 
 pub each_inserted : {A : Type 0} (P : A → Type 0) (number : A → ℕ) (x : A) (ys : List A) → P x → AllByRecursion P ys
     → AllByRecursion P (inserted number x ys)

@@ -53,7 +53,7 @@ first_taken : (r : Result Draft Cause) (n : ℕ) (more : Draft → Result Draft 
 first_taken (Ok d) n more e h = (d, refl, h)
 first_taken (Err cause) n more e h = absurd cc
 
-taken_more : (done : List (List ℕ)) (line : List ℕ) (n : ℕ) (d e f : Draft) → lines_after done n d ≡ Ok e
+pub taken_more : (done : List (List ℕ)) (line : List ℕ) (n : ℕ) (d e f : Draft) → lines_after done n d ≡ Ok e
     → line_after line e ≡ Ok f → lines_after (done ++ line ∷ []) n d ≡ Ok f
 taken_more [] line n d e f so_far taken =
     let same : d ≡ e = cc in

@@ -5,12 +5,13 @@ use Rattle.std.specs.Str.{IsUtf8, encode_utf8_all}
 use Rattle.std.proofs.Math.Utf8.{scalar, scalars, encode, scalar_cases}
 use Rattle.std.proofs.lemmas.Bool.{and_parts, ltb-true}
 use Rattle.std.proofs.lemmas.List.Elements.{All-from_recursion}
+use Rattle.lemmas.proofs.Lists.{each_appended}
 use Rattle.lwm2m_values.specs.Value.{IsGood}
 use Rattle.lwm2m_values.specs.declared.value.Value.{Value}
 use Rattle.lwm2m_values.specs.declared.value.Value.TheVariants as value
 use Rattle.byte_layout.specs.Exact.{IsBytes}
 use Rattle.scenario_words.specs.ValueWords.{IsValue}
-use Rattle.scenario_asm.proofs.Each.{chosen, each_append}
+use Rattle.scenario_asm.proofs.Each.{chosen}
 
 pub bytes_below : (bs : List ℕ) → IsBytes bs → AllBelowBase 256 bs
 bytes_below [] h = tt
@@ -36,7 +37,7 @@ chars_below : (cs : List ℕ) → scalars cs ≡ true → AllBelowBase 256 (enco
 chars_below [] h = tt
 chars_below (c ∷ cs) h =
     let both = and_parts (scalar c) (scalars cs) h in
-    each_append (λ d. d < 256) (encode c) (encode_utf8_all cs) (char_below c both.0) (chars_below cs both.1)
+    each_appended (λ d. d < 256) (encode c) (encode_utf8_all cs) (char_below c both.0) (chars_below cs both.1)
 
 text_below : (t : List ℕ) → IsUtf8 t → AllBelowBase 256 t
 text_below t h = subst (AllBelowBase 256) h.1.1 (chars_below h.0 h.1.0)

@@ -4,14 +4,14 @@ use Rattle.std.proofs.Common.{◌∷◌, ◌++◌, map, length, Option, None, So
 use Rattle.std.proofs.Common.{append_assoc}
 use Rattle.std.specs.Prelude.{nat_lt}
 use Rattle.std.specs.List.{list_all}
-use Rattle.std.proofs.lemmas.Bool.{eqb-true}
+use Rattle.std.proofs.lemmas.Bool.{eqb-true, and_parts}
 use Rattle.std.proofs.lemmas.List.{append-nil}
 use Rattle.byte_layout.specs.Layout.{Layout, each}
 use Rattle.object_defs.specs.Lines.{first_line}
 use Rattle.device_template.specs.Template.{Template, account_fault, empty_class, is_notify, with_account, with_notify}
 use Rattle.device_template.specs.declared.fault.TemplateFault.{TemplateFault}
 use Rattle.scenario_layout.specs.Class.{account, accounts, is_taken, with_accounts}
-use Rattle.scenario_layout.proofs.Ordered.{both_true, inserted_end}
+use Rattle.scenario_layout.proofs.Ordered.{inserted_end}
 use Rattle.scenario_image.specs.Scenario.{Scenario}
 use Rattle.scenario_words.specs.Reading.{◌>>=◌}
 use Rattle.scenario_words.specs.declared.cause.Cause.TheVariants.{Range, Duplicate}
@@ -60,7 +60,7 @@ account_lead : (s : Scenario) (o : Option ℕ) (k : Template) (before : List ℕ
     ≡ Ok (opened s (with_accounts k (before ++ n ∷ [])) o)
 unfolding account
 account_lead s o k before n good =
-    let both = both_true (list_all (λ m. nat_lt m n) before)
+    let both = and_parts (list_all (λ m. nat_lt m n) before)
     (is_taken (account_fault (with_accounts empty_class before) n)) good.1 in
     ap (λ f. unless (option_map template_cause f) (with_account (with_accounts k before) n)
     >>= (λ e. Ok (opened s e o)))

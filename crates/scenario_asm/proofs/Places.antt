@@ -4,13 +4,9 @@ use Rattle.std.proofs.Common.{subst, ◌∙◌, append_assoc, arith}
 use Rattle.std.specs.Prelude.{slice_get}
 use Rattle.std.specs.List.{AllByRecursion, flat_map}
 use Rattle.std.proofs.lemmas.Grind.{flat_map-append}
+use Rattle.lemmas.proofs.Lists.{drop_opens}
 use Rattle.scenario_statements.specs.declared.statement.Statement.{Statement}
 use Rattle.scenario_asm.specs.Canonical.{printed_line, printed_lines}
-
-drop_at : {A : Type 0} (xs : List A) (i : ℕ) (x : A) → slice_get xs i ≡ Some x → drop i xs ≡ x ∷ drop (suc i) xs
-drop_at [] i x h = let e : None ≡ Some x = h in absurd cc
-drop_at (y ∷ ys) zero x h = ap (λ z. z ∷ ys) (let e : Some y ≡ Some x = h in cc)
-drop_at (y ∷ ys) (suc i) x h = drop_at ys i x h
 
 -- there is something at each place of a list
 pub none_at : {A : Type 0} (xs : List A) (i : ℕ) → i < length xs → slice_get xs i ≡ None → ⊥
@@ -28,7 +24,7 @@ printed_next f xs i next x before after start whole step at more so_far =
     ∙ ap (λ t. t ++ printed_lines (flat_map f (drop (suc i) xs))) more
     ∙ append_assoc before (printed_lines (f x)) (printed_lines (flat_map f (drop (suc i) xs)))
     ∙ ap (λ t. before ++ t) (sym (flat_map-append printed_line (f x) (flat_map f (drop (suc i) xs))))
-    ∙ ap (λ t. before ++ printed_lines (flat_map f t)) (sym (drop_at xs i x at))
+    ∙ ap (λ t. before ++ printed_lines (flat_map f t)) (sym (drop_opens xs i x at))
     ∙ so_far
 
 each_more : {A : Type 0} (P : A → Type 0) (xs : List A) (i : ℕ) (x : A) → slice_get xs i ≡ Some x → P x

@@ -1,28 +1,31 @@
 -- The statements of devices add their rows.
-use Rattle.std.proofs.Common.{All, ◌≡◌, ℕ, suc, ◌+◌, ◌-◌, ◌<◌, ◌≤◌, Bool, true, false, cond, eqb, List, [], ◌∷◌, ◌++◌}
+use Rattle.std.proofs.Common.{All, ◌≡◌, ℕ, suc, ◌+◌, ◌<◌, ◌≤◌, Bool, true, false, cond, eqb, List, [], ◌∷◌, ◌++◌}
 use Rattle.std.proofs.Common.{map, length, Option, None, Some, Result, Ok, Err, option_map, refl, sym, ap, subst, ◌∙◌}
-use Rattle.std.proofs.Common.{set, append_assoc, arith}
+use Rattle.std.proofs.Common.{append_assoc, arith}
 use Rattle.std.specs.Prelude.{not, nat_le, nat_lt}
 use Rattle.std.specs.List.{AllByRecursion, flat_map, list_any, slice_get}
 use Rattle.std.proofs.lemmas.Bool.Decides.{nat_tests}
 use Rattle.std.proofs.lemmas.List.{append-nil}
 use Rattle.std.proofs.lemmas.Option.{slice_get_within}
+use Rattle.lemmas.proofs.Lists.{length_pushed}
+use Rattle.lemmas.proofs.Numbers.{nat_le_below}
 use Rattle.object_defs.specs.Lines.{first_line}
 use Rattle.device_template.specs.Template.{Template}
 use Rattle.device_machine.specs.declared.event.Event.TheVariants as event
 use Rattle.scenario_image.specs.Scenario.{IsGoodRow, IsGoodStep, Row, Scenario, accounts_in, accounts_of, fault_in}
-use Rattle.scenario_image.specs.Scenario.{is_known, is_within_limits, last_row, longer, row_fault, step_fault}
-use Rattle.scenario_image.specs.Scenario.{with_last, with_row, with_step}
+use Rattle.scenario_image.specs.Scenario.{is_known, is_within_limits, last_row, row_fault, step_fault}
+use Rattle.scenario_image.specs.Scenario.{with_row, with_step}
 use Rattle.scenario_image.specs.declared.fault.ScenarioFault.TheVariants as scenario
 use Rattle.scenario_image.specs.declared.step.Step.{Step}
 use Rattle.scenario_image.specs.declared.step.Step.TheVariants as step
+use Rattle.scenario_image.proofs.RowLaws.{last_longer, last_is}
 use Rattle.scenario_words.specs.declared.cause.Cause.{Cause}
 use Rattle.scenario_words.specs.declared.cause.Cause.TheVariants.{Range}
 use Rattle.scenario_mnemonics.specs.Denoting.{mnemonic_of}
-use Rattle.scenario_mnemonics.specs.Messages.{datagram_of, fits_mnemonic, IsGood}
+use Rattle.scenario_mnemonics.specs.Messages.{datagram_of, IsGood}
 use Rattle.scenario_mnemonics.specs.declared.mnemonic.Mnemonic.{Mnemonic}
 use Rattle.scenario_mnemonics.specs.declared.mnemonic.Mnemonic.TheVariants as mnemonic
-use Rattle.scenario_mnemonics.proofs.Candidates.{denotes}
+use Rattle.scenario_mnemonics.proofs.Candidates.{denotes, good_fits}
 use Rattle.scenario_statements.specs.declared.statement.Statement.TheVariants as says
 use Rattle.scenario_asm.specs.Canonical.{of_datagram, of_row, of_step}
 use Rattle.scenario_asm.proofs.Numbers.{bytes_all}
@@ -44,39 +47,11 @@ shut s = record { begun = true; scenario = s; open_class = None; object = None }
 
 -- ---- the last of some rows
 
-length_push : {X : Type 0} (xs : List X) (x : X) → length (xs ++ x ∷ []) ≡ suc (length xs)
-length_push [] x = refl
-length_push (y ∷ xs) x = ap suc (length_push xs x)
-
-minus_one : (n : ℕ) → suc n - 1 ≡ n
-minus_one n = omega arith
-
-last_place : {X : Type 0} (xs : List X) (x : X) → length (xs ++ x ∷ []) - 1 ≡ length xs
-last_place xs x = ap (λ n. n - 1) (length_push xs x) ∙ minus_one (length xs)
-
-get_last : {X : Type 0} (xs : List X) (x : X) → slice_get (xs ++ x ∷ []) (length xs) ≡ Some x
-get_last [] x = refl
-get_last (y ∷ xs) x = get_last xs x
-
-set_last : {X : Type 0} (xs : List X) (x z : X) → set (xs ++ x ∷ []) (length xs) z ≡ xs ++ z ∷ []
-set_last [] x z = refl
-set_last (y ∷ xs) x z = ap (λ t. y ∷ t) (set_last xs x z)
-
-is_last : (rows : List Row) (r : Row) → last_row (rows ++ r ∷ []) ≡ Some r
-is_last rows r = ap (slice_get (rows ++ r ∷ [])) (last_place rows r) ∙ get_last rows r
-
-last_is : (rows : List Row) (r : Row) (x : Step)
-    → with_last (rows ++ r ∷ []) (last_row (rows ++ r ∷ [])) x ≡ rows ++ longer r x ∷ []
-last_is rows r x =
-    ap (λ o. with_last (rows ++ r ∷ []) o x) (is_last rows r)
-    ∙ ap (λ n. set (rows ++ r ∷ []) n (longer r x)) (last_place rows r)
-    ∙ set_last rows r (longer r x)
-
 above_none : (n : ℕ) → nat_lt 0 (suc n) ≡ true
 above_none n = grind (arith, nat_tests)
 
 some_row : (rows : List Row) (r : Row) → nat_lt 0 (length (rows ++ r ∷ [])) ≡ true
-some_row rows r = ap (nat_lt 0) (length_push rows r) ∙ above_none (length rows)
+some_row rows r = ap (nat_lt 0) (length_pushed rows r) ∙ above_none (length rows)
 
 -- ---- a step
 
@@ -87,18 +62,15 @@ free_lines false b c h i j = absurd cc
 free_lines true true c h i j = absurd cc
 free_lines true false false h i j = absurd cc
 
-few : (n m : ℕ) → n < m → nat_le m n ≡ false
-few n m h = grind (arith, nat_tests)
-
 is_free : (cs : List Template) (rows : List Row) (class : ℕ) (past : List Step) (x : Step) (t : Template)
     → slice_get cs class ≡ Some t → IsGoodStep t.accounts x → length past < 4096
     → step_fault (script cs (rows ++ row_with class past ∷ [])) x ≡ None
 is_free cs rows class past x t at good short =
     ap (λ b. cond (not b) (Some scenario.Range) (fault_in cs (last_row (rows ++ row_with class past ∷ [])) x))
     good.range
-    ∙ ap (λ o. fault_in cs o x) (is_last rows (row_with class past))
+    ∙ ap (λ o. fault_in cs o x) (last_is rows (row_with class past))
     ∙ free_lines (is_known (accounts_of cs class) x) (nat_le 4096 (length past)) (is_within_limits x)
-    (ap (λ o. is_known (accounts_in o) x) at ∙ good.known) (few (length past) 4096 short) good.within
+    (ap (λ o. is_known (accounts_in o) x) at ∙ good.known) (nat_le_below (length past) 4096 short) good.within
 
 added : (cs : List Template) (rows : List Row) (class : ℕ) (past : List Step) (x : Step) (t : Template)
     → slice_get cs class ≡ Some t → IsGoodStep t.accounts x → length past < 4096
@@ -107,20 +79,16 @@ added : (cs : List Template) (rows : List Row) (class : ℕ) (past : List Step) 
 added cs rows class past x t at good short =
     ap (λ f. unless (option_map scenario_cause f) (shut (with_step (script cs (rows ++ row_with class past ∷ [])) x)))
     (is_free cs rows class past x t at good short)
-    ∙ ap (λ rs. Ok (shut (script cs rs))) (last_is rows (row_with class past) x)
+    ∙ ap (λ rs. Ok (shut (script cs rs))) (last_longer rows (row_with class past) x)
 
 known_server : (cs : List Template) (rows : List Row) (class : ℕ) (past : List Step) (server : ℕ) (t : Template)
     → slice_get cs class ≡ Some t → list_any (λ account. eqb account server) t.accounts ≡ true
     → has_server (shut (script cs (rows ++ row_with class past ∷ []))) server ≡ true
 known_server cs rows class past server t at known =
     ap (λ o. knows (script cs (rows ++ row_with class past ∷ [])) server (option_map (λ (r : Row). r.class) o))
-    (is_last rows (row_with class past))
+    (last_is rows (row_with class past))
     ∙ ap (λ o. list_any (λ account. eqb account server) (accounts_in o)) at
     ∙ known
-
-does_fit : (m : Mnemonic) → IsGood m → fits_mnemonic m ≡ true
-does_fit (mnemonic.Request r) good = good.fits
-does_fit (mnemonic.Reset mid) good = refl
 
 -- what stands before a step, and after it
 abbrev here : List Template → List Row → ℕ → List Step → Draft
@@ -143,7 +111,7 @@ by_mnemonic d e server bytes m begun known good same h =
     ap (λ b. needs b (needs (has_server d server)
     (fitting m (step_added (step.Event (event.Recv server (datagram_of m))) d)))) begun
     ∙ of_server d e server _ known
-    (ap (λ b. cond b (step_added (step.Event (event.Recv server (datagram_of m))) d) (Err Range)) (does_fit m good)
+    (ap (λ b. cond b (step_added (step.Event (event.Recv server (datagram_of m))) d) (Err Range)) (good_fits m good)
     ∙ ap (λ bs. step_added (step.Event (event.Recv server bs)) d) same
     ∙ h)
 
@@ -205,7 +173,7 @@ steps_lead cs rows class past (x ∷ xs) t at good short = (
   subst (λ ys. Lead (here cs rows class (past ++ x ∷ [])) (map of_step xs) (here cs rows class ys))
       (append_assoc past (x ∷ []) xs)
       (steps_lead cs rows class (past ++ x ∷ []) xs t at good.1
-      (subst (λ n. n + length xs ≤ 4096) (sym (length_push past x))
+      (subst (λ n. n + length xs ≤ 4096) (sym (length_pushed past x))
       (one_less (length past) (length xs) 4096 short))),
 )
 
@@ -225,8 +193,8 @@ device_lead cs rows class d begun same there short =
     (record { begun = d.begun; scenario = with_row s class; open_class = None; object = None })) same
     ∙ ap (λ f. unless (option_map scenario_cause f)
     (record { begun = d.begun; scenario = with_row (script cs rows) class; open_class = None; object = None }))
-    (row_lines (nat_le (length cs) class) (nat_le 16384 (length rows)) (few class (length cs) there)
-    (few (length rows) 16384 short))
+    (row_lines (nat_le (length cs) class) (nat_le 16384 (length rows)) (nat_le_below class (length cs) there)
+    (nat_le_below (length rows) 16384 short))
     ∙ ap (λ b. Ok (record { begun = b; scenario = with_row (script cs rows) class; open_class = None; object = None }))
     begun
 
@@ -246,7 +214,7 @@ rows_lead cs rows [] d begun same good short = (d, refl, begun, same ∙ ap (scr
 rows_lead cs rows (r ∷ todo) d begun same good short =
     let one = row_lead cs rows r d begun same good.0 (has_one (length rows) (length todo) 16384 short) in
     let rest = rows_lead cs (rows ++ r ∷ []) todo (shut (script cs (rows ++ r ∷ []))) refl refl good.1
-    (subst (λ n. n + length todo ≤ 16384) (sym (length_push rows r))
+    (subst (λ n. n + length todo ≤ 16384) (sym (length_pushed rows r))
     (one_less (length rows) (length todo) 16384 short)) in (
       rest.0,
       lead_append d (shut (script cs (rows ++ r ∷ []))) rest.0 (of_row r) (flat_map of_row todo) one rest.1,

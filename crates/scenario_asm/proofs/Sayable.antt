@@ -5,6 +5,7 @@ use Rattle.std.specs.Prelude.{is_some, IfSome}
 use Rattle.std.specs.List.{AllByRecursion, flat_map, list_any}
 use Rattle.std.proofs.lemmas.Bool.{and_parts, leb-true, eqb-true}
 use Rattle.std.proofs.lemmas.Option.{slice_get_within}
+use Rattle.lemmas.proofs.Lists.{each_appended, each_at, each_flat}
 use Rattle.object_defs.specs.Path.{full_path}
 use Rattle.object_defs.specs.declared.path.Path.{Path}
 use Rattle.object_defs.specs.declared.path.Path.TheVariants as path
@@ -22,7 +23,7 @@ use Rattle.scenario_mnemonics.proofs.Candidates.{denotes}
 use Rattle.scenario_statements.specs.Spelling.{IsWithin, IsSayable}
 use Rattle.scenario_asm.specs.Canonical.{of_class, of_datagram, of_step, of_row, statements}
 use Rattle.scenario_asm.specs.Reading.{IsScenario}
-use Rattle.scenario_asm.proofs.Each.{each_append, each_map, each_flat, each_at}
+use Rattle.scenario_asm.proofs.Each.{each_map}
 use Rattle.scenario_asm.proofs.Numbers.{bytes_below, bytes_all, good_value}
 use Rattle.scenario_asm.proofs.ClassParts.{has_words}
 use Rattle.scenario_asm.proofs.ClassSayable.{class_said}
@@ -75,7 +76,7 @@ row_said classes few built row good =
 pub all_said : (s : Scenario) → IsScenario s → AllByRecursion IsSayable (statements s)
 all_said s h = (
   tt,
-  each_append IsSayable (flat_map of_class s.classes) (flat_map of_row s.rows)
+  each_appended IsSayable (flat_map of_class s.classes) (flat_map of_row s.rows)
       (each_flat IsBuilt IsSayable of_class class_said s.classes h.built)
       (each_flat (IsGoodRow s.classes) IsSayable of_row
       (row_said s.classes h.valid.classes h.built) s.rows h.valid.each),

@@ -1,13 +1,13 @@
 -- A scenario of one row, whose steps are added one after another.
-use Rattle.std.proofs.Common.{◌≡◌, ℕ, zero, suc, ◌<◌, ◌≤◌, ◌⊎◌, inl, inr, List, [], ◌∷◌, ◌++◌, length, take, Option}
+use Rattle.std.proofs.Common.{◌≡◌, ℕ, zero, suc, ◌<◌, ◌⊎◌, inl, inr, List, [], ◌∷◌, ◌++◌, length, take, Option}
 use Rattle.std.proofs.Common.{None, Some, slice_get, refl, sym, ap, subst, ◌∙◌, arith}
-use Rattle.std.proofs.lemmas.List.{take_at}
+use Rattle.std.proofs.lemmas.List.{take_at, take-append-le}
 use Rattle.std.proofs.lemmas.Option.{slice_get_within}
+use Rattle.lemmas.proofs.Lists.{pushed_cases}
 use Rattle.device_template.specs.Template.{Template}
 use Rattle.scenario_image.specs.declared.step.Step.{Step}
 use Rattle.scenario_image.specs.declared.fault.ScenarioFault.{ScenarioFault}
 use Rattle.scenario_image.specs.Scenario.{one_row, step_fault, AreTaken, IsFirstRefusal}
-use Rattle.scenario_image.proofs.Played.{pushed}
 
 -- the steps of a front stand in the whole
 in_whole : {X : Type 0} (front rest : List X) (k : ℕ) → k < length front
@@ -15,11 +15,6 @@ in_whole : {X : Type 0} (front rest : List X) (k : ℕ) → k < length front
 in_whole [] rest k lt = absurd (omega (arith, lt))
 in_whole (x ∷ front) rest zero lt = refl
 in_whole (x ∷ front) rest (suc k) lt = in_whole front rest k (omega (arith, lt))
-
-front_of : {X : Type 0} (front rest : List X) (k : ℕ) → k ≤ length front → take k (front ++ rest) ≡ take k front
-front_of front rest zero le = refl
-front_of [] rest (suc k) le = absurd (omega (arith, le))
-front_of (x ∷ front) rest (suc k) le = ap (λ xs. x ∷ xs) (front_of front rest k (omega (arith, le)))
 
 behind_front : {X : Type 0} (front rest : List X) (x : X) → slice_get (front ++ x ∷ rest) (length front) ≡ Some x
 behind_front [] rest x = refl
@@ -35,13 +30,13 @@ none_if (Some f) never = absurd (never f refl)
 -- one step more is taken
 pub one_more : (class : Template) (xs : List Step) (x : Step) → AreTaken class xs (length xs)
     → step_fault (one_row class xs) x ≡ None → AreTaken class (xs ++ x ∷ []) (length (xs ++ x ∷ []))
-one_more class xs x taken ok k step lt at = told (pushed xs x k step at)
+one_more class xs x taken ok k step lt at = told (pushed_cases xs x k step at)
   where
     told : (slice_get xs k ≡ Some step) ⊎ ((k ≡ length xs) × (x ≡ step))
         → step_fault (one_row class (take k (xs ++ x ∷ []))) step ≡ None
     told (inl h) =
         let below : k < length xs = slice_get_within xs k step h in
-        let same : take k (xs ++ x ∷ []) ≡ take k xs = front_of xs (x ∷ []) k (omega (arith, below)) in
+        let same : take k (xs ++ x ∷ []) ≡ take k xs = take-append-le k xs (x ∷ []) (omega (arith, below)) in
         ap (λ ys. step_fault (one_row class ys) step) same ∙ taken k step below h
     told (inr h) =
         let same : take k (xs ++ x ∷ []) ≡ xs = take_at xs (x ∷ []) k (sym h.0) in
@@ -56,7 +51,7 @@ refused_here class steps xs rest x f all taken refused = subst (λ ys. IsFirstRe
   step = x;
   stands = behind_front xs rest x;
   taken = λ k step lt at.
-      ap (λ ys. step_fault (one_row class ys) step) (front_of xs (x ∷ rest) k (omega (arith, lt)))
+      ap (λ ys. step_fault (one_row class ys) step) (take-append-le k xs (x ∷ rest) (omega (arith, lt)))
       ∙ taken k step lt (sym (in_whole xs (x ∷ rest) k lt) ∙ at);
   refused = ap (λ ys. step_fault (one_row class ys) x) (take_at xs (x ∷ rest) (length xs) refl) ∙ refused;
 })

@@ -8,11 +8,11 @@ use Rattle.std.specs.List.{list_any}
 use Rattle.byte_layout.specs.declared.fault.Break.TheVariants.{BadField}
 use Rattle.byte_layout.specs.Layout.{number, judged, at_most, last}
 use Rattle.byte_layout.specs.Exact.{IsExact}
-use Rattle.byte_layout.proofs.Fields.{number_exact, wide32}
+use Rattle.byte_layout.proofs.Fields.{byte_exact, short_exact, long_exact}
 use Rattle.byte_layout.proofs.Layouts.{fits_exact, at_most_exact, split_exact, last_exact, sized_exact}
 use Rattle.byte_layout.proofs.Lists.{counted_exact}
 use Rattle.scenario_layout.specs.Value.{path, value}
-use Rattle.scenario_layout.proofs.ExactValue.{path_exact, value_exact, short_exact, byte_exact}
+use Rattle.scenario_layout.proofs.ExactValue.{path_exact, value_exact}
 use Rattle.device_template.specs.Template.{Template}
 use Rattle.device_machine.specs.declared.event.Event.TheVariants.{Recv, Put, Firmware, Tick}
 use Rattle.scenario_image.specs.declared.kind.StepKind.{StepKind}
@@ -59,9 +59,6 @@ kind_exact : IsExact kind
 unfolding kind
 kind_exact = last_exact step_kind_number step_kind_numbered (judged BadField is_number (number w8))
     (fits_exact is_number (number w8) byte_exact) (λ n good. numbered n good.1)
-
-long_exact : IsExact (number w32)
-long_exact = number_exact w32 wide32
 
 datagram_exact : IsExact datagram
 unfolding datagram

@@ -1,10 +1,10 @@
 -- Good steps and rows are those that have bytes.
-use Rattle.std.proofs.Common.{◌≡◌, ℕ, zero, suc, ◌<◌, ◌≤◌, Bool, true, false, List, [], ◌∷◌, ◌++◌, length, Option, None}
+use Rattle.std.proofs.Common.{◌≡◌, ℕ, zero, suc, ◌<◌, ◌≤◌, true, List, [], ◌∷◌, ◌++◌, length, Option, None}
 use Rattle.std.proofs.Common.{Some, refl, sym, ap, subst, arith}
 use Rattle.std.specs.Prelude.{nat_le, ◌&&◌, IfSome, is_some}
 use Rattle.std.specs.Int.{w8, w16, w32}
 use Rattle.std.specs.List.{AllByRecursion}
-use Rattle.std.proofs.lemmas.Bool.{leb-true, le-leb, lt-ltb, ltb-true}
+use Rattle.std.proofs.lemmas.Bool.{leb-true, le-leb, lt-ltb, ltb-true, and_parts}
 use Rattle.std.proofs.lemmas.Option.{slice_get_within}
 use Rattle.byte_layout.specs.Exact.{IsBytes}
 use Rattle.byte_layout.specs.Layout.{Layout, number, raw, each}
@@ -17,13 +17,13 @@ use Rattle.object_defs.specs.Path.{full_path}
 use Rattle.object_defs.specs.declared.path.Path.{Path}
 use Rattle.object_defs.specs.declared.path.Path.TheVariants.{Object, Instance, Resource, Part as ResourcePart}
 use Rattle.object_defs.specs.declared.path.FullPath.{FullPath}
-use Rattle.scenario_layout.specs.Value.{path, part_number, text, opaque, value}
-use Rattle.std.specs.Str.{IsUtf8}
-use Rattle.std.proofs.lemmas.Str.{IsUtf8-from_is_utf8}
-use Rattle.scenario_layout.proofs.GoodValue.{path_good, value_good, good_value}
+use Rattle.scenario_layout.specs.Value.{path, part_number, opaque, value}
+use Rattle.lemmas.proofs.Lists.{item_at}
+use Rattle.scenario_layout.proofs.GoodValue.{path_good, value_good, good_value, good_text}
 use Rattle.device_template.specs.Template.{Template}
 use Rattle.lwm2m_values.specs.Value.{has_good_length}
 use Rattle.device_machine.specs.declared.event.Event.TheVariants.{Recv, Put, Firmware, Tick}
+use Rattle.scenario_layout.proofs.Items.{within as short_value}
 use Rattle.scenario_image.specs.declared.kind.StepKind.{StepKind}
 use Rattle.scenario_image.specs.declared.kind.StepKind.TheVariants as kinds
 use Rattle.scenario_image.specs.declared.step.Step.{Step}
@@ -32,7 +32,6 @@ use Rattle.scenario_image.specs.Scenario.{Row, HasShortNumbers, IsGoodStep, IsGo
 use Rattle.scenario_image.specs.Scenario.{most_rows, most_steps}
 use Rattle.scenario_image.specs.Layout.{kind, step_kind, datagram, recv, tick, put, firmware, post, need, of_kind, step}
 use Rattle.scenario_image.specs.Layout.{steps, row, rows}
-use Rattle.scenario_image.proofs.Valid.{got}
 
 -- ---- lists of items that are laid out alike
 
@@ -66,14 +65,10 @@ kind_good kinds.Firmware = ((number_good w8 4 (omega arith), refl), refl)
 kind_good kinds.Post = ((number_good w8 5 (omega arith), refl), refl)
 kind_good kinds.Need = ((number_good w8 6 (omega arith), refl), refl)
 
-both : (a b : Bool) → (a && b) ≡ true → (a ≡ true) × (b ≡ true)
-both true b e = (refl, e)
-both false b e = absurd cc
-
 -- a number of four bytes that is at most the limit
 long_good : (n low limit : ℕ) → limit < 4294967296 → (nat_le low n && nat_le n limit) ≡ true → (number w32).Good n
 long_good n low limit small e =
-    let most : n ≤ limit = leb-true n limit (both (nat_le low n) (nat_le n limit) e).1 in
+    let most : n ≤ limit = leb-true n limit (and_parts (nat_le low n) (nat_le n limit) e).1 in
     let lt : n < 4294967296 = omega (arith, most, small) in
     number_good w32 n lt
 
@@ -105,21 +100,6 @@ short_path p h = record {
   resource = number_below w16 p.resource h.1.1.0;
   part = short_part p.part h.1.1.1.0;
 }
-
-short_value : (v : Value) → IsGood v → has_good_length v ≡ true
-short_value (values.Text t) good = le-leb (length t) 255 good.1
-short_value (values.Whole z) good = refl
-short_value (values.Flag b) good = refl
-short_value (values.Opaque b) good = le-leb (length b) 1024 good.1
-short_value (values.Moment z) good = refl
-short_value (values.Link o i) good = refl
-
-good_text : (t : List ℕ) → text.Good t → IsUtf8 t × (length t ≤ 255)
-unfolding text
-good_text t h = (
-  IsUtf8-from_is_utf8 t h.1,
-  (let below : length t < 256 = number_below w8 (length t) h.0.0 in omega arith),
-)
 
 good_opaque : (b : List ℕ) → opaque.Good b → length b ≤ 1024
 unfolding opaque
@@ -248,7 +228,7 @@ good_row : (classes : List Template) (r : Row) → (row classes).Good r → IsBy
     → IsGoodRow classes r
 unfolding row
 good_row classes r h fits =
-    let found = got classes r.class (ltb-true r.class (length classes) h.0.1) in
+    let found = item_at classes r.class (ltb-true r.class (length classes) h.0.1) in
     let same : accounts_of classes r.class ≡ found.0.accounts = ap accounts_in found.1 in
     let bytes : IsBytes ((steps (accounts_of classes r.class)).spell r.steps) =
     front_bytes ((steps (accounts_of classes r.class)).spell r.steps) []

@@ -12,7 +12,7 @@ use Rattle.byte_layout.specs.Exact.{IsExact}
 use Rattle.byte_layout.specs.Whole.{placed, fault_of, read_all}
 use Rattle.byte_layout.proofs.Steps.{went_well, bind_err}
 use Rattle.byte_layout.proofs.Layouts.{at_most_exact}
-use Rattle.scenario_layout.proofs.ExactValue.{short_exact}
+use Rattle.byte_layout.proofs.Fields.{short_exact}
 use Rattle.scenario_layout.specs.Class.{class}
 use Rattle.scenario_image.specs.Scenario.{Scenario}
 use Rattle.scenario_image.proofs.Imaged.{headed_exact}

@@ -6,13 +6,12 @@ use Rattle.std.proofs.lemmas.Bool.{ltb-true}
 use Rattle.byte_layout.specs.declared.fault.Break.TheVariants.{Magic, Version}
 use Rattle.byte_layout.specs.Layout.{Layout, number, at_most, split}
 use Rattle.byte_layout.specs.Exact.{IsBytes, IsExact}
-use Rattle.byte_layout.proofs.Fields.{number_exact, wide32}
+use Rattle.byte_layout.proofs.Fields.{number_exact, wide32, byte_exact, short_exact}
 use Rattle.byte_layout.proofs.Steps.{behind_front, front_bytes}
 use Rattle.byte_layout.proofs.Layouts.{judged_exact, at_most_exact, split_exact, last_exact, marked_exact}
 use Rattle.byte_layout.proofs.Lists.{counted_exact}
 use Rattle.byte_layout.proofs.Whole.{either}
 use Rattle.byte_layout.specs.declared.fault.LayoutFault.{LayoutFault}
-use Rattle.scenario_layout.proofs.ExactValue.{short_exact, byte_exact}
 use Rattle.device_template.specs.Template.{Template}
 use Rattle.scenario_layout.specs.Class.{class}
 use Rattle.scenario_layout.proofs.ExactClass.{class_exact}

@@ -1,5 +1,5 @@
 mod Valid
-mod Played
+pub mod Played
 mod Exact
 mod Fits
 mod Adding
@@ -9,3 +9,4 @@ pub mod Imaged
 pub mod Versions
 pub mod Saving
 mod NoClass
+pub mod RowLaws

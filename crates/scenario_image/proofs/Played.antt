@@ -1,13 +1,14 @@
 -- A device that takes steps one after another.
-use Rattle.std.proofs.Common.{◌≡◌, ℕ, zero, suc, ◌+◌, ◌≤◌, ◌⊎◌, inl, inr, Bool, ◌||◌, true, false, List, [], ◌∷◌, ◌++◌}
+use Rattle.std.proofs.Common.{◌≡◌, ℕ, ◌+◌, ◌≤◌, ◌⊎◌, inl, inr, Bool, ◌||◌, true, false, List, [], ◌∷◌, ◌++◌}
 use Rattle.std.proofs.Common.{length, map, take, Option, None, Some, is_some, slice_get, Ok, Err, ◌↔◌, refl, sym, ap}
 use Rattle.std.proofs.Common.{subst, ◌∙◌, arith, length-append}
-use Rattle.std.proofs.lemmas.Grind.{take_at_read}
 use Rattle.std.proofs.lemmas.List.{take_all, map-append, length-take-le}
 use Rattle.std.proofs.lemmas.List.Folds.{list_any-append}
-use Rattle.std.proofs.lemmas.Option.{slice_get_within, get_or_from_slice_get}
+use Rattle.std.proofs.lemmas.Option.{slice_get_within}
 use Rattle.std.specs.Bool.{IsTrue}
 use Rattle.std.specs.List.{list_any}
+use Rattle.lemmas.proofs.Lists.{pushed_cases, take_one_more}
+use Rattle.lemmas.proofs.Tests.{never_both}
 use Rattle.device_machine.specs.declared.fault.StepFault.{StepFault}
 use Rattle.device_machine.specs.declared.fault.StepFault.TheVariants.{Memory, Spent}
 use Rattle.device_machine.specs.declared.output.Output.{Output}
@@ -44,29 +45,9 @@ pub after_push : (f : Machine) (steps : List Step) (step : Step)
 after_push f [] step = refl
 after_push f (s ∷ steps) step = after_push (step_after f s) steps step
 
--- the first steps, with the one at the index
-take_more : {X : Type 0} (xs : List X) (k : ℕ) (x : X) → slice_get xs k ≡ Some x → take (k + 1) xs ≡ take k xs ++ x ∷ []
-take_more xs k x h =
-    (take_at_read xs k x (slice_get_within xs k x h)).1
-    ∙ ap (λ y. take k xs ++ y ∷ []) (get_or_from_slice_get xs k x x h)
-
 pub next_state : (f : Machine) (steps : List Step) (k : ℕ) (step : Step) → slice_get steps k ≡ Some step
     → state_after f (take (k + 1) steps) ≡ step_after (state_after f (take k steps)) step
-next_state f steps k step h = ap (state_after f) (take_more steps k step h) ∙ after_push f (take k steps) step
-
--- an element of a list with one more is one of the list, or the one more
-cases_pushed : {X : Type 0} (z : X) (xs : List X) (k : ℕ) (x y : X) → (slice_get xs k ≡ Some x)
-    ⊎ ((k ≡ length xs) × (y ≡ x))
-    → (slice_get (z ∷ xs) (suc k) ≡ Some x) ⊎ ((suc k ≡ length (z ∷ xs)) × (y ≡ x))
-cases_pushed z xs k x y (inl h) = inl h
-cases_pushed z xs k x y (inr h) = inr (ap suc h.0, h.1)
-
-pub pushed : {X : Type 0} (xs : List X) (y : X) (k : ℕ) (x : X) → slice_get (xs ++ y ∷ []) k ≡ Some x
-    → (slice_get xs k ≡ Some x) ⊎ ((k ≡ length xs) × (y ≡ x))
-pushed [] y zero x h = let e : Some y ≡ Some x = h in inr (refl, cc)
-pushed [] y (suc k) x h = let e : None ≡ Some x = h in absurd cc
-pushed (z ∷ xs) y zero x h = inl h
-pushed (z ∷ xs) y (suc k) x h = cases_pushed z xs k x y (pushed xs y k x h)
+next_state f steps k step h = ap (state_after f) (take_one_more steps k step h) ∙ after_push f (take k steps) step
 
 never : {X : Type 0} (k : ℕ) (x : X) → slice_get [] k ≡ Some x → ⊥
 never k x h = let e : None ≡ Some x = h in cc
@@ -117,15 +98,12 @@ taken_more : (f : Machine) (steps : List Step) (n : ℕ) (step : Step) → slice
 taken_more f steps n step at free before k s h =
     let within = slice_get_within steps n step at in
     taken_by_place f steps n step k s (length-take-le n steps (omega (arith, within))) free before
-    (pushed (take n steps) step k s (ap (λ xs. slice_get xs k) (sym (take_more steps n step at)) ∙ h))
+    (pushed_cases (take n steps) step k s (ap (λ xs. slice_get xs k) (sym (take_one_more steps n step at)) ∙ h))
 
 -- a step that is taken is not refused
 pub accepted : {T : Type 0} (o : T) (b : Bool) → ((Ok o ≡ Err Spent) ↔ IsTrue b) → b ≡ false
 accepted o false h = refl
 accepted o true h = let e : Ok o ≡ Err Spent = h.1 refl in absurd cc
-
-never_both : (b : Bool) → b ≡ true → b ≡ false → ⊥
-never_both b h k = let e : true ≡ false = sym h ∙ k in cc
 
 -- a spent device refuses each event
 spent_refusal : (x : Device) (step : Step) → x.spent ≡ true → is_step_refused x step ≡ false → is_event step ≡ false
@@ -142,7 +120,7 @@ deaf_more : (new newer : Device) (steps : List Step) (n : ℕ) (step : Step) →
 deaf_more new newer steps n step at free unheard deaf =
     let silent : is_event step ≡ false = spent_refusal new step deaf.0 free in (
       ap (λ (x : Device). x.spent) (unheard silent) ∙ deaf.0,
-      ap (list_any is_event) (take_more steps n step at) ∙ list_any-append is_event (take n steps) (step ∷ [])
+      ap (list_any is_event) (take_one_more steps n step at) ∙ list_any-append is_event (take n steps) (step ∷ [])
           ∙ ap (λ b. b || (is_event step || false)) deaf.1 ∙ ap (λ b. b || false) silent,
     )
 
@@ -161,10 +139,10 @@ goes_on old new newer steps n all more step o played at put_out shows asked free
           (shows (state_after f (take n steps)) (played.shows f h));
       outputs = λ f h k p q. by_place f steps n all step o k p played.count at
           (put_out (state_after f (take n steps)) (played.shows f h))
-          (played.outputs f h k p) (pushed all o k p (ap (λ xs. slice_get xs k) (sym e) ∙ q));
+          (played.outputs f h k p) (pushed_cases all o k p (ap (λ xs. slice_get xs k) (sym e) ∙ q));
       asked = ap (map is_some) e ∙ map-append is_some all (o ∷ []) ∙ ap (λ bs. bs ++ is_some o ∷ []) played.asked
           ∙ ap (λ b. map is_event (take n steps) ++ b ∷ []) asked
-          ∙ sym (ap (map is_event) (take_more steps n step at) ∙ map-append is_event (take n steps) (step ∷ []));
+          ∙ sym (ap (map is_event) (take_one_more steps n step at) ∙ map-append is_event (take n steps) (step ∷ []));
       taken = λ f h. taken_more f steps n step at
           (sym (same_refusal new (state_after f (take n steps)) step (played.shows f h)) ∙ free) (played.taken f h);
       deaf = λ h. deaf_more new newer steps n step at free unheard (played.deaf h);

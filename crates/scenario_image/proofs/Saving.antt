@@ -5,6 +5,7 @@ use Rattle.std.specs.Int.{w8, w16, w32}
 use Rattle.std.specs.List.{AllByRecursion}
 use Rattle.std.proofs.lemmas.Bool.{lt-ltb}
 use Rattle.std.proofs.lemmas.List.{take_more, take_all}
+use Rattle.lemmas.proofs.Lists.{each_pushed}
 use Rattle.byte_layout.specs.Layout.{each}
 use Rattle.byte_layout.proofs.Fields.{number_good}
 use Rattle.device_template.specs.Template.{Template}
@@ -12,7 +13,6 @@ use Rattle.scenario_layout.specs.Class.{class}
 use Rattle.scenario_image.specs.Scenario.{Scenario, IsValid}
 use Rattle.scenario_image.specs.Layout.{rows}
 use Rattle.scenario_image.specs.Image.{classes, lists, image}
-use Rattle.scenario_image.proofs.Valid.{all_push}
 use Rattle.scenario_image.proofs.Fits.{each_all, rows_good}
 
 -- one more of the classes has bytes
@@ -21,7 +21,7 @@ pub one_more : (list : List Template) (i : ℕ) (x : Template) → i < length li
 one_more list i x lt item good all =
     subst (λ (ys : List Template). AllByRecursion (class 2).Good ys)
     (sym (take_more list i x lt ∙ ap (λ y. take i list ++ y ∷ []) (sym item)))
-    (all_push (class 2).Good (take i list) x all good)
+    (each_pushed (class 2).Good (take i list) x all good)
 
 -- all of them have
 pub all_good : (list : List Template) (i : ℕ) → length list ≤ i → AllByRecursion (class 2).Good (take i list)

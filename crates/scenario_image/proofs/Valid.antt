@@ -1,10 +1,11 @@
 -- A scenario stays valid with a class, a row or a step more.
-use Rattle.std.proofs.Common.{◌≡◌, ℕ, zero, suc, ◌-◌, ◌<◌, ◌≤◌, nat_le, Bool, true, false, not, List, [], ◌∷◌, ◌++◌}
+use Rattle.std.proofs.Common.{◌≡◌, ℕ, zero, suc, ◌-◌, ◌≤◌, nat_le, Bool, true, false, not, List, [], ◌∷◌, ◌++◌}
 use Rattle.std.proofs.Common.{length, Option, None, Some, slice_get, slice_set, if◌then◌else◌, refl, sym, ap, subst}
 use Rattle.std.proofs.Common.{◌∙◌, arith, length-append}
-use Rattle.std.proofs.lemmas.Bool.{leb-false}
+use Rattle.std.proofs.lemmas.Bool.{leb-false, not-false}
 use Rattle.std.specs.List.{AllByRecursion}
 use Rattle.std.proofs.lemmas.List.{length-set}
+use Rattle.lemmas.proofs.Lists.{item_at, each_pushed, each_weaker, each_at}
 use Rattle.device_template.specs.Template.{Template}
 use Rattle.scenario_image.specs.declared.step.Step.{Step}
 use Rattle.scenario_image.specs.declared.fault.ScenarioFault.{ScenarioFault}
@@ -19,22 +20,6 @@ made classes rows = record { classes = classes; rows = rows }
 
 -- ---- lists
 
-pub all_push : {X : Type 0} (P : X → Type 0) (xs : List X) (y : X) → AllByRecursion P xs → P y
-    → AllByRecursion P (xs ++ y ∷ [])
-all_push P [] y all one = (one, tt)
-all_push P (x ∷ xs) y all one = (all.0, all_push P xs y all.1 one)
-
-all_map : {X : Type 0} (P Q : X → Type 0) → ((x : X) → P x → Q x) → (xs : List X) → AllByRecursion P xs
-    → AllByRecursion Q xs
-all_map P Q f [] all = tt
-all_map P Q f (x ∷ xs) all = (f x all.0, all_map P Q f xs all.1)
-
-all_at : {X : Type 0} (P : X → Type 0) (xs : List X) (i : ℕ) (x : X) → AllByRecursion P xs → slice_get xs i ≡ Some x
-    → P x
-all_at P [] i x all h = let e : None ≡ Some x = h in absurd cc
-all_at P (y ∷ ys) zero x all h = subst P (let e : Some y ≡ Some x = h in cc) all.0
-all_at P (y ∷ ys) (suc i) x all h = all_at P ys i x all.1 h
-
 all_set : {X : Type 0} (P : X → Type 0) (xs : List X) (i : ℕ) (x : X) → AllByRecursion P xs → P x
     → AllByRecursion P (slice_set xs i x)
 all_set P [] i x all one = tt
@@ -46,11 +31,6 @@ get_push [] i x y h = let e : None ≡ Some x = h in absurd cc
 get_push (z ∷ xs) zero x y h = h
 get_push (z ∷ xs) (suc i) x y h = get_push xs i x y h
 
-pub got : {X : Type 0} (xs : List X) (i : ℕ) → i < length xs → (x : X) × (slice_get xs i ≡ Some x)
-got [] i h = absurd (omega (arith, h))
-got (x ∷ xs) zero h = (x, refl)
-got (x ∷ xs) (suc i) h = got xs i (omega (arith, h))
-
 -- ---- refusals
 
 -- where no line applies, the first doesn't
@@ -58,10 +38,6 @@ free : (b : Bool) (f : ScenarioFault) (rest : Option ScenarioFault) → (if b th
     × (rest ≡ None)
 free true f rest h = let e : Some f ≡ None = h in absurd cc
 free false f rest h = (refl, h)
-
-denied : (b : Bool) → not b ≡ false → b ≡ true
-denied true h = refl
-denied false h = let e : true ≡ false = h in absurd cc
 
 -- ---- a class more
 
@@ -85,7 +61,7 @@ by_class classes new rows s class valid same ok more =
     subst (λ x. IsValid (made x rows)) (sym more) (record {
       classes = omega (arith, room, length-append classes (class ∷ []));
       rows = valid.rows;
-      each = all_map (IsGoodRow classes) (IsGoodRow (classes ++ class ∷ [])) (wider classes class) rows valid.each;
+      each = each_weaker (IsGoodRow classes) (IsGoodRow (classes ++ class ∷ [])) (wider classes class) rows valid.each;
     })
 
 -- ---- a row more
@@ -97,11 +73,11 @@ by_row classes rows new s class valid same ok more =
     let first = free (nat_le (length classes) class) faults.Missing
     (if nat_le most_rows (length rows) then Some faults.Limit else None) (ap (λ x. row_fault x class) same ∙ ok) in
     let room = leb-false most_rows (length rows) (free (nat_le most_rows (length rows)) faults.Limit None first.1).0 in
-    let found = got classes class (leb-false (length classes) class first.0) in
+    let found = item_at classes class (leb-false (length classes) class first.0) in
     subst (λ x. IsValid (made classes x)) (sym more) (record {
       classes = valid.classes;
       rows = omega (arith, room, length-append rows (record { class = class; steps = [] } ∷ []));
-      each = all_push (IsGoodRow classes) rows (record { class = class; steps = [] }) valid.each
+      each = each_pushed (IsGoodRow classes) rows (record { class = class; steps = [] }) valid.each
           (record { class = found.0; stated = found.1; count = omega arith; each = tt });
     })
 
@@ -122,12 +98,12 @@ longer_row classes row step good fields range ok =
       class = good.class;
       stated = good.stated;
       count = omega (arith, leb-false most_steps (length row.steps) second.0, length-append row.steps (step ∷ []));
-      each = all_push (IsGoodStep good.class.accounts) row.steps step good.each
+      each = each_pushed (IsGoodStep good.class.accounts) row.steps step good.each
           (record {
             fields = fields;
             range = range;
-            known = ap (λ c. is_known (accounts_in c) step) (sym good.stated) ∙ denied known first.0;
-            within = denied within third.0;
+            known = ap (λ c. is_known (accounts_in c) step) (sym good.stated) ∙ not-false known first.0;
+            within = not-false within third.0;
           });
     }
 
@@ -141,7 +117,7 @@ stepped classes rows (Some row) step valid at fields range ok =
       classes = valid.classes;
       rows = subst (λ n. n ≤ most_rows) (sym (length-set rows (length rows - 1) (longer row step))) valid.rows;
       each = all_set (IsGoodRow classes) rows (length rows - 1) (longer row step) valid.each
-          (longer_row classes row step (all_at (IsGoodRow classes) rows (length rows - 1) row valid.each at) fields
+          (longer_row classes row step (each_at (IsGoodRow classes) rows (length rows - 1) row valid.each at) fields
           range ok);
     }
 
@@ -152,4 +128,4 @@ by_step classes rows new s step valid same ok fields more =
     let first = free (not (is_in_range step)) faults.Range (fault_in classes (last_row rows) step)
     (ap (λ x. step_fault x step) same ∙ ok) in
     subst (λ x. IsValid (made classes x)) (sym more)
-    (stepped classes rows (last_row rows) step valid refl fields (denied (is_in_range step) first.0) first.1)
+    (stepped classes rows (last_row rows) step valid refl fields (not-false (is_in_range step) first.0) first.1)

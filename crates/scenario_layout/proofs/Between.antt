@@ -4,13 +4,14 @@ use Rattle.std.proofs.Common.{◌++◌, map, length, find, None, Some, refl, sym
 use Rattle.std.proofs.Common.{length-append, arith}
 use Rattle.std.specs.Prelude.{is_some, nat_le}
 use Rattle.std.specs.List.{AllByRecursion, list_all, list_any}
-use Rattle.std.proofs.lemmas.Bool.{lt-ltb}
+use Rattle.std.proofs.lemmas.Bool.{lt-ltb, and_from}
 use Rattle.std.proofs.lemmas.Bool.Decides.{nat_tests}
+use Rattle.lemmas.proofs.Lists.{each_here}
+use Rattle.lemmas.proofs.Numbers.{eqb_below}
 use Rattle.byte_layout.specs.Layout.{Layout, each}
 use Rattle.object_defs.specs.Lines.{first_line}
 use Rattle.object_defs.specs.Vendor.{inserted}
 use Rattle.device_template.proofs.Ascending.{Rises}
-use Rattle.scenario_layout.proofs.Ordered.{and_true}
 
 -- ---- what holds of each item
 
@@ -18,16 +19,6 @@ all_between : {A : Type 0} (P : A → Type 0) (front : List A) (a : A) (back : L
     → AllByRecursion P (front ++ back) → AllByRecursion P (front ++ a ∷ back)
 all_between P [] a back h all = (h, all)
 all_between P (x ∷ front) a back h all = (all.0, all_between P front a back h all.1)
-
-pub all_of : {A : Type 0} (P : A → Type 0) (front : List A) (a : A) (back : List A)
-    → AllByRecursion P (front ++ a ∷ back) → P a
-all_of P [] a back all = all.0
-all_of P (x ∷ front) a back all = all_of P front a back all.1
-
-pub all_weaker : {A : Type 0} (P Q : A → Type 0) → ((a : A) → P a → Q a) → (xs : List A) → AllByRecursion P xs
-    → AllByRecursion Q xs
-all_weaker P Q h [] all = tt
-all_weaker P Q h (x ∷ xs) all = (h x all.0, all_weaker P Q h xs all.1)
 
 -- ---- a list with one item more
 
@@ -106,12 +97,12 @@ each_good part all before (x ∷ xs) e good =
 pub rising_front : (front : List ℕ) (n : ℕ) (back : List ℕ) → Rises (front ++ n ∷ back)
     → AllByRecursion (λ m. m < n) front
 rising_front [] n back h = tt
-rising_front (x ∷ front) n back h = (all_of (λ y. x < y) front n back h.0, rising_front front n back h.1)
+rising_front (x ∷ front) n back h = (each_here (λ y. x < y) front n back h.0, rising_front front n back h.1)
 
 pub all_below : {X : Type 0} (number : X → ℕ) (n : ℕ) (xs : List X) → AllByRecursion (λ m. m < n) (map number xs)
     → list_all (λ x. ltb (number x) n) xs ≡ true
 all_below number n [] h = refl
-all_below number n (x ∷ xs) h = and_true (ltb (number x) n) _ (lt-ltb (number x) n h.0) (all_below number n xs h.1)
+all_below number n (x ∷ xs) h = and_from (ltb (number x) n) _ (lt-ltb (number x) n h.0) (all_below number n xs h.1)
 
 pub map_inserted : {X : Type 0} (number : X → ℕ) (x : X) (xs : List X)
     → map number (inserted number x xs) ≡ inserted (λ a. a) (number x) (map number xs)
@@ -135,12 +126,9 @@ found_any number n (x ∷ xs) =
       | false ↦ found_any number n xs
     ]
 
-other : (n m : ℕ) → n < m → eqb n m ≡ false
-other n m h = grind (arith, nat_tests)
-
 pub none_there : (n : ℕ) (xs : List ℕ) → AllByRecursion (λ m. m < n) xs → list_any (λ m. eqb m n) xs ≡ false
 none_there n [] h = refl
-none_there n (x ∷ xs) h = ap (λ b. b || list_any (λ m. eqb m n) xs) (other x n h.0) ∙ none_there n xs h.1
+none_there n (x ∷ xs) h = ap (λ b. b || list_any (λ m. eqb m n) xs) (eqb_below x n h.0) ∙ none_there n xs h.1
 
 -- ---- lines that do not apply
 
@@ -158,15 +146,8 @@ no_three false true c x y z h i j = absurd cc
 no_three false false true x y z h i j = absurd cc
 no_three false false false x y z h i j = refl
 
-pub is_below : (n m : ℕ) → n < m → nat_le m n ≡ false
-is_below n m h = grind (arith, nat_tests)
-
 pub below : (n m : ℕ) → nat_le m n ≡ false → n < m
 below n m h = grind (arith, nat_tests)
-
-pub not_false : (b : Bool) → not b ≡ false → b ≡ true
-not_false true h = refl
-not_false false h = absurd cc
 
 pub not_true : (b : Bool) → b ≡ true → not b ≡ false
 not_true b h = ap not h

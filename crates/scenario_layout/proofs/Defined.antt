@@ -5,7 +5,7 @@ use Rattle.std.proofs.Common.{length-take-le, arith}
 use Rattle.std.specs.Prelude.{nat_lt, nat_le, is_some, not, find}
 use Rattle.std.specs.List.{list_all}
 use Rattle.std.proofs.lemmas.Bool.Decides.{nat_tests}
-use Rattle.std.proofs.lemmas.Bool.{ltb-true}
+use Rattle.std.proofs.lemmas.Bool.{ltb-true, and_parts}
 use Rattle.std.proofs.lemmas.Option.{slice_get-get_or}
 use Rattle.std.proofs.lemmas.List.{append-nil, take_more}
 use Rattle.byte_layout.specs.Layout.{each}
@@ -28,7 +28,7 @@ use Rattle.device_template.specs.declared.fault.TemplateFault.{TemplateFault}
 use Rattle.device_template.specs.declared.fault.TemplateFault.TheVariants as faults
 use Rattle.scenario_layout.specs.Growing.{refusal, with_definitions}
 use Rattle.scenario_layout.specs.Class.{defined}
-use Rattle.scenario_layout.proofs.Ordered.{both_true, inserted_end}
+use Rattle.scenario_layout.proofs.Ordered.{inserted_end}
 
 sound_at : (n : ℕ) (o : Ops) (m r : Bool) (k : ValueKind) → flags_fit o (flags_of m r) ≡ true → kind_fits o k ≡ true
     → is_sound (record { id = n; ops = o; multiple = m; mandatory = r; kind = k }) ≡ true
@@ -61,7 +61,7 @@ pub none_found : {X : Type 0} (number : X → ℕ) (n : ℕ) (xs : List X) → l
     → find (λ x. eqb (number x) n) xs ≡ None
 none_found number n [] h = refl
 none_found number n (x ∷ xs) h =
-    let p = both_true (ltb (number x) n) (list_all (λ y. nat_lt (number y) n) xs) h in
+    let p = and_parts (ltb (number x) n) (list_all (λ y. nat_lt (number y) n) xs) h in
     ap (λ b. cond b (Some x) (find (λ y. eqb (number y) n) xs)) (other (number x) n p.0) ∙ none_found number n xs p.1
 
 -- a definition that may stand after so few is not refused
@@ -116,7 +116,7 @@ resource_end [] id before d low above =
     ap (λ b. cond b (with_definition (defined id before) d ∷ []) (defined id before ∷ [])) (same_number id)
     ∙ ap (λ ds. defined id ds ∷ []) (inserted_end (λ r. r.id) d before above)
 resource_end (o ∷ front) id before d low above =
-    let p = both_true (ltb o.id id) (list_all (λ q. nat_lt q.id id) front) low in
+    let p = and_parts (ltb o.id id) (list_all (λ q. nat_lt q.id id) front) low in
     ap (λ b. cond b (with_definition o d ∷ front ++ defined id before ∷ [])
     (o ∷ with_resource (front ++ defined id before ∷ []) id d)) (other o.id id p.0)
     ∙ ap (λ t. o ∷ t) (resource_end front id before d p.1 above)
@@ -139,7 +139,7 @@ pub found_end : (front : List ObjectDef) (id : ℕ) → list_all (λ o. nat_lt o
     → object_of (front ++ new_object id ∷ []) id ≡ Some (new_object id)
 found_end [] id low = ap (λ b. cond b (Some (new_object id)) None) (same_number id)
 found_end (o ∷ front) id low =
-    let p = both_true (ltb o.id id) (list_all (λ q. nat_lt q.id id) front) low in
+    let p = and_parts (ltb o.id id) (list_all (λ q. nat_lt q.id id) front) low in
     ap (λ b. cond b (Some o) (object_of (front ++ new_object id ∷ []) id)) (other o.id id p.0) ∙ found_end front id p.1
 
 -- ---- one step of the loop

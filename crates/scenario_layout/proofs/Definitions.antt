@@ -1,14 +1,14 @@
 -- The layout of definitions is exact, and which definitions have bytes.
-use Rattle.std.proofs.Common.{◌≡◌, ℕ, zero, suc, ◌<◌, ◌⊎◌, Bool, true, false, List, refl, ap, ◌∙◌, inl, inr, arith}
+use Rattle.std.proofs.Common.{◌≡◌, ℕ, zero, suc, ◌<◌, Bool, true, false, List, refl, ap, ◌∙◌, inl, inr, arith}
 use Rattle.std.proofs.Common.{lit<}
 use Rattle.std.specs.Prelude.{nat_lt, ◌==◌, ◌&&◌, ◌||◌}
 use Rattle.std.specs.List.{list_all}
 use Rattle.std.specs.Int.{w8, w16}
-use Rattle.std.proofs.lemmas.Bool.{ltb-true, eqb-true}
+use Rattle.std.proofs.lemmas.Bool.{ltb-true, eqb-true, and_parts, or_cases}
 use Rattle.byte_layout.specs.declared.fault.Break.TheVariants.{BadField}
 use Rattle.byte_layout.specs.Layout.{Layout, number, judged, at_most, split, last}
 use Rattle.byte_layout.specs.Exact.{IsExact}
-use Rattle.byte_layout.proofs.Fields.{number_good}
+use Rattle.byte_layout.proofs.Fields.{number_good, byte_exact, short_exact}
 use Rattle.byte_layout.proofs.Layouts.{fits_exact, at_most_exact, split_exact, last_exact}
 use Rattle.byte_layout.proofs.Lists.{counted_exact}
 use Rattle.object_defs.specs.declared.definition.Ops.{Ops}
@@ -17,16 +17,8 @@ use Rattle.object_defs.specs.declared.definition.ResourceDef.{ResourceDef}
 use Rattle.scenario_layout.specs.Value.{kind}
 use Rattle.scenario_layout.specs.Definition.{ops, ops_number, ops_numbered, flags_of, flags_fit, kind_fits, definition}
 use Rattle.scenario_layout.specs.Definition.{behind_id, resource, resources}
-use Rattle.scenario_layout.proofs.ExactValue.{byte_exact, short_exact, kind_exact}
+use Rattle.scenario_layout.proofs.ExactValue.{kind_exact}
 use Rattle.scenario_layout.proofs.GoodValue.{kind_good}
-
-both_true : (a b : Bool) → (a && b) ≡ true → (a ≡ true) × (b ≡ true)
-both_true true b e = (refl, e)
-both_true false b e = absurd cc
-
-one_true : (a b : Bool) → (a || b) ≡ true → (a ≡ true) ⊎ (b ≡ true)
-one_true true b e = inl refl
-one_true false b e = inr e
 
 ops_again : (n : ℕ) → 0 < n → n < 5 → ops_number (ops_numbered n) ≡ n
 ops_again zero above below = absurd (omega arith)
@@ -37,7 +29,7 @@ ops_again (suc (suc (suc (suc zero)))) above below = refl
 ops_again (suc (suc (suc (suc (suc n))))) above below = absurd (omega arith)
 
 ops_known : (n : ℕ) → (nat_lt 0 n && nat_lt n 5) ≡ true → ops_number (ops_numbered n) ≡ n
-ops_known n e = let t = both_true (nat_lt 0 n) (nat_lt n 5) e in ops_again n (ltb-true 0 n t.0) (ltb-true n 5 t.1)
+ops_known n e = let t = and_parts (nat_lt 0 n) (nat_lt n 5) e in ops_again n (ltb-true 0 n t.0) (ltb-true n 5 t.1)
 
 ops_exact : IsExact ops
 unfolding ops
@@ -51,7 +43,7 @@ flags_below R n e = ltb-true n 4 e
 flags_below W n e = ltb-true n 4 e
 flags_below RW n e = ltb-true n 4 e
 flags_below E n e =
-    elim (one_true (n == 0) (n == 2) e) [
+    elim (or_cases (n == 0) (n == 2) e) [
       | inl h ↦ (let is : n ≡ 0 = eqb-true n 0 h in omega arith)
       | inr h ↦ (let is : n ≡ 2 = eqb-true n 2 h in omega arith)
     ]

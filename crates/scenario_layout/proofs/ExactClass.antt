@@ -5,10 +5,12 @@ use Rattle.std.specs.List.{list_all}
 use Rattle.std.specs.Ordering.{is_lt}
 use Rattle.std.specs.Int.{w8, w16}
 use Rattle.std.specs.FinMap as finite
+use Rattle.std.proofs.lemmas.Bool.{and_parts}
 use Rattle.byte_layout.specs.Layout.{number, at_most, last}
 use Rattle.byte_layout.specs.Exact.{IsExact}
 use Rattle.byte_layout.proofs.Layouts.{fits_exact, at_most_exact, done_exact, split_exact, last_exact}
 use Rattle.byte_layout.proofs.Lists.{counted_exact}
+use Rattle.byte_layout.proofs.Fields.{byte_exact, short_exact}
 use Rattle.lwm2m_values.specs.declared.value.Value.{Value}
 use Rattle.object_defs.specs.Base.{base}
 use Rattle.object_defs.specs.Path.{path_cmp, instance_cmp}
@@ -17,7 +19,7 @@ use Rattle.object_defs.specs.declared.path.FullPath.{FullPath}
 use Rattle.object_defs.specs.declared.path.InstancePath.{InstancePath}
 use Rattle.scenario_layout.specs.Value.{place, path, value}
 use Rattle.scenario_layout.specs.Definition.{resources}
-use Rattle.scenario_layout.proofs.ExactValue.{byte_exact, short_exact, place_exact, path_exact, value_exact}
+use Rattle.scenario_layout.proofs.ExactValue.{place_exact, path_exact, value_exact}
 use Rattle.scenario_layout.proofs.Definitions.{resources_exact}
 use Rattle.device_template.specs.Template.{Template, most_accounts, account_fault, object_fault, instance_fault}
 use Rattle.device_template.specs.Template.{kind_taken, empty_class, is_notify, with_notify}
@@ -26,7 +28,7 @@ use Rattle.scenario_layout.specs.Class.{with_instances, with_values, is_taken, a
 use Rattle.scenario_layout.specs.Class.{object, objects, instance, instances, value_path, entry, values}
 use Rattle.scenario_layout.specs.Class.{behind_instances, behind_objects, behind_accounts, behind_notify, class}
 use Rattle.scenario_layout.specs.Class.{notify, notify_if, notify_in}
-use Rattle.scenario_layout.proofs.Ordered.{both_true, is_true, ascends, map_same, map_units}
+use Rattle.scenario_layout.proofs.Ordered.{is_true, ascends, map_same, map_units}
 
 notify_exact : IsExact notify
 unfolding notify
@@ -105,7 +107,7 @@ values_exact c = counted_exact (number w16) (entry c) short_exact (entry_exact c
 instance_behind : (c : Template) (before : List InstancePath) (p : InstancePath) → (instance c before).Good p
     → list_all (λ q. is_lt (instance_cmp q p)) before ≡ true
 unfolding instance
-instance_behind c before p good = (both_true (list_all (λ q. is_lt (instance_cmp q p)) before) _ good.1).0
+instance_behind c before p good = (and_parts (list_all (λ q. is_lt (instance_cmp q p)) before) _ good.1).0
 
 pub instances_kept : (c : Template) (places : List InstancePath) → (instances c).Good places
     → instances_in (with_instances c places) ≡ places
@@ -119,7 +121,7 @@ instances_kept c places good =
 path_behind : (c : Template) (before : List (FullPath × Value)) (e : FullPath × Value) → (entry c before).Good e
     → list_all (λ b. is_lt (path_cmp b.0 e.0)) before ≡ true
 unfolding entry value_path
-path_behind c before e good = (both_true (list_all (λ b. is_lt (path_cmp b.0 e.0)) before) _ good.0.1).0
+path_behind c before e good = (and_parts (list_all (λ b. is_lt (path_cmp b.0 e.0)) before) _ good.0.1).0
 
 pub values_kept : (c : Template) (items : List (FullPath × Value)) → (values c).Good items
     → values_in (with_values c items) ≡ items

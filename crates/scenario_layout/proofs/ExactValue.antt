@@ -7,7 +7,7 @@ use Rattle.std.proofs.lemmas.Bool.{ltb-true}
 use Rattle.byte_layout.specs.declared.fault.Break.TheVariants.{BadField}
 use Rattle.byte_layout.specs.Layout.{Layout, number, signed, judged, at_most, split, last, sized}
 use Rattle.byte_layout.specs.Exact.{IsExact}
-use Rattle.byte_layout.proofs.Fields.{number_exact, wide8, wide16}
+use Rattle.byte_layout.proofs.Fields.{byte_exact, short_exact}
 use Rattle.byte_layout.proofs.Layouts.{fits_exact, at_most_exact, done_exact, split_exact, last_exact, sized_exact}
 use Rattle.byte_layout.proofs.Signed.{signed64_exact}
 use Rattle.lwm2m_values.specs.declared.kind.ValueKind.{ValueKind}
@@ -19,12 +19,6 @@ use Rattle.object_defs.specs.declared.path.FullPath.{FullPath}
 use Rattle.scenario_layout.specs.Value.{place, place_of, flag_of, behind_flag, part_number, path, path_of, kind_number}
 use Rattle.scenario_layout.specs.Value.{kind_numbered, kind, bytes_in, number_in, flag_in, object_in, instance_in, text}
 use Rattle.scenario_layout.specs.Value.{opaque, of_kind, fits, value}
-
-pub short_exact : IsExact (number w16)
-short_exact = number_exact w16 wide16
-
-pub byte_exact : IsExact (number w8)
-byte_exact = number_exact w8 wide8
 
 pub place_exact : IsExact place
 unfolding place

@@ -4,8 +4,10 @@ use Rattle.std.proofs.Common.{arith}
 use Rattle.std.specs.Prelude.{nat_le}
 use Rattle.std.specs.List.{AllByRecursion, list_any}
 use Rattle.std.specs.Int.{w8, w16}
-use Rattle.std.proofs.lemmas.Bool.{lt-ltb}
+use Rattle.std.proofs.lemmas.Bool.{lt-ltb, and_from}
 use Rattle.std.proofs.lemmas.Bool.Decides.{nat_tests}
+use Rattle.lemmas.proofs.Lists.{each_here}
+use Rattle.lemmas.proofs.Numbers.{nat_le_below}
 use Rattle.byte_layout.proofs.Fields.{number_good}
 use Rattle.device_template.specs.Template.{Template}
 use Rattle.device_template.specs.Built.{IsBuilt}
@@ -13,10 +15,10 @@ use Rattle.device_template.specs.Built.IsBuilt.{nothing, account, object, resour
 use Rattle.device_template.proofs.Ascending.{Rises, rises}
 use Rattle.scenario_layout.specs.Class.{accounts}
 use Rattle.scenario_layout.specs.Class as layout
-use Rattle.scenario_layout.proofs.Between.{all_of, all_more, length_more, inserted_more, shorter, each_good}
-use Rattle.scenario_layout.proofs.Between.{rising_front, all_below, none_there, three_lines, no_three, is_below, below}
+use Rattle.scenario_layout.proofs.Between.{all_more, length_more, inserted_more, shorter, each_good}
+use Rattle.scenario_layout.proofs.Between.{rising_front, all_below, none_there, three_lines, no_three, below}
 use Rattle.scenario_layout.proofs.Filling.{taken_none}
-use Rattle.scenario_layout.proofs.Ordered.{and_true, map_same}
+use Rattle.scenario_layout.proofs.Ordered.{map_same}
 
 abbrev IsServer : ℕ → Type 0
 IsServer n = not (nat_le 1 n && nat_le n 65534) ≡ false
@@ -50,11 +52,11 @@ account_good : (front : List ℕ) (n : ℕ) (back : List ℕ) → HasAccounts (f
 unfolding layout.account
 account_good front n back h rising =
     let low = rising_front front n back rising in
-    let server = all_of IsServer front n back h.each in (
+    let server = each_here IsServer front n back h.each in (
       number_good w16 n (small n server),
-      and_true _ _ (all_below (λ m. m) n front (subst (AllByRecursion (λ m. m < n)) (sym (map_same front)) low))
+      and_from _ _ (all_below (λ m. m) n front (subst (AllByRecursion (λ m. m < n)) (sym (map_same front)) low))
           (taken_none _ (no_three _ _ _ _ _ _ server (none_there n front low)
-          (is_below (length front) 4 (omega (arith, shorter (front ++ n ∷ back) front n back refl, h.few))))),
+          (nat_le_below (length front) 4 (omega (arith, shorter (front ++ n ∷ back) front n back refl, h.few))))),
     )
 
 pub accounts_good : (class : Template) → IsBuilt class → accounts.Good class.accounts

@@ -10,6 +10,10 @@ use Rattle.std.specs.FinMap as finite
 use Rattle.std.specs.FinMap.Entries.{find}
 use Rattle.std.proofs.lemmas.Bool.Decides.{nat_tests}
 use Rattle.std.proofs.lemmas.List.Elements.{All-from_recursion, filter-append, filter_map-append}
+use Rattle.std.proofs.lemmas.Bool.{and_parts, and_from, not-false}
+use Rattle.lemmas.proofs.Lists.{each_weaker, each_here}
+use Rattle.lemmas.proofs.Options.{none_from_test}
+use Rattle.lemmas.proofs.Numbers.{nat_le_below}
 use Rattle.byte_layout.proofs.Fields.{number_good}
 use Rattle.lwm2m_values.specs.declared.kind.ValueKind.{ValueKind}
 use Rattle.lwm2m_values.specs.declared.kind.ValueKind.TheVariants as kinds
@@ -40,12 +44,12 @@ use Rattle.device_template.specs.Built.{IsBuilt, IsShort}
 use Rattle.device_template.specs.Built.IsBuilt.{nothing, account, object, resource, instance, value as added, notify}
 use Rattle.scenario_layout.specs.Class.{values_in, with_values, values}
 use Rattle.scenario_layout.specs.Class as layout
-use Rattle.scenario_layout.proofs.Between.{all_of, all_more, all_weaker, length_more, taken_more, taken_before, shorter}
-use Rattle.scenario_layout.proofs.Between.{each_good, is_below, below, not_false, not_true}
+use Rattle.scenario_layout.proofs.Between.{all_more, length_more, taken_more, taken_before, shorter}
+use Rattle.scenario_layout.proofs.Between.{each_good, below, not_true}
 use Rattle.scenario_layout.proofs.Filling.{no_entries}
 use Rattle.scenario_layout.proofs.GoodObjects.{no_fault}
-use Rattle.scenario_layout.proofs.GoodInstances.{object_kept, not_there}
-use Rattle.scenario_layout.proofs.Ordered.{both_true, and_true, is_true, map_same}
+use Rattle.scenario_layout.proofs.GoodInstances.{object_kept}
+use Rattle.scenario_layout.proofs.Ordered.{is_true, map_same}
 use Rattle.scenario_layout.proofs.Rising.{Ascends, is_in_order, front_ascends, front_below, none_behind, insert_more}
 use Rattle.scenario_layout.proofs.Rising.{map_ascends}
 
@@ -93,7 +97,7 @@ defined_in : (p : FullPath) (v : Value) (o : Option ObjectDef) → fits_object p
     × (fits_resource p v (Some d) ≡ true) × (is_set_at_start p ≡ false)
 defined_in p v None h some = absurd cc
 defined_in p v (Some o) h some =
-    let both = both_true (fits_resource p v (resource_in o.resources p.resource)) (not (is_set_at_start p)) h in
+    let both = and_parts (fits_resource p v (resource_in o.resources p.resource)) (not (is_set_at_start p)) h in
     let found = fitting_in p v (resource_in o.resources p.resource) both.0 in
     (found.0, found.1, found.2, turned (is_set_at_start p) both.1)
   where
@@ -142,8 +146,8 @@ parts_at r p v false h = ap (λ b. length (filter_map (λ (e : Entry). e.0.part)
 
 same_resource : (r : ResourcePath) (p : FullPath) → lies_in (resource_path r) p ≡ true → resource_at p ≡ r
 same_resource r p h =
-    let outer = both_true (eqb p.object r.object && eqb p.instance r.instance) (eqb p.resource r.resource) h in
-    let inner = both_true (eqb p.object r.object) (eqb p.instance r.instance) outer.0 in
+    let outer = and_parts (eqb p.object r.object && eqb p.instance r.instance) (eqb p.resource r.resource) h in
+    let inner = and_parts (eqb p.object r.object) (eqb p.instance r.instance) outer.0 in
     let o = eqb-true p.object r.object inner.0 in
     let i = eqb-true p.instance r.instance inner.1 in
     let n = eqb-true p.resource r.resource outer.1 in
@@ -172,12 +176,12 @@ value_more c p v short good before free =
     let es = finite.entries c.store.values in
     let lines = five_lines (not (fits c.catalog p v)) (not (has_place c.catalog c.store p))
     (is_some (value_at c.store p)) (nat_le 65535 (value_count c.store)) (has_all_parts c.store p) _ _ _ _ _ free in
-    let fit = both_true (has_good_length v) (fits_object p v (object_of c.catalog p.object))
-    (not_false (fits c.catalog p v) lines.0) in
-    let there = both_true (is_some (object_of c.catalog p.object))
-    (finite.contains_key c.store.instances (instance_at p)) (not_false (has_place c.catalog c.store p) lines.1) in
+    let fit = and_parts (has_good_length v) (fits_object p v (object_of c.catalog p.object))
+    (not-false (fits c.catalog p v) lines.0) in
+    let there = and_parts (is_some (object_of c.catalog p.object))
+    (finite.contains_key c.store.instances (instance_at p)) (not-false (has_place c.catalog c.store p) lines.1) in
     let found = defined_in p v (object_of c.catalog p.object) fit.1 there.0 in
-    let more = insert_more path_total c.store.values p v (not_there (finite.get c.store.values p) lines.2) in
+    let more = insert_more path_total c.store.values p v (none_from_test (finite.get c.store.values p) lines.2) in
     let room : length es < 65535 =
     below (length es) 65535 (ap (nat_le 65535) (sym (finite.len-entries c.store.values)) ∙ lines.3) in
     record {
@@ -256,7 +260,7 @@ has_values _ (account {class} server built free) = has_values class built
 has_values _ (object {class} id built free) =
     let before = has_values class built in
     record {
-      each = all_weaker _ _ (held_by_object class.catalog class.store.instances id (no_fault _ free)) _
+      each = each_weaker _ _ (held_by_object class.catalog class.store.instances id (no_fault _ free)) _
           before.each;
       few_parts = before.few_parts;
       few = before.few;
@@ -264,7 +268,7 @@ has_values _ (object {class} id built free) =
 has_values _ (resource {class} id d short built free) =
     let before = has_values class built in
     record {
-      each = all_weaker _ _ (held_by_resource class.catalog class.store.instances id d (no_fault _ free)) _
+      each = each_weaker _ _ (held_by_resource class.catalog class.store.instances id d (no_fault _ free)) _
           before.each;
       few_parts = before.few_parts;
       few = before.few;
@@ -272,7 +276,7 @@ has_values _ (resource {class} id d short built free) =
 has_values _ (instance {class} place short built free) =
     let before = has_values class built in
     record {
-      each = all_weaker _ _ (held_by_instance class.catalog class.store.instances place) _ before.each;
+      each = each_weaker _ _ (held_by_instance class.catalog class.store.instances place) _ before.each;
       few_parts = before.few_parts;
       few = before.few;
     }
@@ -281,7 +285,7 @@ has_values _ (notify {class} seconds built fits) = has_values class built
 
 -- ---- their bytes
 
-plain_short : (k : ValueKind) → has_good_length (plain k) ≡ true
+pub plain_short : (k : ValueKind) → has_good_length (plain k) ≡ true
 plain_short kinds.Text = refl
 plain_short kinds.Whole = refl
 plain_short kinds.Flag = refl
@@ -339,11 +343,11 @@ same_kind (held.Link o i) kinds.Link h = refl
 plain_fits_resource : (p : FullPath) (v : Value) (d : ResourceDef) → fits_resource p v (Some d) ≡ true
     → (has_kind v d.kind ≡ true) × (fits_resource p (plain d.kind) (Some d) ≡ true)
 plain_fits_resource p v d h =
-    let outer = both_true (can_read d.ops) _ h in
-    let inner = both_true (has_kind v d.kind) _ outer.1 in (
+    let outer = and_parts (can_read d.ops) _ h in
+    let inner = and_parts (has_kind v d.kind) _ outer.1 in (
       inner.0,
-      and_true (can_read d.ops) _ outer.0
-          (and_true (has_kind (plain d.kind) d.kind) _ (plain_kind d.kind) inner.1),
+      and_from (can_read d.ops) _ outer.0
+          (and_from (has_kind (plain d.kind) d.kind) _ (plain_kind d.kind) inner.1),
     )
 
 plain_fits : (p : FullPath) (d : ResourceDef) (o : Option ObjectDef)
@@ -352,7 +356,7 @@ plain_fits : (p : FullPath) (d : ResourceDef) (o : Option ObjectDef)
     → fits_object p (plain d.kind) o ≡ true
 plain_fits p d None found fit unset = refl
 plain_fits p d (Some o) found fit unset =
-    and_true (fits_resource p (plain d.kind) (resource_in o.resources p.resource)) _
+    and_from (fits_resource p (plain d.kind) (resource_in o.resources p.resource)) _
     (ap (fits_resource p (plain d.kind)) found ∙ fit) (ap not unset)
 
 front_entries : (front back : List Entry) → Ascends path_cmp (λ e. e.0) (front ++ back)
@@ -365,12 +369,12 @@ front_entries front back h =
 full_line : (part : Option ℕ) (n : ℕ) → n + seen part ≤ 32 → (is_some part && nat_le 32 n) ≡ false
 unfolding seen
 full_line None n h = refl
-full_line (Some m) n h = is_below n 32 (omega (arith, h))
+full_line (Some m) n h = nat_le_below n 32 (omega (arith, h))
 
 own_resource : (p : FullPath) → lies_in (resource_path (resource_at p)) p ≡ true
 own_resource p =
-    and_true (eqb p.object p.object && eqb p.instance p.instance) _
-    (and_true (eqb p.object p.object) _ (same p.object) (same p.instance)) (same p.resource)
+    and_from (eqb p.object p.object && eqb p.instance p.instance) _
+    (and_from (eqb p.object p.object) _ (same p.object) (same p.instance)) (same p.resource)
   where
     same : (n : ℕ) → eqb n n ≡ true
     same n = grind (arith, nat_tests)
@@ -379,7 +383,7 @@ module _ (k : Template) (front : List Entry) (e : Entry) (back : List Entry)
     (h : Ascends path_cmp (λ e. e.0) (front ++ e ∷ back))
     (all : HasValues k.catalog k.store.instances (front ++ e ∷ back)) where
   is : IsHeld k.catalog k.store.instances e
-  is = all_of (IsHeld k.catalog k.store.instances) front e back all.each
+  is = each_here (IsHeld k.catalog k.store.instances) front e back all.each
 
   low : list_all (λ b. is_lt (path_cmp b.0 e.0)) front ≡ true
   low = front_below path_cmp (λ b. b.0) front e back h
@@ -392,7 +396,7 @@ module _ (k : Template) (front : List Entry) (e : Entry) (back : List Entry)
   room : nat_le 65535 (value_count (with_values k front).store) ≡ false
   room = ap (nat_le 65535) (finite.len-entries (finite.from_sorted {R = path_cmp} front)
       ∙ ap length (front_entries front (e ∷ back) h))
-      ∙ is_below (length front) 65535 (omega (arith, shorter (front ++ e ∷ back) front e back refl, all.few))
+      ∙ nat_le_below (length front) 65535 (omega (arith, shorter (front ++ e ∷ back) front e back refl, all.few))
 
   more_parts : has_all_parts (with_values k front).store e.0 ≡ false
   unfolding parts
@@ -410,11 +414,11 @@ module _ (k : Template) (front : List Entry) (e : Entry) (back : List Entry)
   free d defined fitting unset placed =
       no_five _ _ _ _ _ _ _ _ _ _
       (not_true (fits k.catalog e.0 (plain d.kind))
-      (and_true (has_good_length (plain d.kind)) _ (plain_short d.kind)
+      (and_from (has_good_length (plain d.kind)) _ (plain_short d.kind)
       (plain_fits e.0 d (object_of k.catalog e.0.object) defined
       (plain_fits_resource e.0 e.1 d fitting).1 unset)))
       (not_true (has_place k.catalog k.store e.0)
-      (and_true (is_some (object_of k.catalog e.0.object)) _
+      (and_from (is_some (object_of k.catalog e.0.object)) _
       (some_object (object_of k.catalog e.0.object) e.0.resource d defined) placed))
       no_value room more_parts
 
@@ -427,7 +431,7 @@ module _ (k : Template) (front : List Entry) (e : Entry) (back : List Entry)
   entry_good : (layout.entry k front).Good e
   unfolding layout.entry layout.value_path is low
   entry_good = (
-    (path_good e.0 is.short.0 is.short.1 is.short.2 is.short.3, and_true _ _ low (ap is_some taken)),
+    (path_good e.0 is.short.0 is.short.1 is.short.2 is.short.3, and_from _ _ low (ap is_some taken)),
     (
       subst (λ (wanted : Option ValueKind). (value wanted).Good e.1) (sym taken)
           (value_good (Some is.def.kind) e.1 is.good
@@ -454,7 +458,7 @@ values_good c k built same_catalog same_places =
 
 pub each_held : (c : Template) → IsBuilt c → All (λ e. IsGood e.1) (values_in c)
 each_held c built =
-    All-from_recursion _ _ (all_weaker (IsHeld c.catalog c.store.instances) (λ e. IsGood e.1) (λ e h. h.good)
+    All-from_recursion _ _ (each_weaker (IsHeld c.catalog c.store.instances) (λ e. IsGood e.1) (λ e h. h.good)
     (values_in c) (has_values c built).each)
 
 pub few_values : (c : Template) → IsBuilt c → length (values_in c) < 65536

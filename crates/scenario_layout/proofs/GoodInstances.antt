@@ -8,8 +8,12 @@ use Rattle.std.specs.Ordering.{is_lt}
 use Rattle.std.specs.FinMap as finite
 use Rattle.std.specs.FinMap.Entries.{find}
 use Rattle.std.proofs.lemmas.Bool.Decides.{nat_tests}
-use Rattle.std.proofs.lemmas.List.{map-append}
+use Rattle.std.proofs.lemmas.List.{map-append, length-map}
 use Rattle.std.proofs.lemmas.List.Elements.{filter-append}
+use Rattle.std.proofs.lemmas.Bool.{and_parts, and_from, not-false}
+use Rattle.lemmas.proofs.Lists.{each_weaker, each_here}
+use Rattle.lemmas.proofs.Options.{none_from_test}
+use Rattle.lemmas.proofs.Numbers.{nat_le_below}
 use Rattle.byte_layout.proofs.Fields.{number_good}
 use Rattle.object_defs.specs.Base.{base}
 use Rattle.object_defs.specs.Catalog.{object_of}
@@ -28,11 +32,11 @@ use Rattle.device_template.specs.Built.{IsBuilt}
 use Rattle.device_template.specs.Built.IsBuilt.{nothing, account, object, resource, instance, value, notify}
 use Rattle.scenario_layout.specs.Class.{instances_in, with_instances, instances}
 use Rattle.scenario_layout.specs.Class as layout
-use Rattle.scenario_layout.proofs.Between.{all_of, all_more, all_weaker, taken_more, taken_before, each_good, found_any}
-use Rattle.scenario_layout.proofs.Between.{is_below, below, not_false, not_true}
+use Rattle.scenario_layout.proofs.Between.{all_more, taken_more, taken_before, each_good, found_any}
+use Rattle.scenario_layout.proofs.Between.{below, not_true}
 use Rattle.scenario_layout.proofs.Filling.{taken_none, no_entries}
 use Rattle.scenario_layout.proofs.GoodObjects.{no_fault, same_numbers}
-use Rattle.scenario_layout.proofs.Ordered.{both_true, and_true, is_true, map_units}
+use Rattle.scenario_layout.proofs.Ordered.{is_true, map_units}
 use Rattle.scenario_layout.proofs.Rising.{Ascends, keys_ascend, is_in_order, front_ascends, front_below, none_behind}
 use Rattle.scenario_layout.proofs.Rising.{insert_more, map_ascends}
 
@@ -99,10 +103,6 @@ no_four false false true d x y z w h i j k = absurd cc
 no_four false false false true x y z w h i j k = absurd cc
 no_four false false false false x y z w h i j k = refl
 
-pub not_there : {X : Type 0} (o : Option X) → is_some o ≡ false → o ≡ None
-not_there None h = refl
-not_there (Some x) h = absurd cc
-
 one_seen : (o : ℕ) (p : InstancePath) (b : Bool)
     → length (map (λ (q : InstancePath). q.instance) (cond b (p ∷ []) [])) ≡ cond b 1 0
 one_seen o p true = refl
@@ -136,16 +136,16 @@ has_instances _ nothing =
 has_instances _ (account {class} server built free) = has_instances class built
 has_instances _ (object {class} id built free) =
     let before = has_instances class built in
-    record { each = all_weaker _ _ (place_kept class.catalog id (no_fault _ free)) _ before.each; few = before.few }
+    record { each = each_weaker _ _ (place_kept class.catalog id (no_fault _ free)) _ before.each; few = before.few }
 has_instances _ (resource {class} id d short built free) =
     let before = has_instances class built in
-    record { each = all_weaker _ _ (place_known class.catalog id d) _ before.each; few = before.few }
+    record { each = each_weaker _ _ (place_known class.catalog id d) _ before.each; few = before.few }
 has_instances _ (instance {class} place short built free) =
     let lines = four_lines (not (may_stand place)) (not (is_some (object_of class.catalog place.object)))
     (is_some (finite.get class.store.instances place))
     (nat_le 64 (length (instances_of class.store place.object))) _ _ _ _ free in
-    instance_more class.catalog class.store place short (has_instances class built) (not_false _ lines.0)
-    (not_false _ lines.1) (not_there _ lines.2) (below _ 64 lines.3)
+    instance_more class.catalog class.store place short (has_instances class built) (not-false _ lines.0)
+    (not-false _ lines.1) (none_from_test _ lines.2) (below _ 64 lines.3)
 has_instances _ (value {class} p v short good built free) = has_instances class built
 has_instances _ (notify {class} seconds built fits) = has_instances class built
 
@@ -222,15 +222,11 @@ all_keys : (c : List ObjectDef) (es : List Entry) → AllByRecursion (IsPlace c)
 all_keys c [] h = tt
 all_keys c (e ∷ es) h = (h.0.2, all_keys c es h.1)
 
-length_mapped : {A B : Type 0} (f : A → B) (xs : List A) → length (map f xs) ≡ length xs
-length_mapped f [] = refl
-length_mapped f (x ∷ xs) = ap suc (length_mapped f xs)
-
 keys_few : (c : List ObjectDef) (es : List Entry) → HasInstances c es → length c ≤ 16
     → length (map (λ (e : Entry). e.0) es) < 65536
 keys_few c es h small =
     let all = at_most_64 c (map (λ e. e.0) es) (all_keys c es h.each)
-    (λ o. subst (λ n. n ≤ 64) (length_mapped (λ p. p.instance) (of_object o (map (λ e. e.0) es))) (h.few o)) in
+    (λ o. subst (λ n. n ≤ 64) (length-map (of_object o (map (λ e. e.0) es)) (λ p. p.instance)) (h.few o)) in
     omega (arith, all, small)
 
 -- ---- their bytes
@@ -270,8 +266,8 @@ low_entries : (p : InstancePath) (front : List InstancePath) → list_all (λ q.
     → list_all (λ (e : Entry). is_lt (instance_cmp e.0 p)) (as_entries front) ≡ true
 low_entries p [] h = refl
 low_entries p (q ∷ front) h =
-    let both = both_true (is_lt (instance_cmp q p)) _ h in
-    and_true (is_lt (instance_cmp q p)) _ both.0 (low_entries p front both.1)
+    let both = and_parts (is_lt (instance_cmp q p)) _ h in
+    and_from (is_lt (instance_cmp q p)) _ both.0 (low_entries p front both.1)
 
 instance_free : (k : Template) (front : List InstancePath) (p : InstancePath) (back : List InstancePath)
     → Ascends instance_cmp (λ q. q) (front ++ p ∷ back) → may_stand p ≡ true
@@ -290,7 +286,7 @@ instance_free k front p back h may known few =
     no_four _ _ _ _ _ _ _ _ (not_true (may_stand p) may) (not_true (is_some (object_of k.catalog p.object)) known)
     (ap is_some (finite.get-entries (finite.from_sorted {R = instance_cmp} (as_entries front)) p
     ∙ ap (find instance_cmp p) es ∙ none_behind instance_total p _ (low_entries p front low)))
-    (is_below _ 64 (omega (arith, same, room, itself p, few)))
+    (nat_le_below _ 64 (omega (arith, same, room, itself p, few)))
 
 all_places : (c : List ObjectDef) (es : List Entry) → AllByRecursion (IsPlace c) es
     → AllByRecursion (λ p. IsPlace c (p, tt)) (map (λ e. e.0) es)
@@ -303,9 +299,9 @@ instance_good : (k : Template) (front : List InstancePath) (p : InstancePath) (b
     → length (numbered p.object (front ++ p ∷ back)) ≤ 64 → (layout.instance k front).Good p
 unfolding layout.instance
 instance_good k front p back h all few =
-    let is = all_of (λ q. IsPlace k.catalog (q, tt)) front p back all in (
+    let is = each_here (λ q. IsPlace k.catalog (q, tt)) front p back all in (
       place_good p is.0 (number_small p is.1),
-      and_true _ _ (front_below instance_cmp (λ q. q) front p back h)
+      and_from _ _ (front_below instance_cmp (λ q. q) front p back h)
           (taken_none _ (instance_free k front p back h is.1 is.2 few)),
     )
   where
@@ -313,7 +309,7 @@ instance_good k front p back h all few =
     low n h = grind (arith, nat_tests)
 
     number_small : (q : InstancePath) → may_stand q ≡ true → q.instance < 65536
-    number_small q may = low q.instance (both_true _ _ (both_true (not (eqb q.object 0)) _ may).1).0
+    number_small q may = low q.instance (and_parts _ _ (and_parts (not (eqb q.object 0)) _ may).1).0
 
 pub instances_good : (c k : Template) → IsBuilt c → length c.catalog ≤ 16 → k.catalog ≡ c.catalog
     → (instances k).Good (instances_in c)

@@ -4,11 +4,13 @@ use Rattle.std.proofs.Common.{map, length, Option, None, Some, option_map, refl,
 use Rattle.std.specs.Prelude.{nat_le, is_some, drop}
 use Rattle.std.specs.List.{AllByRecursion, list_all}
 use Rattle.std.specs.Int.{w8, w16}
-use Rattle.std.proofs.lemmas.Bool.{lt-ltb}
+use Rattle.std.proofs.lemmas.Bool.{lt-ltb, and_parts, and_from, not-false}
 use Rattle.std.proofs.lemmas.Bool.Decides.{nat_tests}
 use Rattle.std.proofs.lemmas.List.{map-append}
 use Rattle.std.proofs.lemmas.List.Elements.{All-from_recursion}
 use Rattle.std.proofs.lemmas.List.Folds.{list_all-append}
+use Rattle.lemmas.proofs.Lists.{each_weaker, each_here}
+use Rattle.lemmas.proofs.Numbers.{nat_le_below}
 use Rattle.byte_layout.proofs.Fields.{number_good}
 use Rattle.lwm2m_values.specs.declared.kind.ValueKind.{ValueKind}
 use Rattle.lwm2m_values.specs.declared.kind.ValueKind.TheVariants as kinds
@@ -21,6 +23,7 @@ use Rattle.object_defs.specs.declared.definition.Ops.TheVariants.{R, W, RW, E}
 use Rattle.object_defs.specs.declared.definition.ObjectDef.{ObjectDef}
 use Rattle.object_defs.specs.declared.definition.ResourceDef.{ResourceDef}
 use Rattle.object_defs.specs.declared.fault.CatalogFault.{CatalogFault}
+use Rattle.object_defs.proofs.LookUps.{vendor_is}
 use Rattle.scenario_layout.specs.Definition.{flags_of, flags_fit, kind_fits, resources}
 use Rattle.scenario_layout.specs.Definition as defs
 use Rattle.scenario_layout.proofs.Definitions.{resource_good}
@@ -30,12 +33,11 @@ use Rattle.device_template.specs.Built.IsBuilt.{nothing, account, object, resour
 use Rattle.device_template.proofs.Ascending.{Rises, rises-inserted}
 use Rattle.scenario_layout.specs.Class.{objects_in, defined, objects}
 use Rattle.scenario_layout.specs.Class as layout
-use Rattle.scenario_layout.proofs.Between.{all_of, all_more, all_weaker, length_more, inserted_more, map_inserted}
+use Rattle.scenario_layout.proofs.Between.{all_more, length_more, inserted_more, map_inserted}
 use Rattle.scenario_layout.proofs.Between.{shorter, each_good, rising_front, all_below, found_any, three_lines}
-use Rattle.scenario_layout.proofs.Between.{no_three, is_below, below, not_false, not_true}
+use Rattle.scenario_layout.proofs.Between.{no_three, below, not_true}
 use Rattle.scenario_layout.proofs.Defined.{none_found, other}
 use Rattle.scenario_layout.proofs.Filling.{taken_none}
-use Rattle.scenario_layout.proofs.Ordered.{and_true, both_true}
 
 -- ---- definitions of resources
 
@@ -60,7 +62,7 @@ definitions_more o d short before free =
       rising = subst Rises (sym (map_inserted (λ r. r.id) d o.resources))
           (rises-inserted d.id (ids o.resources) (sym (found_any (λ r. r.id) d.id o.resources) ∙ lines.1)
           before.rising);
-      each = all_more IsFit d o.resources _ more (short, not_false (is_sound d) lines.0) before.each;
+      each = all_more IsFit d o.resources _ more (short, not-false (is_sound d) lines.0) before.each;
       few = omega (arith, length_more d o.resources _ more, below (length o.resources) 64 lines.2);
     }
 
@@ -93,12 +95,12 @@ sound_kind : (n : ℕ) (o : Ops) (m r : Bool) (k : ValueKind)
 sound_kind n R m r k h = refl
 sound_kind n W m r k h = refl
 sound_kind n RW m r k h = refl
-sound_kind n E m r k h = text_number k (both_true (not m) (is_text k) h).1
+sound_kind n E m r k h = text_number k (and_parts (not m) (is_text k) h).1
 
 definition_good : (front : List ResourceDef) (d : ResourceDef) (back : List ResourceDef)
     → HasDefinitions (front ++ d ∷ back) → (defs.resource front).Good d
 definition_good front d back h =
-    let fit = all_of IsFit front d back h.each in
+    let fit = each_here IsFit front d back h.each in
     resource_good front d fit.0 (all_below (λ r. r.id) d.id front
     (rising_front (ids front) d.id (ids back) (subst Rises (map-append (λ r. r.id) front (d ∷ back)) h.rising)))
     (sound_flags d.id d.ops d.multiple d.mandatory d.kind fit.1)
@@ -139,11 +141,11 @@ vendor_small id h = grind (arith, nat_tests)
 base_low : (id : ℕ) → is_vendor id ≡ true → list_all (λ o. ltb o.id id) base ≡ true
 base_low id vendor =
     let high = vendor_above id vendor in
-    and_true (ltb 0 id) _ (lt-ltb 0 id (omega (arith, high)))
-    (and_true (ltb 1 id) _ (lt-ltb 1 id (omega (arith, high)))
-    (and_true (ltb 2 id) _ (lt-ltb 2 id (omega (arith, high)))
-    (and_true (ltb 3 id) _ (lt-ltb 3 id (omega (arith, high)))
-    (and_true (ltb 5 id) true (lt-ltb 5 id (omega (arith, high))) refl))))
+    and_from (ltb 0 id) _ (lt-ltb 0 id (omega (arith, high)))
+    (and_from (ltb 1 id) _ (lt-ltb 1 id (omega (arith, high)))
+    (and_from (ltb 2 id) _ (lt-ltb 2 id (omega (arith, high)))
+    (and_from (ltb 3 id) _ (lt-ltb 3 id (omega (arith, high)))
+    (and_from (ltb 5 id) true (lt-ltb 5 id (omega (arith, high))) refl))))
 
 not_low : (x y : ℕ) → ltb y x ≡ true → ltb x y ≡ false
 not_low x y h = grind (arith, nat_tests)
@@ -153,7 +155,7 @@ inserted_behind : {X : Type 0} (number : X → ℕ) (x : X) (front xs : List X)
     → inserted number x (front ++ xs) ≡ front ++ inserted number x xs
 inserted_behind number x [] xs low = refl
 inserted_behind number x (y ∷ front) xs low =
-    let p = both_true (ltb (number y) (number x)) _ low in
+    let p = and_parts (ltb (number y) (number x)) _ low in
     ap (λ b. cond b (x ∷ y ∷ front ++ xs) (y ∷ inserted number x (front ++ xs))) (not_low (number x) (number y) p.0)
     ∙ ap (λ t. y ∷ t) (inserted_behind number x front xs p.1)
 
@@ -161,7 +163,7 @@ resource_behind : (front os : List ObjectDef) (id : ℕ) (d : ResourceDef) → l
     → with_resource (front ++ os) id d ≡ front ++ with_resource os id d
 resource_behind [] os id d low = refl
 resource_behind (o ∷ front) os id d low =
-    let p = both_true (ltb o.id id) _ low in
+    let p = and_parts (ltb o.id id) _ low in
     ap (λ b. cond b (with_definition o d ∷ front ++ os) (o ∷ with_resource (front ++ os) id d)) (other o.id id p.0)
     ∙ ap (λ t. o ∷ t) (resource_behind front os id d p.1)
 
@@ -169,7 +171,7 @@ found_behind : (front os : List ObjectDef) (id : ℕ) → list_all (λ o. ltb o.
     → object_of (front ++ os) id ≡ object_of os id
 found_behind [] os id low = refl
 found_behind (o ∷ front) os id low =
-    let p = both_true (ltb o.id id) _ low in
+    let p = and_parts (ltb o.id id) _ low in
     ap (λ b. cond b (Some o) (object_of (front ++ os) id)) (other o.id id p.0) ∙ found_behind front os id p.1
 
 pub no_fault : (o : Option CatalogFault) → option_map fault_of o ≡ None → o ≡ None
@@ -181,7 +183,7 @@ object_more : (catalog : List ObjectDef) (id : ℕ) → HasObjects catalog → v
 object_more catalog id h free =
     let lines = three_lines (not (is_vendor id)) (is_some (object_of catalog id))
     (nat_le 16 (length catalog)) _ _ _ free in
-    let vendor = not_false (is_vendor id) lines.0 in
+    let vendor = not-false (is_vendor id) lines.0 in
     let low = base_low id vendor in
     let more = inserted_more (λ o. o.id) (new_object id) h.own in
     let absent : is_some (object_of h.own id) ≡ false =
@@ -229,11 +231,6 @@ each_more (o ∷ os) id d short all free =
       | false ↦ λ e. (all.0, each_more os id d short all.1 e)
     ] free
 
-vendor_is : (b : Bool) (d : ResourceDef) (o : Option ObjectDef) → resource_fault_in d (cond b o None) ≡ None
-    → (b ≡ true) × (resource_fault_in d o ≡ None)
-vendor_is true d o h = (refl, h)
-vendor_is false d o h = absurd cc
-
 resource_more : (catalog : List ObjectDef) (id : ℕ) (d : ResourceDef) → d.id < 65536 → HasObjects catalog
     → resource_fault catalog id d ≡ None → HasObjects (with_resource catalog id d)
 resource_more catalog id d short h free =
@@ -269,18 +266,18 @@ object_good : (k : Template) (front : List ObjectDef) (o : ObjectDef) (back : Li
     → IsOwn (front ++ o ∷ back) → (layout.object k front).Good o
 unfolding layout.object layout.object_id
 object_good k front o back h =
-    let own = all_of IsOwnObject front o back h.each in
+    let own = each_here IsOwnObject front o back h.each in
     let above : list_all (λ q. ltb q.id o.id) front ≡ true =
     all_below (λ q. q.id) o.id front (rising_front (numbers front) o.id (numbers back)
     (subst Rises (map-append (λ q. q.id) front (o ∷ back)) h.rising)) in
     let low : list_all (λ q. ltb q.id o.id) (base ++ front) ≡ true =
-    list_all-append (λ q. ltb q.id o.id) base front ∙ and_true _ _ (base_low o.id own.0) above in
+    list_all-append (λ q. ltb q.id o.id) base front ∙ and_from _ _ (base_low o.id own.0) above in
     let room : length (base ++ front) < 16 = omega (arith, shorter (front ++ o ∷ back) front o back refl, h.few) in
     let free : vendor_fault (base ++ front) o.id ≡ None =
     no_three _ _ _ _ _ _ (not_true (is_vendor o.id) own.0)
     (ap is_some (none_found (λ q. q.id) o.id (base ++ front) low))
-    (is_below (length (base ++ front)) 16 room) in (
-      (number_good w16 o.id (vendor_small o.id own.0), and_true _ _ low (taken_none _ (ap (option_map fault_of) free))),
+    (nat_le_below (length (base ++ front)) 16 room) in (
+      (number_good w16 o.id (vendor_small o.id own.0), and_from _ _ low (taken_none _ (ap (option_map fault_of) free))),
       (definitions_good o.resources own.1, refl),
     )
 
@@ -309,7 +306,7 @@ few_objects c h = omega (arith, ap length h.behind, h.good.few)
 pub each_defined : (c : Template) → HasObjects c.catalog → All (λ o. resources.Good o.resources) (objects_in c)
 each_defined c h =
     subst (All (λ (o : ObjectDef). resources.Good o.resources)) (sym (own_is c h))
-    (All-from_recursion _ _ (all_weaker IsOwnObject (λ o. resources.Good o.resources)
+    (All-from_recursion _ _ (each_weaker IsOwnObject (λ o. resources.Good o.resources)
     (λ o own. definitions_good o.resources own.1) h.own h.good.each))
 
 pub few_own : (c : Template) → HasObjects c.catalog → length (objects_in c) ≤ 11

@@ -76,7 +76,7 @@ pub value_good : (wanted : Option ValueKind) (v : Value) → IsGood v → fits w
 unfolding value
 value_good wanted v good fit = ((kind_good (kind_of v), fit), held_good v good)
 
-good_text : (t : List ℕ) → text.Good t → IsUtf8 t × (length t ≤ 255)
+pub good_text : (t : List ℕ) → text.Good t → IsUtf8 t × (length t ≤ 255)
 unfolding text
 good_text t h = (
   IsUtf8-from_is_utf8 t h.1,

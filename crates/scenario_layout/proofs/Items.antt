@@ -1,12 +1,11 @@
 -- An item that is read and added to a class, or not.
-use Rattle.std.proofs.Common.{◌≡◌, ℕ, Bool, true, false, ◌&&◌, List, [], ◌∷◌, ◌++◌, Option, None, Some, Result, Ok, Err}
-use Rattle.std.proofs.Common.{option_map, refl, sym, ap, subst, ◌∙◌, append_assoc, arith}
-use Rattle.std.specs.Prelude.{not, ◌≤◌, nat_lt, nat_le, length, is_some}
+use Rattle.std.proofs.Common.{◌≡◌, ℕ, Bool, true, false, ◌&&◌, List, [], ◌∷◌, ◌++◌, Option, None, Some, Ok, Err}
+use Rattle.std.proofs.Common.{option_map, refl, sym, ap, subst, ◌∙◌, append_assoc}
+use Rattle.std.specs.Prelude.{not, nat_lt, nat_le, length, is_some}
 use Rattle.std.specs.List.{list_all}
 use Rattle.std.specs.Ordering.{is_lt}
 use Rattle.std.specs.Int.{w16}
-use Rattle.std.proofs.lemmas.Bool.Decides.{nat_tests}
-use Rattle.std.proofs.lemmas.Bool.{eqb-true}
+use Rattle.std.proofs.lemmas.Bool.{eqb-true, le-leb}
 use Rattle.byte_layout.specs.declared.fault.Break.TheVariants.{BadField}
 use Rattle.byte_layout.specs.declared.fault.ReadError.{ReadError}
 use Rattle.byte_layout.specs.declared.fault.ReadError.TheVariants as errors
@@ -40,15 +39,10 @@ use Rattle.scenario_layout.specs.Growing.{grown, IsLast}
 use Rattle.scenario_layout.specs.Class.{objects_in, instances_in, values_in, with_accounts, with_objects}
 use Rattle.scenario_layout.specs.Class.{with_instances, with_values, is_taken, account, instance, entry, value_path}
 use Rattle.byte_layout.proofs.Layouts.{bytes_behind}
+use Rattle.device_template.proofs.OwnKinds.{own_kind}
 use Rattle.scenario_layout.proofs.ExactClass.{value_path_exact}
 use Rattle.scenario_layout.proofs.Ordered.{inserted_end, last_push}
 use Rattle.scenario_layout.proofs.Filling.{passed, failed, taken_none, instance_test, instances_itself, values_itself}
-
--- what answers Ok was not refused
-pub not_refused : {X Y : Type 0} (refusal : Option Y) (r : Result X Y) (x : X) → r ≡ Ok x
-    → ((f : Y) → refusal ≡ Some f → r ≡ Err f) → refusal ≡ None
-not_refused None r x ok refuses = refl
-not_refused (Some f) r x ok refuses = let e : r ≡ Err f = refuses f refl in cc
 
 -- ---- accounts
 
@@ -176,21 +170,13 @@ unfolding entry
 entry_read c u bytes p rest k v after read some held more = rw (read, same_kind c p, some, held, more) refl
 
 -- a value that was read for a kind is of that kind, and within its limits
-number_again : (k : ValueKind) → kind_numbered (kind_number k) ≡ k
+pub number_again : (k : ValueKind) → kind_numbered (kind_number k) ≡ k
 number_again kinds.Text = refl
 number_again kinds.Whole = refl
 number_again kinds.Flag = refl
 number_again kinds.Opaque = refl
 number_again kinds.Moment = refl
 number_again kinds.Link = refl
-
-own_kind : (v : Value) → has_kind v (kind_of v) ≡ true
-own_kind (held.Text t) = refl
-own_kind (held.Whole z) = refl
-own_kind (held.Flag b) = refl
-own_kind (held.Opaque b) = refl
-own_kind (held.Moment z) = refl
-own_kind (held.Link o i) = refl
 
 pub is_of_kind : (k : ValueKind) (v : Value) (bytes after : List ℕ) → IsBytes bytes
     → (value (Some k)).read bytes ≡ Ok (v, after) → has_kind v k ≡ true
@@ -200,14 +186,11 @@ is_of_kind k v bytes after fits read =
     let same : kind_number (kind_of v) ≡ kind_number k = eqb-true (kind_number (kind_of v)) (kind_number k) good.0.1 in
     ap (has_kind v) (sym (number_again k) ∙ ap kind_numbered (sym same) ∙ number_again (kind_of v)) ∙ own_kind v
 
-short : (n m : ℕ) → n ≤ m → nat_le n m ≡ true
-short n m h = grind (arith, nat_tests)
-
 pub within : (v : Value) → IsGood v → has_good_length v ≡ true
-within (held.Text t) good = short (length t) 255 good.1
+within (held.Text t) good = le-leb (length t) 255 good.1
 within (held.Whole z) good = refl
 within (held.Flag b) good = refl
-within (held.Opaque b) good = short (length b) 1024 good.1
+within (held.Opaque b) good = le-leb (length b) 1024 good.1
 within (held.Moment z) good = refl
 within (held.Link o i) good = refl
 

@@ -10,25 +10,14 @@ use Rattle.std.specs.FinMap as finite
 use Rattle.std.specs.FinMap.{FinMap}
 use Rattle.std.specs.FinMap.Entries.{put, by_order, below_all, is_sorted}
 use Rattle.std.proofs.lemmas.Bool.Decides.{nat_tests}
+use Rattle.std.proofs.lemmas.Bool.{and_parts, and_from}
 use Rattle.object_defs.specs.Vendor.{inserted}
 use Rattle.byte_layout.specs.Layout.{Layout, each}
 use Rattle.scenario_layout.specs.Growing.{IsLast}
 
-pub both_true : (a b : Bool) → (a && b) ≡ true → (a ≡ true) × (b ≡ true)
-both_true true b e = (refl, e)
-both_true false b e = absurd cc
-
-pub and_true : (a b : Bool) → a ≡ true → b ≡ true → (a && b) ≡ true
-and_true true b h g = g
-and_true false b h g = absurd cc
-
 pub is_true : (b : Bool) → b ≡ true → T b
 is_true true e = tt
 is_true false e = absurd cc
-
-pub true_is : (b : Bool) → T b → b ≡ true
-true_is true t = refl
-true_is false t = absurd t
 
 not_above : (x y : ℕ) → ltb y x ≡ true → ltb x y ≡ false
 not_above x y h = grind (arith, nat_tests)
@@ -38,7 +27,7 @@ pub inserted_end : {X : Type 0} (number : X → ℕ) (x : X) (xs : List X)
     → list_all (λ y. ltb (number y) (number x)) xs ≡ true → inserted number x xs ≡ xs ++ x ∷ []
 inserted_end number x [] h = refl
 inserted_end number x (y ∷ ys) h =
-    let p = both_true (ltb (number y) (number x)) (list_all (λ y. ltb (number y) (number x)) ys) h in
+    let p = and_parts (ltb (number y) (number x)) (list_all (λ y. ltb (number y) (number x)) ys) h in
     ap (λ b. cond b (x ∷ y ∷ ys) (y ∷ inserted number x ys)) (not_above (number x) (number y) p.0)
     ∙ ap (λ t. y ∷ t) (inserted_end number x ys p.1)
 
@@ -57,8 +46,8 @@ all_push p (y ∷ ys) x = ap (λ b. p y && b) (all_push p ys x) ∙ and_assoc (p
 -- the test of one among them
 pub all_at : {X : Type 0} (p : X → Bool) (front : List X) (x : X) (back : List X)
     → list_all p (front ++ x ∷ back) ≡ true → p x ≡ true
-all_at p [] x back h = (both_true (p x) (list_all p back) h).0
-all_at p (y ∷ front) x back h = all_at p front x back (both_true (p y) (list_all p (front ++ x ∷ back)) h).1
+all_at p [] x back h = (and_parts (p x) (list_all p back) h).0
+all_at p (y ∷ front) x back h = all_at p front x back (and_parts (p y) (list_all p (front ++ x ∷ back)) h).1
 
 is_less : (r : Ordering) → is_lt r ≡ true → r ≡ Less
 is_less Less h = refl
@@ -79,7 +68,7 @@ module _ {K X : Type 0} {R : K → K → Ordering} where
         → put R k v es ≡ es ++ (k, v) ∷ []
     put_end k v [] h = refl
     put_end k v (e ∷ es) h =
-        let p = both_true (is_lt (R e.0 k)) (list_all (λ e. is_lt (R e.0 k)) es) h in
+        let p = and_parts (is_lt (R e.0 k)) (list_all (λ e. is_lt (R e.0 k)) es) h in
         ap (λ r. by_order r ((k, v) ∷ e ∷ es) ((e.0, v) ∷ es) (e ∷ put R k v es)) (greater total k e.0 p.0)
         ∙ ap (λ t. e ∷ t) (put_end k v es p.1)
 
@@ -93,14 +82,14 @@ module _ {A K : Type 0} {R : K → K → Ordering} (total : IsTotalOrder R) (key
       → list_all (λ a. is_lt (R (key a) j)) items ≡ true
   all_less k j less [] h = refl
   all_less k j less (a ∷ items) h =
-      let p = both_true (is_lt (R (key a) k)) (list_all (λ a. is_lt (R (key a) k)) items) h in
-      and_true (is_lt (R (key a) j)) _ (ap is_lt (total.trans (key a) k j (is_less (R (key a) k) p.0) less))
+      let p = and_parts (is_lt (R (key a) k)) (list_all (λ a. is_lt (R (key a) k)) items) h in
+      and_from (is_lt (R (key a) j)) _ (ap is_lt (total.trans (key a) k j (is_less (R (key a) k) p.0) less))
       (all_less k j less items p.1)
 
   last_test : (k j : K) (items : List A) (b : Bool) → is_lt (R k j) ≡ b
       → list_all (λ a. is_lt (R (key a) k)) items ≡ true → (list_all (λ a. is_lt (R (key a) j)) items && b) ≡ b
   last_test k j items true e h =
-      and_true (list_all (λ a. is_lt (R (key a) j)) items) true (all_less k j (is_less (R k j) e) items h) refl
+      and_from (list_all (λ a. is_lt (R (key a) j)) items) true (all_less k j (is_less (R k j) e) items h) refl
   last_test k j items false e h = no_end (list_all (λ a. is_lt (R (key a) j)) items)
     where
       no_end : (b : Bool) → (b && false) ≡ false
@@ -123,7 +112,7 @@ module _ {A K X : Type 0} (R : K → K → Ordering) (as_entry : A → K × X) (
   below_rest zero front a back xs good = ap (λ ys. below_all R (as_entry a).0 (map as_entry ys)) good
   below_rest (suc n) front a back [] good = absurd good
   below_rest (suc n) front a back (x ∷ xs) good =
-      and_true (is_lt (R (as_entry a).0 (as_entry x).0)) _
+      and_from (is_lt (R (as_entry a).0 (as_entry x).0)) _
       (all_at (λ b. is_lt (R (as_entry b).0 (as_entry x).0)) front a back (behind (front ++ a ∷ back) x good.0))
       (below_rest n front a (back ++ x ∷ []) xs
       (subst (λ (ys : List A). (each part n ys).Good xs) (append_assoc front (a ∷ back) (x ∷ [])) good.1))
@@ -133,7 +122,7 @@ module _ {A K X : Type 0} (R : K → K → Ordering) (as_entry : A → K × X) (
   ascends zero before xs good = ap (λ ys. is_sorted R (map as_entry ys)) good
   ascends (suc n) before [] good = absurd good
   ascends (suc n) before (x ∷ xs) good =
-      and_true (below_all R (as_entry x).0 (map as_entry xs)) _ (below_rest n before x [] xs good.1)
+      and_from (below_all R (as_entry x).0 (map as_entry xs)) _ (below_rest n before x [] xs good.1)
       (ascends n (before ++ x ∷ []) xs good.1)
 
 pub map_same : {A : Type 0} (xs : List A) → map (λ x. x) xs ≡ xs

@@ -8,8 +8,11 @@ use Rattle.std.specs.Cmp.{IsTotalOrder}
 use Rattle.std.specs.FinMap as finite
 use Rattle.std.specs.FinMap.{FinMap}
 use Rattle.std.specs.FinMap.Entries.{put, by_order, below_all, is_sorted, find}
-use Rattle.scenario_layout.proofs.Between.{IsOneMore, behind_head, all_of}
-use Rattle.scenario_layout.proofs.Ordered.{both_true, and_true, true_is, greater}
+use Rattle.std.proofs.lemmas.Bool.{and_parts, and_from}
+use Rattle.lemmas.proofs.Lists.{each_here}
+use Rattle.lemmas.proofs.Tests.{true_from_T}
+use Rattle.scenario_layout.proofs.Between.{IsOneMore, behind_head}
+use Rattle.scenario_layout.proofs.Ordered.{greater}
 
 -- each key is below those after it
 abbrev pub Ascends : {A K : Type 0} → (K → K → Ordering) → (A → K) → List A → Type 0
@@ -20,13 +23,13 @@ module _ {K X : Type 0} (R : K → K → Ordering) where
   all_below : (k : K) (es : List (K × X)) → below_all R k es ≡ true → AllByRecursion (λ e. is_lt (R k e.0) ≡ true) es
   all_below k [] h = tt
   all_below k (e ∷ es) h =
-      let p = both_true (is_lt (R k e.0)) (below_all R k es) h in
+      let p = and_parts (is_lt (R k e.0)) (below_all R k es) h in
       (p.0, all_below k es p.1)
 
   pub entries_ascend : (es : List (K × X)) → is_sorted R es ≡ true → Ascends R (λ (e : K × X). e.0) es
   entries_ascend [] h = tt
   entries_ascend (e ∷ es) h =
-      let p = both_true (below_all R e.0 es) (is_sorted R es) h in
+      let p = and_parts (below_all R e.0 es) (is_sorted R es) h in
       (all_below e.0 es p.0, entries_ascend es p.1)
 
   keys_above : (k : K) (es : List (K × X)) → AllByRecursion (λ e. is_lt (R k e.0) ≡ true) es
@@ -43,12 +46,12 @@ module _ {A K X : Type 0} (R : K → K → Ordering) (as_entry : A → K × X) w
   below_map : (k : K) (items : List A) → AllByRecursion (λ a. is_lt (R k (as_entry a).0) ≡ true) items
       → below_all R k (map as_entry items) ≡ true
   below_map k [] h = refl
-  below_map k (a ∷ items) h = and_true (is_lt (R k (as_entry a).0)) _ h.0 (below_map k items h.1)
+  below_map k (a ∷ items) h = and_from (is_lt (R k (as_entry a).0)) _ h.0 (below_map k items h.1)
 
   pub is_in_order : (items : List A) → Ascends R (λ a. (as_entry a).0) items → is_sorted R (map as_entry items) ≡ true
   is_in_order [] h = refl
   is_in_order (a ∷ items) h =
-      and_true (below_all R (as_entry a).0 (map as_entry items)) _ (below_map (as_entry a).0 items h.0)
+      and_from (below_all R (as_entry a).0 (map as_entry items)) _ (below_map (as_entry a).0 items h.0)
       (is_in_order items h.1)
 
 module _ {A K : Type 0} (R : K → K → Ordering) (key : A → K) where
@@ -65,7 +68,7 @@ module _ {A K : Type 0} (R : K → K → Ordering) (key : A → K) where
       → list_all (λ b. is_lt (R (key b) (key a))) front ≡ true
   front_below [] a back h = refl
   front_below (x ∷ front) a back h =
-      and_true (is_lt (R (key x) (key a))) _ (all_of (λ b. is_lt (R (key x) (key b)) ≡ true) front a back h.0)
+      and_from (is_lt (R (key x) (key a))) _ (each_here (λ b. is_lt (R (key x) (key b)) ≡ true) front a back h.0)
       (front_below front a back h.1)
 
 module _ {K X : Type 0} {R : K → K → Ordering} (total : IsTotalOrder R) where
@@ -73,7 +76,7 @@ module _ {K X : Type 0} {R : K → K → Ordering} (total : IsTotalOrder R) wher
   pub none_behind : (k : K) (es : List (K × X)) → list_all (λ e. is_lt (R e.0 k)) es ≡ true → find R k es ≡ None
   none_behind k [] h = refl
   none_behind k (e ∷ es) h =
-      let p = both_true (is_lt (R e.0 k)) (list_all (λ e. is_lt (R e.0 k)) es) h in
+      let p = and_parts (is_lt (R e.0 k)) (list_all (λ e. is_lt (R e.0 k)) es) h in
       ap (λ r. cond (is_eq r) (Some e.1) (find R k es)) (greater total k e.0 p.0) ∙ none_behind k es p.1
 
   put_more : (k : K) (v : X) (es : List (K × X)) → find R k es ≡ None → IsOneMore (k, v) es (put R k v es)
@@ -94,4 +97,4 @@ module _ {K X : Type 0} {R : K → K → Ordering} (total : IsTotalOrder R) wher
       (put_more k v (finite.entries m) (sym (finite.get-entries m k) ∙ none))
 
   pub map_ascends : (m : FinMap R X) → Ascends R (λ (e : K × X). e.0) (finite.entries m)
-  map_ascends m = entries_ascend R (finite.entries m) (true_is _ (finite.entries_sorted m))
+  map_ascends m = entries_ascend R (finite.entries m) (true_from_T _ (finite.entries_sorted m))

@@ -10,6 +10,7 @@ use Rattle.std.specs.Str.{bytes_eq}
 use Rattle.std.specs.Fmt.{decimal}
 use Rattle.std.proofs.lemmas.Bool.{and_from, and_parts, cases_Bool}
 use Rattle.std.proofs.lemmas.Slice.Eq.{bytes_eq-Decides}
+use Rattle.lemmas.proofs.Lists.{each_appended, each_flat, below_front, below_back}
 use Rattle.coap_codec.specs.declared.fault.CoapFault.{CoapFault}
 use Rattle.coap_codec.specs.Message.{Message, header_bytes, options_bytes, spelling}
 use Rattle.coap_codec.specs.Reading.{reading_of}
@@ -39,7 +40,7 @@ use Rattle.scenario_mnemonics.specs.Inside.{mnemonic_found}
 use Rattle.scenario_mnemonics.proofs.OptionOrder.{well_formed}
 use Rattle.scenario_mnemonics.proofs.Values.{path_found, queries_found}
 use Rattle.scenario_mnemonics.proofs.Denoted.{one_mnemonic}
-use Rattle.scenario_mnemonics.proofs.Fitting.{below, first_below, last_below, payload_below, found_denotes}
+use Rattle.scenario_mnemonics.proofs.Fitting.{below, payload_below, found_denotes}
 
 -- the actions of one format, and those of these queries and this payload
 abbrev with_format : List ℕ → Format → List Action
@@ -64,16 +65,6 @@ paths_in segments = option_to_list (result_ok (path_of (flat_map (λ s. 47 ∷ s
 
 -- ---- what holds of each candidate
 
-all_append : {A : Type 0} (P : A → Type 0) (xs ys : List A) → AllByRecursion P xs → AllByRecursion P ys
-    → AllByRecursion P (xs ++ ys)
-all_append P [] ys h k = k
-all_append P (x ∷ xs) ys h k = (h.0, all_append P xs ys h.1 k)
-
-all_flat : {A B : Type 0} (P : A → Type 0) (Q : B → Type 0) (f : A → List B)
-    → ((a : A) → P a → AllByRecursion Q (f a)) → (xs : List A) → AllByRecursion P xs → AllByRecursion Q (flat_map f xs)
-all_flat P Q f g [] h = tt
-all_flat P Q f g (x ∷ xs) h = all_append Q (f x) (flat_map f xs) (g x h.0) (all_flat P Q f g xs h.1)
-
 -- words can say it, and its payload is bytes
 abbrev IsSound : Action → Type 0
 IsSound a = (has_words a ≡ true) × AllBelowBase 256 (fields_of a).payload
@@ -97,8 +88,8 @@ actions_sound qs b h = (
     (refl, tt),
     (
       (refl, h),
-      all_append IsSound (with_queries qs) (flat_map (with_format b) formats) (queries_sound qs)
-          (all_flat (λ f. Unit {0}) IsSound (with_format b) (format_sound b h) formats (tt, (tt, (tt, (tt, tt))))),
+      each_appended IsSound (with_queries qs) (flat_map (with_format b) formats) (queries_sound qs)
+          (each_flat (λ f. Unit {0}) IsSound (with_format b) (format_sound b h) formats (tt, (tt, (tt, (tt, tt))))),
     ),
   ),
 )
@@ -138,8 +129,8 @@ request_sound m read p path a sound k fit =
 candidates_sound : (m : Message) → IsRead m → AllByRecursion IsGoodIfFit (candidates m)
 candidates_sound m read = (
   (λ fit. read.mid),
-  all_flat IsPath IsGoodIfFit (requests m)
-      (λ p path. all_flat IsSound IsGoodIfFit (of_action m p)
+  each_flat IsPath IsGoodIfFit (requests m)
+      (λ p path. each_flat IsSound IsGoodIfFit (of_action m p)
       (λ a sound. (request_sound m read p path a sound Con, (request_sound m read p path a sound Non, tt)))
       (actions m) (actions_sound (values 15 m.options) m.payload read.payload))
       (paths_in (values 11 m.options)) (paths_sound (values 11 m.options)),
@@ -168,7 +159,7 @@ abbrev Has : {A : Type 0} → List A → A → Type 0
 Has [] k = ⊥
 Has (x ∷ xs) k = (x ≡ k) ⊎ Has xs k
 
-good_fits : (k : Mnemonic) → IsGood k → fits_mnemonic k ≡ true
+pub good_fits : (k : Mnemonic) → IsGood k → fits_mnemonic k ≡ true
 good_fits (mnemonic.Request r) h = h.fits
 good_fits (mnemonic.Reset mid) h = refl
 
@@ -285,13 +276,13 @@ bytes_read : (bytes : List ℕ) (m : Message) → All (λ b. b < 256) bytes → 
 bytes_read bytes m h e =
     let spells = spelled_from_reading bytes m h e in
     let all : AllBelowBase 256 (spelling m) = subst (AllBelowBase 256) spells.parts (below bytes h) in
-    let behind_header = last_below (header_bytes m) _ all in
+    let behind_header = below_back (header_bytes m) _ all in
     record {
       mid = spells.well_formed.mid;
       short = spells.well_formed.token;
-      token = first_below m.token _ behind_header;
+      token = below_front m.token _ behind_header;
       payload = payload_below m.payload
-          (last_below (options_bytes 0 m.options) _ (last_below m.token _ behind_header));
+          (below_back (options_bytes 0 m.options) _ (below_back m.token _ behind_header));
     }
 
 mnemonic_good : (bytes : List ℕ) (k : Mnemonic) (r : Result Message CoapFault) → All (λ b. b < 256) bytes

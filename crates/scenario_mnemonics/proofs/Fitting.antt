@@ -1,5 +1,5 @@
 -- The mnemonic of a datagram is good, and the datagram is its own.
-use Rattle.std.proofs.Common.{◌≡◌, ℕ, ◌<◌, ◌≤◌, ◌↔◌, Bool, true, false, cond, eqb, leb, List, [], ◌∷◌, ◌++◌, length}
+use Rattle.std.proofs.Common.{◌≡◌, ℕ, ◌<◌, ◌≤◌, ◌↔◌, Bool, true, false, cond, eqb, leb, List, [], ◌∷◌, length}
 use Rattle.std.proofs.Common.{Option, None, Some, Result, Ok, Err, refl, ap, sym, subst, ◌∙◌, All}
 use Rattle.std.specs.Prelude.{IfSome, option_map, option_and_then}
 use Rattle.std.specs.Int.Digits.{AllBelowBase}
@@ -7,6 +7,7 @@ use Rattle.std.specs.Str.{bytes_eq}
 use Rattle.std.proofs.lemmas.Bool.{leb-true}
 use Rattle.std.proofs.lemmas.List.Elements.{All-head, All-tail}
 use Rattle.std.proofs.lemmas.Slice.Eq.{bytes_eq-Decides}
+use Rattle.lemmas.proofs.Lists.{below_front, below_back}
 use Rattle.coap_codec.specs.declared.fault.CoapFault.{CoapFault}
 use Rattle.coap_codec.specs.Message.{Message, header_bytes, options_bytes, payload_bytes, spelling}
 use Rattle.coap_codec.specs.Reading.{reading_of}
@@ -143,14 +144,6 @@ pub below : (bs : List ℕ) → All (λ b. b < 256) bs → AllBelowBase 256 bs
 below [] h = tt
 below (b ∷ bs) h = (All-head (λ x. x < 256) b bs h, below bs (All-tail (λ x. x < 256) b bs h))
 
-pub first_below : (xs ys : List ℕ) → AllBelowBase 256 (xs ++ ys) → AllBelowBase 256 xs
-first_below [] ys h = tt
-first_below (x ∷ xs) ys h = (h.0, first_below xs ys h.1)
-
-pub last_below : (xs ys : List ℕ) → AllBelowBase 256 (xs ++ ys) → AllBelowBase 256 ys
-last_below [] ys h = h
-last_below (x ∷ xs) ys h = last_below xs ys h.1
-
 pub payload_below : (b : List ℕ) → AllBelowBase 256 (payload_bytes b) → AllBelowBase 256 b
 payload_below [] h = tt
 payload_below (b ∷ bs) h = h.1
@@ -161,9 +154,9 @@ read_good bytes (Err fault) h e = tt
 read_good bytes (Ok m) h e =
     let spells = spelled_from_reading bytes m h e in
     let all : AllBelowBase 256 (spelling m) = subst (AllBelowBase 256) spells.parts (below bytes h) in
-    let behind_header = last_below (header_bytes m) _ all in
-    message_good m spells.well_formed.mid (first_below m.token _ behind_header)
-    (payload_below m.payload (last_below (options_bytes 0 m.options) _ (last_below m.token _ behind_header)))
+    let behind_header = below_back (header_bytes m) _ all in
+    message_good m spells.well_formed.mid (below_front m.token _ behind_header)
+    (payload_below m.payload (below_back (options_bytes 0 m.options) _ (below_back m.token _ behind_header)))
 
 own_good : (bytes : List ℕ) (k : Mnemonic) → IsGood k → IfSome (own bytes k) (λ m. IsGood m × (datagram_of m ≡ bytes))
 own_good bytes k good =

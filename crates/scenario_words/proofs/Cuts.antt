@@ -5,20 +5,14 @@ use Rattle.std.proofs.lemmas.Bool.{ltb-false}
 use Rattle.std.specs.List.{slice_split, onto_first, position, position_or_len}
 use Rattle.scenario_words.specs.Words.{HasTwo}
 use Rattle.std.proofs.lemmas.List.Splits.{slice_split_first}
-
-at_place : (b : Bool) (n k : ℕ) → cond b (Some n) None ≡ Some k → (b ≡ true) × (n ≡ k)
-at_place true n k h = (refl, cc)
-at_place false n k h = cc
-
-nowhere : (b : Bool) (n : ℕ) → cond b (Some n) None ≡ None → b ≡ false
-nowhere true n h = cc
-nowhere false n h = refl
+use Rattle.std.proofs.lemmas.Option.{cond_some}
+use Rattle.lemmas.proofs.Options.{no_choice}
 
 -- the first part ends at the first place
 pub split_at_place : (p : ℕ → Bool) (bs : List ℕ) (k : ℕ) → position p bs ≡ Some k
     → slice_split p bs ≡ take k bs ∷ slice_split p (drop (k + 1) bs)
 split_at_place p bs k h =
-    let found = at_place (ltb (position_or_len p bs) (length bs)) (position_or_len p bs) k h in
+    let found = cond_some (ltb (position_or_len p bs) (length bs)) (position_or_len p bs) k h in
     slice_split_first p bs 0 (ltb-true _ _ found.0) ∙ ap (λ n. take n bs ∷ slice_split p (drop (n + 1) bs)) found.1
 
 one_more : (b : Bool) (x : ℕ) (xs : List ℕ) (s : List (List ℕ)) (n : ℕ) → (length xs ≤ n → s ≡ xs ∷ [])
@@ -33,9 +27,9 @@ one_part p (x ∷ xs) h = one_more (p x) x xs (slice_split p xs) (position_or_le
 -- with no such place there is one part
 pub split_nowhere : (p : ℕ → Bool) (bs : List ℕ) → position p bs ≡ None → slice_split p bs ≡ bs ∷ []
 split_nowhere p bs h =
-    one_part p bs (ltb-false _ _ (nowhere (ltb (position_or_len p bs) (length bs)) (position_or_len p bs) h))
+    one_part p bs (ltb-false _ _ (no_choice (ltb (position_or_len p bs) (length bs)) (position_or_len p bs) h))
 
-first_part : (b : Bool) (x : ℕ) (ps : List (List ℕ)) → (y : List ℕ) × (ys : List (List ℕ))
+pub first_part : (b : Bool) (x : ℕ) (ps : List (List ℕ)) → (y : List ℕ) × (ys : List (List ℕ))
     × (cond b ([] ∷ ps) (onto_first x ps) ≡ y ∷ ys)
 first_part true x ps = ([], ps, refl)
 first_part false x [] = (x ∷ [], [], refl)

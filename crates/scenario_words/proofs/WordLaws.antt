@@ -5,7 +5,7 @@ use Rattle.std.specs.List.{onto_first, flat_map, join_with_byte, AllByRecursion}
 use Rattle.std.proofs.lemmas.Bool.{cases_eq, eq-eqb, ne_eqb}
 use Rattle.scenario_words.specs.Words.{Mode, gap, plain, quoted, scan, words, lines, ended_line, IsWord, IsLine}
 
-onto_some : (b : ℕ) (ps : List (List ℕ)) → onto_first b ps ≡ [] → ⊥
+pub onto_some : (b : ℕ) (ps : List (List ℕ)) → onto_first b ps ≡ [] → ⊥
 onto_some b [] e = cc
 onto_some b (p ∷ ps) e = cc
 
@@ -13,7 +13,7 @@ under : (b : ℕ) (ps : List (List ℕ)) (w : List ℕ) → (ps ≡ [] → ⊥) 
 under b [] w some e = absurd (some refl)
 under b (p ∷ ps) w some e = cc
 
-chosen_some : (t : Bool) (b : ℕ) (x : List ℕ) (xs ps : List (List ℕ)) → cond t (x ∷ xs) (onto_first b ps) ≡ [] → ⊥
+pub chosen_some : (t : Bool) (b : ℕ) (x : List ℕ) (xs ps : List (List ℕ)) → cond t (x ∷ xs) (onto_first b ps) ≡ [] → ⊥
 chosen_some true b x xs ps e = cc
 chosen_some false b x xs ps e = onto_some b ps e
 
@@ -102,7 +102,7 @@ mode_then : (q : Bool) (w tail : List ℕ) (ws : List (List ℕ)) → scan plain
 mode_then true = quoted_then
 mode_then false = plain_then
 
-mode_some : (q : Bool) (bs : List ℕ) → scan (cond q quoted plain) bs ≡ [] → ⊥
+pub mode_some : (q : Bool) (bs : List ℕ) → scan (cond q quoted plain) bs ≡ [] → ⊥
 mode_some true bs e = scan_some quoted bs (λ h. cc (h)) e
 mode_some false bs e = scan_some plain bs (λ h. cc (h)) e
 

@@ -1,9 +1,9 @@
 -- A rule is broken exactly where its test says so.
-use Rattle.std.proofs.Common.{◌≡◌, ℕ, ◌<◌, ◌≤◌, ◌-◌, Bool, true, false, not, ◌&&◌, List, refl, arith, nat_lt, nat_le}
+use Rattle.std.proofs.Common.{◌≡◌, ℕ, ◌-◌, Bool, true, false, not, ◌&&◌, List, refl, nat_le}
 use Rattle.std.specs.Prelude.{Option, None, Some, is_some}
 use Rattle.std.specs.List.{Any, list_any}
 use Rattle.std.proofs.lemmas.List.Folds.{Any-from_list_any, list_any-from_Any}
-use Rattle.std.proofs.lemmas.Bool.Decides.{nat_tests}
+use Rattle.std.proofs.lemmas.Bool.{and_from, not-true, leb-true, le-leb, ltb-true, lt-ltb}
 use Rattle.lemmas.proofs.Tests.{and_first, and_second, never_both}
 use Rattle.server_lint.specs.declared.rule.Rule.{Rule}
 use Rattle.server_lint.specs.declared.rule.Rule.TheVariants.{NotAMessage, MessageIdReused, RepeatedTooSoon}
@@ -29,14 +29,6 @@ use Rattle.server_lint.specs.Single.{is_confirmable, is_from_server, is_registra
 use Rattle.server_lint.specs.Single.{is_taken}
 use Rattle.server_lint.proofs.Then.{then_holds, then_passes}
 
-and_both : (a b : Bool) → a ≡ true → b ≡ true → (a && b) ≡ true
-and_both true b p q = q
-and_both false b p q = cc
-
-not_true : (b : Bool) → not b ≡ true → b ≡ false
-not_true true h = cc
-not_true false h = refl
-
 denied : (b : Bool) → (b ≡ true → ⊥) → not b ≡ true
 denied true h = absurd (h refl)
 denied false h = refl
@@ -51,22 +43,10 @@ is_no_value (Some x) h = cc
 
 -- nothing passes a test that no element passes
 none_of : {X : Type 0} (p : X → Bool) (xs : List X) → not (list_any p xs) ≡ true → Any (λ x. p x ≡ true) xs → ⊥
-none_of p xs h some = never_both (list_any p xs) (list_any-from_Any p xs some) (not_true (list_any p xs) h)
+none_of p xs h some = never_both (list_any p xs) (list_any-from_Any p xs some) (not-true (list_any p xs) h)
 
 of_none : {X : Type 0} (p : X → Bool) (xs : List X) → (Any (λ x. p x ≡ true) xs → ⊥) → not (list_any p xs) ≡ true
 of_none p xs none = denied (list_any p xs) (λ h. none (Any-from_list_any p xs h))
-
-below : (a b : ℕ) → nat_lt a b ≡ true → a < b
-below a b h = grind (arith, nat_tests)
-
-is_below : (a b : ℕ) → a < b → nat_lt a b ≡ true
-is_below a b h = grind (arith, nat_tests)
-
-at_most : (a b : ℕ) → nat_le a b ≡ true → a ≤ b
-at_most a b h = grind (arith, nat_tests)
-
-is_at_most : (a b : ℕ) → a ≤ b → nat_le a b ≡ true
-is_at_most a b h = grind (arith, nat_tests)
 
 is_not : (b : Bool) → b ≡ false → not b ≡ true
 is_not true h = cc
@@ -90,7 +70,7 @@ answered_too earlier t rest h =
 is_too : (earlier t : Transmission) (rest : List Transmission) → IsAnsweredToo earlier t rest
     → is_answered_too earlier t rest ≡ true
 is_too earlier t rest b =
-    and_both _ _ b.received (and_both _ _ b.token (and_both _ _ b.request b.answered))
+    and_from _ _ b.received (and_from _ _ b.token (and_from _ _ b.request b.answered))
 
 reset_later : (earlier t : Transmission) (rest : List Transmission) → is_reset_later earlier t rest ≡ true
     → IsReset earlier t rest
@@ -102,14 +82,14 @@ reset_later earlier t rest h =
 
 is_later : (earlier t : Transmission) (rest : List Transmission) → IsReset earlier t rest
     → is_reset_later earlier t rest ≡ true
-is_later earlier t rest b = and_both _ _ b.sent (list_any-from_Any (λ later. resets t later) rest b.reset)
+is_later earlier t rest b = and_from _ _ b.sent (list_any-from_Any (λ later. resets t later) rest b.reset)
 
 -- nothing passes a test with those after it where the test never passes
 none_then : (P : Transmission → List Transmission → Type 0) (test : Transmission → List Transmission → Bool)
     → ((t : Transmission) (rest : List Transmission) → P t rest → test t rest ≡ true) → (all : List Transmission)
     → not (any_then test all) ≡ true → AnyThen P all → ⊥
 none_then P test means all h some =
-    never_both (any_then test all) (then_passes P test means all some) (not_true (any_then test all) h)
+    never_both (any_then test all) (then_passes P test means all some) (not-true (any_then test all) h)
 
 of_none_then : (P : Transmission → List Transmission → Type 0) (test : Transmission → List Transmission → Bool)
     → ((t : Transmission) (rest : List Transmission) → test t rest ≡ true → P t rest) → (all : List Transmission)
@@ -139,10 +119,10 @@ living registration after h =
 is_living : (registration : Transmission) (after : List Transmission) → Lives registration after
     → lives registration after ≡ true
 is_living registration after b =
-    and_both _ _ b.registered (and_both _ _ b.taken
-    (and_both _ _ (of_none_then (IsAnsweredToo registration) (is_answered_too registration) (answered_too registration)
+    and_from _ _ b.registered (and_from _ _ b.taken
+    (and_from _ _ (of_none_then (IsAnsweredToo registration) (is_answered_too registration) (answered_too registration)
     after b.alone)
-    (and_both _ _ (of_none (λ t. ends registration t) after b.observed)
+    (and_from _ _ (of_none (λ t. ends registration t) after b.observed)
     (of_none_then (IsReset registration) (is_reset_later registration) (reset_later registration) after b.kept))))
 
 late_answer : (this first : Transmission) (since : List Transmission) → is_late_answer this first since ≡ true
@@ -155,15 +135,15 @@ late_answer this first since h =
     record {
       con = and_first _ _ one;
       answer = and_first _ _ h;
-      resent = at_most 4 (times_again_within 247 first since) (and_first _ _ two);
+      resent = leb-true 4 (times_again_within 247 first since) (and_first _ _ two);
       unanswered = none_of (λ t. answers first t) since (and_second _ _ two);
     }
 
 is_late_one : (this first : Transmission) (since : List Transmission) → IsLateAnswer this first since
     → is_late_answer this first since ≡ true
 is_late_one this first since b =
-    and_both _ _ b.answer (and_both _ _ b.con
-    (and_both _ _ (is_at_most 4 (times_again_within 247 first since) b.resent)
+    and_from _ _ b.answer (and_from _ _ b.con
+    (and_from _ _ (le-leb 4 (times_again_within 247 first since) b.resent)
     (of_none (λ t. answers first t) since b.unanswered)))
 
 again_after : (this earlier : Transmission) (since : List Transmission)
@@ -177,7 +157,7 @@ again_after this earlier since h =
 is_again_one : (this earlier : Transmission) (since : List Transmission) → IsAgainAfterReply this earlier since
     → is_again_after_reply this earlier since ≡ true
 is_again_one this earlier since b =
-    and_both _ _ b.again (list_any-from_Any (λ t. replies earlier t) since b.replied)
+    and_from _ _ b.again (list_any-from_Any (λ t. replies earlier t) since b.replied)
 
 of_other : (this registration : Transmission) (since : List Transmission)
     → is_token_of_other this registration since ≡ true → IsTokenOfOther this registration since
@@ -185,15 +165,15 @@ of_other this registration since h =
     let one : (lives registration since && not (shares_path registration this)) ≡ true = and_second _ _ h in
     record {
       token = and_first _ _ h;
-      other = not_true (shares_path registration this) (and_second _ _ one);
+      other = not-true (shares_path registration this) (and_second _ _ one);
       lives = living registration since (and_first _ _ one);
     }
 
 is_of_other : (this registration : Transmission) (since : List Transmission)
     → IsTokenOfOther this registration since → is_token_of_other this registration since ≡ true
 is_of_other this registration since b =
-    and_both _ _ b.token
-    (and_both _ _ (is_living registration since b.lives) (is_not (shares_path registration this) b.other))
+    and_from _ _ b.token
+    (and_from _ _ (is_living registration since b.lives) (is_not (shares_path registration this) b.other))
 
 fresh_for : (this registration : Transmission) (since : List Transmission)
     → is_fresh_for this registration since ≡ true → IsFreshFor this registration since
@@ -212,15 +192,15 @@ fresh_for this registration since h =
 is_fresh_one : (this registration : Transmission) (since : List Transmission) → IsFreshFor this registration since
     → is_fresh_for this registration since ≡ true
 is_fresh_one this registration since b =
-    and_both _ _ b.token
-    (and_both _ _ (is_living registration since b.lives)
-    (and_both _ _ b.same (list_any-from_Any (λ t. is_sent_within 65 registration this t) since b.fresh)))
+    and_from _ _ b.token
+    (and_from _ _ (is_living registration since b.lives)
+    (and_from _ _ b.same (list_any-from_Any (λ t. is_sent_within 65 registration this t) since b.fresh)))
 
 asked : (t : Transmission) → is_request_from_server t ≡ true → IsRequestFromServer t
 asked t h = record { received = and_first _ _ h; request = and_second _ _ h }
 
 is_asked : (t : Transmission) → IsRequestFromServer t → is_request_from_server t ≡ true
-is_asked t b = and_both _ _ b.received b.request
+is_asked t b = and_from _ _ b.received b.request
 
 -- ---- each rule
 
@@ -242,7 +222,7 @@ broken RepeatedTooOften before t after end h =
     let con : is_con_from_server t ≡ true = and_first _ _ h in
     record {
       con = record { received = and_first _ _ con; con = and_second _ _ con };
-      many = below 4 (times_sent_within 247 before t) (and_second _ _ h);
+      many = ltb-true 4 (times_sent_within 247 before t) (and_second _ _ h);
     }
 broken AnswersNothing before t after end h =
     let rest : (is_reply (message_of t) && not (answers_some before t)) ≡ true = and_second _ _ h in
@@ -258,9 +238,9 @@ broken NotificationNotAcknowledged before t after end h =
     = and_second _ _ one in
     let three : (not (was_sent_within 247 before t) && not (is_answered t after)) ≡ true = and_second _ _ two in
     record {
-      sent = not_true (is_from_server t) (and_first _ _ h);
+      sent = not-true (is_from_server t) (and_first _ _ h);
       con = and_first _ _ one;
-      passed = at_most 93 (end - t.second) (and_first _ _ two);
+      passed = leb-true 93 (end - t.second) (and_first _ _ two);
       first = none_of (λ e. is_again_within 247 e t) before (and_first _ _ three);
       unanswered = none_of (λ later. answers t later) after (and_second _ _ three);
     }
@@ -310,39 +290,39 @@ broken ObservationLeft before t after end h = living t after h
 pub breaking : (rule : Rule) (before : List Transmission) (t : Transmission) (after : List Transmission) (end : ℕ)
     → IsBroken rule (place before t after end) → breaks rule before t after end ≡ true
 breaking NotAMessage before t after end b =
-    and_both _ _ b.received (is_no_value (message_of t) b.unread)
+    and_from _ _ b.received (is_no_value (message_of t) b.unread)
 breaking MessageIdReused before t after end b = list_any-from_Any (λ e. reuses_id e t) before b
 breaking RepeatedTooSoon before t after end b =
-    and_both _ _ (and_both _ _ b.con.received b.con.con)
+    and_from _ _ (and_from _ _ b.con.received b.con.con)
     (list_any-from_Any (λ e. is_again_within 2 e t) before b.again)
 breaking RepeatedTooOften before t after end b =
-    and_both _ _ (and_both _ _ b.con.received b.con.con) (is_below 4 (times_sent_within 247 before t) b.many)
+    and_from _ _ (and_from _ _ b.con.received b.con.con) (lt-ltb 4 (times_sent_within 247 before t) b.many)
 breaking AnswersNothing before t after end b =
-    and_both _ _ b.received (and_both _ _ b.reply (of_none (λ e. answers e t) before b.nothing))
+    and_from _ _ b.received (and_from _ _ b.reply (of_none (λ e. answers e t) before b.nothing))
 breaking NotificationNotAcknowledged before t after end b =
-    and_both _ _ (is_not (is_from_server t) b.sent) (and_both _ _ b.con
-    (and_both _ _ (is_at_most 93 (end - t.second) b.passed)
-    (and_both _ _ (of_none (λ e. is_again_within 247 e t) before b.first)
+    and_from _ _ (is_not (is_from_server t) b.sent) (and_from _ _ b.con
+    (and_from _ _ (le-leb 93 (end - t.second) b.passed)
+    (and_from _ _ (of_none (λ e. is_again_within 247 e t) before b.first)
     (of_none (λ later. answers t later) after b.unanswered))))
-breaking UnknownCriticalOption before t after end b = and_both _ _ b.received b.unknown
-breaking EmptyPathSegment before t after end b = and_both _ _ b.received b.empty
-breaking ReplyNotEmpty before t after end b = and_both _ _ b.received b.full
+breaking UnknownCriticalOption before t after end b = and_from _ _ b.received b.unknown
+breaking EmptyPathSegment before t after end b = and_from _ _ b.received b.empty
+breaking ReplyNotEmpty before t after end b = and_from _ _ b.received b.full
 breaking AcknowledgedLate before t after end b =
-    and_both _ _ b.received
-    (and_both _ _ b.reply (then_passes (IsLateAnswer t) (is_late_answer t) (is_late_one t) before b.late))
+    and_from _ _ b.received
+    (and_from _ _ b.reply (then_passes (IsLateAnswer t) (is_late_answer t) (is_late_one t) before b.late))
 breaking RepeatedAfterReply before t after end b =
-    and_both _ _ (and_both _ _ b.con.received b.con.con)
+    and_from _ _ (and_from _ _ b.con.received b.con.con)
     (then_passes (IsAgainAfterReply t) (is_again_after_reply t) (is_again_one t) before b.replied)
-breaking NumberNotShortest before t after end b = and_both _ _ b.received b.long
+breaking NumberNotShortest before t after end b = and_from _ _ b.received b.long
 breaking TokenInUse before t after end b =
-    and_both _ _ (is_asked t b.request)
+    and_from _ _ (is_asked t b.request)
     (then_passes (IsTokenOfOther t) (is_token_of_other t) (is_of_other t) before b.used)
 breaking RegisteredWhileFresh before t after end b =
-    and_both _ _ b.registered (and_both _ _ (of_none (λ e. is_repeat e t) before b.anew)
+    and_from _ _ b.registered (and_from _ _ (of_none (λ e. is_repeat e t) before b.anew)
     (then_passes (IsFreshFor t) (is_fresh_for t) (is_fresh_one t) before b.fresh))
-breaking ObservationNotTaken before t after end b = and_both _ _ b.registered b.refused
-breaking RequestRefused before t after end b = and_both _ _ (is_asked t b.request) b.refused
+breaking ObservationNotTaken before t after end b = and_from _ _ b.registered b.refused
+breaking RequestRefused before t after end b = and_from _ _ (is_asked t b.request) b.refused
 breaking RequestUnanswered before t after end b =
-    and_both _ _ (is_asked t b.request) (and_both _ _ (of_none (λ e. is_repeat e t) before b.anew)
+    and_from _ _ (is_asked t b.request) (and_from _ _ (of_none (λ e. is_repeat e t) before b.anew)
     (of_none (λ later. responds t later) after b.unanswered))
 breaking ObservationLeft before t after end b = is_living t after b

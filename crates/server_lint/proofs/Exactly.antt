@@ -3,6 +3,7 @@ use Rattle.std.proofs.Common.{◌≡◌, ℕ, zero, suc, ◌<◌, List, [], ◌�
 use Rattle.std.proofs.Common.{refl, sym, ap, subst, arith}
 use Rattle.std.specs.List.{Contains}
 use Rattle.std.proofs.lemmas.Option.{slice_get_within}
+use Rattle.lemmas.proofs.Lists.{contains_later}
 use Rattle.server_lint.specs.declared.rule.Rule.{Rule}
 use Rattle.server_lint.specs.declared.rule.Rule.TheVariants.{NotAMessage, MessageIdReused, RepeatedTooSoon}
 use Rattle.server_lint.specs.declared.rule.Rule.TheVariants.{RepeatedTooOften, AnswersNothing}
@@ -35,28 +36,25 @@ all_hold chosen history end found f are there =
 
 -- ---- each finding is found
 
--- it is the first one, or one of the others
-behind : {X : Type 0} (x f : X) (rest : List X) → Contains rest f → Contains (x ∷ rest) f
-behind x f rest there = (suc there.0, omega (arith, there.1), there.2)
-
 those_found : {X : Type 0} (P : X → Type 0) (xs found : List X) (f : X) → AreThose P xs found → P f → (k : ℕ)
     → k < length xs → get_or xs k f ≡ f → Contains found f
 those_found P [] found f h p k within e = absurd (omega arith)
 those_found P (x ∷ xs) found f (inl h) p zero within e =
     subst (λ l. Contains l f) (sym h.1.1) (zero, omega arith, e)
 those_found P (x ∷ xs) found f (inl h) p (suc k) within e =
-    subst (λ l. Contains l f) (sym h.1.1) (behind x f h.1.0 (those_found P xs h.1.0 f h.1.2 p k (omega arith) e))
+    subst (λ l. Contains l f) (sym h.1.1) (contains_later x f h.1.0
+    (those_found P xs h.1.0 f h.1.2 p k (omega arith) e))
 those_found P (x ∷ xs) found f (inr h) p zero within e = absurd (h.0 (subst P (sym e) p))
 those_found P (x ∷ xs) found f (inr h) p (suc k) within e = those_found P xs found f h.1 p k (omega arith) e
 
 in_first : {X : Type 0} (xs ys : List X) (f : X) → Contains xs f → Contains (xs ++ ys) f
 in_first [] ys f (k, within, e) = absurd (omega arith)
 in_first (x ∷ xs) ys f (zero, within, e) = (zero, omega arith, e)
-in_first (x ∷ xs) ys f (suc k, within, e) = behind x f (xs ++ ys) (in_first xs ys f (k, omega arith, e))
+in_first (x ∷ xs) ys f (suc k, within, e) = contains_later x f (xs ++ ys) (in_first xs ys f (k, omega arith, e))
 
 in_second : {X : Type 0} (xs ys : List X) (f : X) → Contains ys f → Contains (xs ++ ys) f
 in_second [] ys f there = there
-in_second (x ∷ xs) ys f there = behind x f (xs ++ ys) (in_second xs ys f there)
+in_second (x ∷ xs) ys f there = contains_later x f (xs ++ ys) (in_second xs ys f there)
 
 -- each rule is among the candidates of a place
 among : (place : ℕ) (rule : Rule) → Contains (candidates_at place) (record { place = place; rule = rule })

@@ -1,6 +1,7 @@
 -- Tests of a datagram with those after it, over a list that is gone through from its head.
-use Rattle.std.proofs.Common.{◌≡◌, ℕ, zero, suc, ◌-◌, ◌≤◌, Bool, true, false, ◌||◌, ◌⊎◌, inl, inr, List, []}
+use Rattle.std.proofs.Common.{◌≡◌, ℕ, zero, suc, ◌-◌, ◌≤◌, Bool, true, false, ◌||◌, inl, inr, List, []}
 use Rattle.std.proofs.Common.{◌∷◌, ◌++◌, length, get_or, take, drop, refl, sym, ap, subst, ◌∙◌, arith}
+use Rattle.std.proofs.lemmas.Bool.{or_cases}
 use Rattle.server_lint.specs.History.{Transmission}
 use Rattle.server_lint.specs.Inside.{any_then}
 use Rattle.server_lint.specs.Observing.{AnyThen}
@@ -57,17 +58,13 @@ past_more P x xs h =
       holds = h.holds;
     }
 
-cases : (a b : Bool) → (a || b) ≡ true → (a ≡ true) ⊎ (b ≡ true)
-cases true b h = inl refl
-cases false b h = inr h
-
 -- where the test passes, what it tests holds
 pub then_holds : (P : Transmission → List Transmission → Type 0) (test : Transmission → List Transmission → Bool)
     → ((t : Transmission) (rest : List Transmission) → test t rest ≡ true → P t rest) → (all : List Transmission)
     → any_then test all ≡ true → AnyThen P all
 then_holds P test means [] h = cc
 then_holds P test means (x ∷ xs) h =
-    elim (cases (test x xs) (any_then test xs) h) [
+    elim (or_cases (test x xs) (any_then test xs) h) [
       | inl here ↦ record { past = []; this = x; rest = xs; stands = refl; holds = means x xs here }
       | inr later ↦ past_more P x xs (then_holds P test means xs later)
     ]

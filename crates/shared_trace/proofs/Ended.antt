@@ -1,7 +1,8 @@
 -- The devices before which all others are at the ends of their rows.
-use Rattle.std.proofs.Common.{◌≡◌, ℕ, ◌<◌, ◌⊎◌, inl, inr, Bool, true, false, not, List, set, Some, slice_get}
+use Rattle.std.proofs.Common.{◌≡◌, ℕ, ◌<◌, ◌⊎◌, inl, inr, true, false, List, set, Some, slice_get}
 use Rattle.std.proofs.Common.{refl, sym, subst, ◌∙◌, arith}
-use Rattle.std.proofs.lemmas.Bool.{cases_eq, false≢true}
+use Rattle.std.proofs.lemmas.Bool.{cases_eq, false≢true, not-true}
+use Rattle.lemmas.proofs.Lists.{set_elsewhere}
 use Rattle.scenario_image.specs.Scenario.{Scenario}
 use Rattle.trace_file.specs.declared.entry.Entry.{Entry}
 use Rattle.fleet_core.specs.Waiting.{is_waiting}
@@ -12,7 +13,6 @@ use Rattle.shared_trace.specs.declared.station.Place.TheVariants.{Parked, Out}
 use Rattle.shared_trace.specs.declared.station.Station.{Station}
 use Rattle.shared_trace.specs.Kept.{is_end}
 use Rattle.shared_trace.specs.Kept.{IsTrace, AreEnded, is_ready_in}
-use Rattle.shared_trace.proofs.Lists.{get-set_other}
 use Rattle.shared_trace.proofs.Stations.{left_is}
 
 -- a device at its end is not ready
@@ -34,11 +34,7 @@ ended_by : (stations : List Station) (low d i : ℕ) (x y z : Station) → AreEn
 ended_by stations low d i x y z ended at going less here (inl own) =
     absurd (false≢true (sym going ∙ ended d x (subst (λ j. j < low) (sym own) less) at))
 ended_by stations low d i x y z ended at going less here (inr other) =
-    ended i z less (sym (get-set_other stations d i y other) ∙ here)
-
-going_on : (b : Bool) → not b ≡ true → b ≡ false
-going_on true h = absurd (false≢true h)
-going_on false h = refl
+    ended i z less (sym (set_elsewhere stations d i y other) ∙ here)
 
 -- a device with a step left is none of those, so its station may change
 pub ended_set : (s : Scenario) (es : List Entry) (stations : List Station) (counts : List ℕ) (low d i : ℕ)
@@ -47,4 +43,4 @@ pub ended_set : (s : Scenario) (es : List Entry) (stations : List Station) (coun
 ended_set s es stations counts low d i x y t at waits from ended =
     subst (λ j. AreEnded (set stations j y) low) (sym from)
     (λ j z less here. ended_by stations low d j x y z ended at
-    (going_on (is_end x.next) (sym (left_is s es stations counts d x t at) ∙ waits)) less here (cases_eq d j))
+    (not-true (is_end x.next) (sym (left_is s es stations counts d x t at) ∙ waits)) less here (cases_eq d j))

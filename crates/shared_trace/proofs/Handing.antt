@@ -6,10 +6,12 @@ use Rattle.std.specs.List.{AllByRecursion}
 use Rattle.std.proofs.lemmas.List.{length-set, append-nil}
 use Rattle.std.proofs.lemmas.Option.{slice_get_read, slice_get_within}
 use Rattle.std.proofs.lemmas.Bool.{cases_eq, ne_eqb, false≢true}
+use Rattle.lemmas.proofs.Lists.{item_set, set_elsewhere, item_mapped, set_gives}
 use Rattle.scenario_image.specs.Scenario.{Scenario}
 use Rattle.trace_file.specs.declared.entry.Entry.{Entry}
 use Rattle.fleet_core.specs.Run.{made_by, is_enabled, IsRun}
 use Rattle.fleet_core.specs.Board.{HoldsAfter, Holding, ShowsAfter}
+use Rattle.fleet_core.proofs.Ends.{goes_waits}
 use Rattle.ticket_lock.specs.Log.{Adds}
 use Rattle.shared_trace.specs.declared.station.Place.TheVariants.{Parked, Out}
 use Rattle.shared_trace.specs.declared.station.Station.{Station}
@@ -18,8 +20,7 @@ use Rattle.shared_trace.specs.Stops.{numbers_in}
 use Rattle.shared_trace.specs.Trace.{Traced, IsPlaced, IsReady, with_out, has_stopped, open_by, trace_log}
 use Rattle.shared_trace.specs.Kept.{IsTrace, IsStation, AreEnded, IsOnWay, IsJob, is_parked, places_of}
 use Rattle.shared_trace.specs.Kept.{table_length}
-use Rattle.shared_trace.proofs.Lists.{set_gives, get-set_same, get-set_other, at_map, from_map, map-set, same_some}
-use Rattle.shared_trace.proofs.Nexts.{enabled_waits}
+use Rattle.shared_trace.proofs.Lists.{from_map, map-set, same_some}
 use Rattle.shared_trace.proofs.Open.{open_same, open_has}
 use Rattle.shared_trace.proofs.Stations.{traced}
 use Rattle.shared_trace.proofs.Ended.{ended_set}
@@ -64,13 +65,13 @@ out_station s es stations counts d w i x y z shown h out made next at (inl own) 
     subst (λ j. IsStation s es j z) own
     (subst (IsStation s es d) (set_gives stations d y z
     (subst (λ j. slice_get (set stations d y) j ≡ Some z) (sym own) at)) (record {
-      placed = subst (IsPlaced s es d) (sym out) (enabled_waits s es d h.enabled);
+      placed = subst (IsPlaced s es d) (sym out) (goes_waits s es d h.enabled);
       made = made ∙ (h.trace.each d x h.at).made;
       next = next ∙ (h.trace.each d x h.at).next;
       known = λ parked. absurd (false≢true (sym (ap is_parked out) ∙ parked));
     }))
 out_station s es stations counts d w i x y z shown h out made next at (inr other) =
-    h.trace.each i z (sym (get-set_other stations d i y other) ∙ at)
+    h.trace.each i z (sym (set_elsewhere stations d i y other) ∙ at)
 
 pub out_trace : (s : Scenario) (es : List Entry) (stations : List Station) (counts : List ℕ) (d w i : ℕ) (x y : Station)
     (shown : Holding) → IsHanded s es stations counts d x shown
@@ -90,7 +91,7 @@ pub out_ended : (s : Scenario) (es : List Entry) (stations : List Station) (coun
     (shown : Holding) → IsHanded s es stations counts d x shown
     → i ≡ d → AreEnded stations low → AreEnded (set stations i y) low
 out_ended s es stations counts low d i x y shown h from ended =
-    ended_set s es stations counts low d i x y h.trace h.at (enabled_waits s es d h.enabled) from ended
+    ended_set s es stations counts low d i x y h.trace h.at (goes_waits s es d h.enabled) from ended
 
 pub out_view : (v : Traced) (s : Scenario) (es : List Entry) (stations : List Station) (stops : Stops) (d w i : ℕ)
     (y : Station) → traced s es stations stops ≡ v
@@ -124,7 +125,7 @@ out_stands v new claimed d w x at is same =
     (let here : 0 + d ≡ d = omega arith in
     subst (λ j. Contains (open_by (with_out v d w) w) (j, made_by j v.entries)) here
     (open_has w (set v.places d (Out w)) v.entries 0 d
-    (get-set_same v.places d (Out w) (slice_get_within v.places d (Parked x) at)))))
+    (item_set v.places d (Out w) (slice_get_within v.places d (Parked x) at)))))
 
 -- ---- the job
 
@@ -174,7 +175,7 @@ pub parked_now : (v : Traced) (s : Scenario) (es : List Entry) (stations : List 
     → slice_get v.places d ≡ Some (Parked machine)
 parked_now v s es stations counts stops d x shown machine view h device =
     subst (λ u. slice_get u.places d ≡ Some (Parked machine)) view
-    (at_map (λ y. y.place) stations d x h.at ∙ ap Some device)
+    (item_mapped (λ y. y.place) stations d x h.at ∙ ap Some device)
 
 pub shows_now : (v : Traced) (s : Scenario) (es : List Entry) (stations : List Station) (counts : List ℕ)
     (stops : Stops) (d : ℕ) (x : Station) (shown machine : Holding)

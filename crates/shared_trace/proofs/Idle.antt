@@ -3,12 +3,12 @@ use Rattle.std.proofs.Common.{◌≡◌, ℕ, ◌+◌, ◌<◌, ◌≤◌, ◌�
 use Rattle.std.proofs.Common.{refl, sym, ap, subst, ◌∙◌, arith}
 use Rattle.std.specs.Prelude.{◌==◌, count_by}
 use Rattle.std.proofs.lemmas.Bool.{cases_eq}
+use Rattle.lemmas.proofs.Lists.{set_elsewhere, set_gives}
 use Rattle.fleet_core.specs.declared.next.Next.{Next}
 use Rattle.shared_trace.specs.declared.station.Place.{Place}
 use Rattle.shared_trace.specs.declared.station.Place.TheVariants.{Parked, Out}
 use Rattle.shared_trace.specs.declared.station.Station.{Station}
 use Rattle.shared_trace.specs.Kept.{AreEnded, AreIdle, LooksFrom, is_ready, is_ready_in}
-use Rattle.shared_trace.proofs.Lists.{set_gives, get-set_other}
 use Rattle.shared_trace.proofs.Nexts.{next_same}
 use Rattle.shared_trace.proofs.Ended.{not_ready}
 
@@ -32,7 +32,7 @@ out_by posts stations first d i w y z idle out less here (inl own) =
     (set_gives stations d y z (subst (λ j. slice_get (set stations d y) j ≡ Some z) (sym own) here))
     (ap (λ p. is_ready_in posts p y.next) out)
 out_by posts stations first d i w y z idle out less here (inr other) =
-    idle i z less (sym (get-set_other stations d i y other) ∙ here)
+    idle i z less (sym (set_elsewhere stations d i y other) ∙ here)
 
 pub out_idle : (posts : ℕ → ℕ) (stations : List Station) (first d w : ℕ) (y : Station) → y.place ≡ Out w
     → AreIdle posts stations first → AreIdle posts (set stations d y) first
@@ -50,7 +50,7 @@ before_it : (old new : ℕ → ℕ) (stations : List Station) (first d i : ℕ) 
 before_it old new stations first d i y idle same most below j z less here =
     ready_same new old z.place z.next same
     ∙ idle j z (omega (arith, less, most))
-    (sym (get-set_other stations d j y (λ e. omega (arith, e, less, below))) ∙ here)
+    (sym (set_elsewhere stations d j y (λ e. omega (arith, e, less, below))) ∙ here)
 
 pub put_idle : (old new : ℕ → ℕ) (stations : List Station) (first low d e i : ℕ) (groups : List ℕ) (y : Station)
     → AreEnded (set stations e y) low → AreIdle old stations first → e ≡ d

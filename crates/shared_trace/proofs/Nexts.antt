@@ -1,8 +1,9 @@
 -- What a device's next step asks for, and what the scenario says of it.
-use Rattle.std.proofs.Common.{◌≡◌, ℕ, ◌<◌, ◌≤◌, nat_lt, nat_le, ◌⊎◌, inl, inr, true, false, not, List, length, Option}
-use Rattle.std.proofs.Common.{None, Some, slice_get, refl, sym, ap, ◌∙◌}
+use Rattle.std.proofs.Common.{◌≡◌, ℕ, ◌<◌, ◌≤◌, nat_lt, nat_le, ◌⊎◌, inl, inr, true, false, not, List, length}
+use Rattle.std.proofs.Common.{Some, slice_get, refl, sym, ap, ◌∙◌}
 use Rattle.std.proofs.lemmas.Bool.{lt-ltb, le-ltb, cases_lt}
 use Rattle.std.proofs.lemmas.Option.{slice_get_past}
+use Rattle.lemmas.proofs.Lists.{item_at}
 use Rattle.scenario_image.specs.declared.step.Step.{Step}
 use Rattle.scenario_image.specs.declared.step.Step.TheVariants as step
 use Rattle.scenario_image.specs.Scenario.{Scenario}
@@ -13,7 +14,6 @@ use Rattle.fleet_core.specs.Waiting.{is_waiting}
 use Rattle.fleet_core.specs.declared.next.Next.{Next}
 use Rattle.fleet_core.specs.declared.next.Next.TheVariants.{End, Free, Waits}
 use Rattle.shared_trace.specs.Kept.{is_end}
-use Rattle.shared_trace.proofs.Lists.{some_at}
 
 pub next_same : (p q : ℕ → ℕ) (n : Next) → ((g : ℕ) → p g ≡ q g) → may_pass p n ≡ may_pass q n
 next_same p q End h = refl
@@ -35,7 +35,7 @@ left_here (step.Need group count) = refl
 left_by : (xs : List Step) (k : ℕ) → (k < length xs) ⊎ (length xs ≤ k)
     → nat_lt k (length xs) ≡ not (is_end (next_of (slice_get xs k)))
 left_by xs k (inl h) =
-    let found = some_at xs k h in
+    let found = item_at xs k h in
     lt-ltb k (length xs) h ∙ (left_here found.0 ∙ ap (λ o. not (is_end (next_of o))) (sym found.1))
 left_by xs k (inr h) = le-ltb k (length xs) h ∙ ap (λ o. not (is_end (next_of o))) (sym (slice_get_past xs k h))
 
@@ -44,16 +44,6 @@ pub waiting_is : (s : Scenario) (es : List Entry) (d : ℕ)
     → is_waiting s es d ≡ not (is_end (next_of (step_at s d (made_by d es))))
 waiting_is s es d =
     let xs = steps_in (slice_get s.rows d) in left_by xs (made_by d es) (cases_lt (made_by d es) (length xs))
-
-passes_left : (p : ℕ → ℕ) (o : Option Step) → may_pass p (next_of o) ≡ true → not (is_end (next_of o)) ≡ true
-passes_left p None h = h
-passes_left p (Some (step.Event event)) h = refl
-passes_left p (Some (step.Post group)) h = refl
-passes_left p (Some (step.Need group count)) h = refl
-
--- a device that can step is not at the end of its row
-pub enabled_waits : (s : Scenario) (es : List Entry) (d : ℕ) → is_enabled s es d ≡ true → is_waiting s es d ≡ true
-enabled_waits s es d go = waiting_is s es d ∙ passes_left (λ g. posts_of s g es) (step_at s d (made_by d es)) go
 
 pub past_waiting : (s : Scenario) (es : List Entry) (d : ℕ) → length s.rows ≤ d → is_waiting s es d ≡ false
 past_waiting s es d past =

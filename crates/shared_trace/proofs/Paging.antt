@@ -7,9 +7,9 @@ use Rattle.std.proofs.lemmas.Grind.{div_ceil_times}
 use Rattle.std.specs.Global.{Vec}
 use Rattle.std.specs.List.{AllByRecursion}
 use Rattle.std.proofs.lemmas.List.{flat_map_more}
+use Rattle.lemmas.proofs.Lists.{each_pushed}
 use Rattle.trace_file.specs.declared.entry.Entry.{Entry}
 use Rattle.shared_trace.specs.Pages.{Paged, entries_in, IsFullPage, IsSparePage, ArePages}
-use Rattle.shared_trace.proofs.Lists.{all-push}
 
 all-last : {X : Type 0} (P : X → Type 0) (xs : List X) (x : X) → AllByRecursion P (xs ++ x ∷ [])
     → AllByRecursion P xs × P x
@@ -75,7 +75,7 @@ module _ (full spare left : List (Vec Entry)) (places : ℕ) (last page new : Ve
       → more ≡ full ++ last ∷ [] → room ≡ places → ArePages more room new left
   pages_there more room memory is same = record {
     before = subst (AllByRecursion IsFullPage) (sym is)
-        (all-push IsFullPage full last pages.before (omega (arith, pages.within, past)));
+        (each_pushed IsFullPage full last pages.before (omega (arith, pages.within, past)));
     within = omega (arith, one);
     memory = omega (arith, spares.1.1, memory);
     after = spares.0;
@@ -117,7 +117,7 @@ page_added full spare more places room last page pages is empty memory fits = re
   before = pages.before;
   within = pages.within;
   memory = pages.memory;
-  after = subst (AllByRecursion IsSparePage) (sym is) (all-push IsSparePage spare page pages.after (empty, memory));
+  after = subst (AllByRecursion IsSparePage) (sym is) (each_pushed IsSparePage spare page pages.after (empty, memory));
   fits = omega (arith, fits, ap length is, length-append spare (page ∷ []));
 }
 

@@ -6,6 +6,7 @@ use Rattle.std.specs.List.{AllByRecursion}
 use Rattle.std.proofs.lemmas.List.{length-set}
 use Rattle.std.proofs.lemmas.Option.{slice_get_within}
 use Rattle.std.proofs.lemmas.Bool.{cases_eq, ne_eqb}
+use Rattle.lemmas.proofs.Lists.{set_elsewhere, set_gives}
 use Rattle.scenario_image.specs.Scenario.{Scenario}
 use Rattle.trace_file.specs.declared.entry.Entry.{Entry}
 use Rattle.fleet_core.specs.Run.{steps_in, made_by, posts_of, step_at, IsRun}
@@ -25,7 +26,7 @@ use Rattle.shared_trace.specs.Stops.{numbers_in, is_among}
 use Rattle.shared_trace.specs.Trace.{Traced, IsPlaced, with_block, trace_log}
 use Rattle.shared_trace.specs.Job.{Task, IsOf, MayPut}
 use Rattle.shared_trace.specs.Kept.{IsTrace, IsStation, AreEnded, IsTask, IsOnWay, IsJob, places_of}
-use Rattle.shared_trace.proofs.Lists.{set_gives, get-set_other, from_map, map-set, all_weaker}
+use Rattle.shared_trace.proofs.Lists.{from_map, map-set, all_weaker}
 use Rattle.shared_trace.proofs.Open.{IsOpen, open_same, open_tells}
 use Rattle.shared_trace.proofs.Stations.{traced}
 use Rattle.shared_trace.proofs.Ended.{ended_set}
@@ -126,7 +127,7 @@ module _ {s : Scenario} {es : List Entry} {stations : List Station} {counts : Li
         known = λ parked. ap length table ∙ f.way.table;
       }))
   put_station y z i place made next table at (inr other) =
-      let old : IsStation s es i z = f.trace.each i z (sym (get-set_other stations d i y other) ∙ at) in
+      let old : IsStation s es i z = f.trace.each i z (sym (set_elsewhere stations d i y other) ∙ at) in
       let same : made_by i (es ++ block) ≡ made_by i es = block_others d i es block own_block other in
       record {
         placed = placed_same i z.place same old.placed;

@@ -1,7 +1,8 @@
 -- The stations of a scenario at its start.
-use Rattle.std.proofs.Common.{◌≡◌, ℕ, zero, suc, ◌⊎◌, inl, inr, true, List, [], ◌∷◌, ◌++◌, length, replicate, None}
-use Rattle.std.proofs.Common.{Some, slice_get, refl, sym, ap, subst, ◌∙◌}
+use Rattle.std.proofs.Common.{◌≡◌, ℕ, ◌⊎◌, inl, inr, true, List, [], ◌∷◌, ◌++◌, length, replicate, None}
+use Rattle.std.proofs.Common.{Some, slice_get, sym, subst, ◌∙◌}
 use Rattle.std.proofs.lemmas.List.{length-replicate}
+use Rattle.lemmas.proofs.Lists.{pushed_cases}
 use Rattle.scenario_image.specs.Scenario.{Scenario, IsValid}
 use Rattle.trace_file.specs.declared.entry.Entry.{Entry}
 use Rattle.fleet_core.proofs.Board.{zeros}
@@ -9,20 +10,6 @@ use Rattle.shared_trace.specs.declared.station.Place.{Place}
 use Rattle.shared_trace.specs.declared.station.Station.{Station}
 use Rattle.shared_trace.specs.Kept.{IsTrace, IsStation, AreParked, is_parked, places_of, table_length}
 use Rattle.shared_trace.proofs.Lists.{from_map}
-
-cases_pushed : {X : Type 0} (z : X) (xs : List X) (k : ℕ) (x y : X) → (slice_get xs k ≡ Some x)
-    ⊎ ((k ≡ length xs) × (y ≡ x))
-    → (slice_get (z ∷ xs) (suc k) ≡ Some x) ⊎ ((suc k ≡ length (z ∷ xs)) × (y ≡ x))
-cases_pushed z xs k x y (inl h) = inl h
-cases_pushed z xs k x y (inr h) = inr (ap suc h.0, h.1)
-
--- an element of a list with one more is one of the list, or the one more
-pushed : {X : Type 0} (xs : List X) (y : X) (k : ℕ) (x : X) → slice_get (xs ++ y ∷ []) k ≡ Some x
-    → (slice_get xs k ≡ Some x) ⊎ ((k ≡ length xs) × (y ≡ x))
-pushed [] y zero x h = let e : Some y ≡ Some x = h in inr (refl, cc)
-pushed [] y (suc k) x h = let e : None ≡ Some x = h in absurd cc
-pushed (z ∷ xs) y zero x h = inl h
-pushed (z ∷ xs) y (suc k) x h = cases_pushed z xs k x y (pushed xs y k x h)
 
 pub none_parked : (s : Scenario) (stations : List Station) → stations ≡ [] → AreParked s stations
 none_parked s stations none =
@@ -50,8 +37,8 @@ pub more_parked : (s : Scenario) (stations more : List Station) (y : Station) (n
     → IsStation s [] n y → is_parked y.place ≡ true → AreParked s more
 more_parked s stations more y n all is count here parked =
     subst (AreParked s) (sym is) (record {
-      each = λ d x at. station_by s stations y x d n all here count (pushed stations y d x at);
-      parked = λ d x at. parked_by s stations y x d all parked (pushed stations y d x at);
+      each = λ d x at. station_by s stations y x d n all here count (pushed_cases stations y d x at);
+      parked = λ d x at. parked_by s stations y x d all parked (pushed_cases stations y d x at);
     })
 
 pub all_parked : (s : Scenario) (stations : List Station) → AreParked s stations → (d : ℕ) (p : Place)

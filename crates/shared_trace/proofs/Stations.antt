@@ -4,6 +4,7 @@ use Rattle.std.proofs.Common.{slice_get, slice_index, refl, sym, ap, subst, ◌�
 use Rattle.std.proofs.lemmas.List.{length-map}
 use Rattle.std.proofs.lemmas.Option.{slice_get_read}
 use Rattle.std.proofs.lemmas.Bool.{cases_lt, false≢true, false_from_ne_true}
+use Rattle.lemmas.proofs.Lists.{item_at, item_mapped}
 use Rattle.fleet_core.specs.Board.{Holding}
 use Rattle.scenario_image.specs.Scenario.{Scenario}
 use Rattle.trace_file.specs.declared.entry.Entry.{Entry}
@@ -21,7 +22,7 @@ use Rattle.shared_trace.specs.Stops.{numbers_in}
 use Rattle.shared_trace.specs.Trace.{Traced, IsPlaced, IsShared, IsReady, is_stopped}
 use Rattle.shared_trace.specs.Claims.{IsAnyOut, IsAnyLeft, AreAllAtEnd, IsIdle}
 use Rattle.shared_trace.specs.Kept.{IsTrace, is_end, is_parked, is_ready, is_ready_in, places_of}
-use Rattle.shared_trace.proofs.Lists.{at_map, from_map, some_at}
+use Rattle.shared_trace.proofs.Lists.{from_map}
 use Rattle.shared_trace.proofs.Nexts.{pass_enabled, waiting_is, past_waiting}
 
 abbrev pub traced : Scenario → List Entry → List Station → Stops → Traced
@@ -64,7 +65,7 @@ ready_is s es stations counts stops d x t at ready =
     let found = ready_parked (λ g. slice_index counts g) x.place x.next ready in
     record {
       held = found.0;
-      parked = at_map (λ y. y.place) stations d x at ∙ ap Some found.1;
+      parked = item_mapped (λ y. y.place) stations d x at ∙ ap Some found.1;
       enabled = sym (pass_enabled s es d (λ g. slice_index counts g) x.next t.posts (t.each d x at).next) ∙ found.2;
     }
 
@@ -157,7 +158,7 @@ blocked_by : (v : Traced) (d : ℕ) → IsShared v → ((i : ℕ) → IsReady v 
     → ((i : ℕ) (p : Place) → slice_get v.places i ≡ Some p → is_parked p ≡ true)
     → (d < length v.subject.rows) ⊎ (length v.subject.rows ≤ d) → is_enabled v.subject v.entries d ≡ false
 blocked_by v d shared none parked (inl less) =
-    let found = some_at v.places d (omega (arith, less, shared.count)) in
+    let found = item_at v.places d (omega (arith, less, shared.count)) in
     blocked_at v d found.0 found.1 (parked d found.0 found.1) none
 blocked_by v d shared none parked (inr past) = past_rows v.subject v.entries d past
 
@@ -191,7 +192,7 @@ ended_by : (s : Scenario) (es : List Entry) (stations : List Station) (counts : 
     → ((i : ℕ) (x : Station) → slice_get stations i ≡ Some x → is_end x.next ≡ true) → (d < length s.rows)
     ⊎ (length s.rows ≤ d) → is_waiting s es d ≡ false
 ended_by s es stations counts d t ends (inl less) =
-    let found = some_at stations d (omega (arith, less, t.count)) in
+    let found = item_at stations d (omega (arith, less, t.count)) in
     left_is s es stations counts d found.0 t found.1 ∙ ap not (ends d found.0 found.1)
 ended_by s es stations counts d t ends (inr past) = past_waiting s es d past
 
@@ -222,7 +223,7 @@ any_out v s es stations counts stops d l el view t found =
     subst IsAnyOut (view_at v s es stations l stops el view) (record {
       device = d;
       worker = found.1;
-      place = at_map (λ y. y.place) l d found.0 found.2 ∙ ap Some found.3;
+      place = item_mapped (λ y. y.place) l d found.0 found.2 ∙ ap Some found.3;
       waits = subst (IsPlaced s es d) found.3 ((trace_at s es stations l counts counts el refl t).each d found.0
           found.2).placed;
     })

@@ -6,6 +6,7 @@ use Rattle.std.specs.List.{AllByRecursion}
 use Rattle.std.proofs.lemmas.List.{length-append, append-nil, append_assoc}
 use Rattle.std.proofs.lemmas.List.Sums.{sum_by_push}
 use Rattle.std.proofs.lemmas.Bool.{cases_eq, false≢true}
+use Rattle.lemmas.proofs.Lists.{each_pushed, empty_from_length}
 use Rattle.scenario_image.specs.declared.step.Step.{Step}
 use Rattle.scenario_image.specs.declared.step.Step.TheVariants.{Event, Post, Need}
 use Rattle.scenario_image.specs.Scenario.{Scenario}
@@ -20,7 +21,6 @@ use Rattle.fleet_core.specs.declared.next.Next.{Next}
 use Rattle.fleet_core.specs.Next.{next_of, may_pass}
 use Rattle.shared_trace.specs.Job.{Task, IsOf, IsStepped, IsGrown, Advances, seen_by, can_step, entry_next}
 use Rattle.shared_trace.specs.Kept.{IsTask, IsOnWay, IsJob, table_length, groups_in}
-use Rattle.shared_trace.proofs.Lists.{all-push}
 use Rattle.shared_trace.proofs.Nexts.{pass_enabled}
 use Rattle.shared_trace.proofs.Lengths.{post_has_place}
 
@@ -99,7 +99,7 @@ grouped_within : (groups : List ℕ) (step : Step) (n : ℕ) → AllByRecursion 
     → ((group : ℕ) → step ≡ Post group → group < n)
     → AllByRecursion (λ h. h < n) (groups ++ groups_in step)
 grouped_within groups (Event event) n all within = subst (AllByRecursion (λ h. h < n)) (sym (append-nil groups)) all
-grouped_within groups (Post group) n all within = all-push (λ h. h < n) groups group all (within group refl)
+grouped_within groups (Post group) n all within = each_pushed (λ h. h < n) groups group all (within group refl)
 grouped_within groups (Need group count) n all within =
     subst (AllByRecursion (λ h. h < n)) (sym (append-nil groups)) all
 
@@ -153,7 +153,7 @@ made_task s w d front es e task able is =
       valid = task.valid;
       run = subst (IsRun s) (append_assoc front es (entry_of s w d (front ++ es) ∷ []))
           (run_push s (front ++ es) (entry_of s w d (front ++ es)) task.run (enabled_fits s (front ++ es) w d able));
-      each = all-push (IsOf w d) es (entry_of s w d (front ++ es)) task.each (refl, refl);
+      each = each_pushed (IsOf w d) es (entry_of s w d (front ++ es)) task.each (refl, refl);
       began = task.began;
     })
 
@@ -261,15 +261,11 @@ stopped_early a b c n batch h less end =
 some_made : (a b : Task) (n : ℕ) → IsGrown a b n → 1 ≤ n → 1 ≤ length b.entries
 some_made a b n h one_at_least = omega (arith, ap length h.entries, length-append a.entries h.added, h.exact)
 
-nil_from : {X : Type 0} (l : List X) → length l ≡ 0 → l ≡ []
-nil_from [] h = refl
-nil_from (x ∷ xs) h = absurd (omega (arith, h))
-
 not_first : (a b : Task) (n : ℕ) → IsGrown a b n → can_step b ≡ false → is_enabled b.subject b.front b.device ≡ true
     → a.entries ≡ [] → n ≡ 0 → ⊥
 not_first a b n h end began none zero_made =
     let empty : length h.added ≡ 0 = h.exact ∙ zero_made in
-    let nothing : b.entries ≡ [] = h.entries ∙ (ap (λ l. l ++ h.added) none ∙ nil_from h.added empty) in
+    let nothing : b.entries ≡ [] = h.entries ∙ (ap (λ l. l ++ h.added) none ∙ empty_from_length h.added empty) in
     let seen : seen_by b ≡ b.front = ap (λ l. b.front ++ l) nothing ∙ append-nil b.front in
     false≢true (sym end ∙ (ap (λ l. is_enabled b.subject l b.device) seen ∙ began))
 

@@ -1,5 +1,5 @@
 -- What the clauses say of a pass's seat and of the value, from what the rule says of the pass.
-use Rattle.std.proofs.Common.{◌≡◌, ℕ, zero, suc, ◌+◌, ◌<◌, true, Option, List, [], ◌∷◌, ◌++◌, map, length, take, drop}
+use Rattle.std.proofs.Common.{◌≡◌, ℕ, zero, suc, ◌+◌, ◌<◌, true, Option, List, [], ◌∷◌, ◌++◌, map, take, drop}
 use Rattle.std.proofs.Common.{refl, sym, ap, ◌∙◌, arith, min, ⊎_elim}
 use mathlib.Core.List.{map-append}
 use mathlib.Core.Logic.{dite}
@@ -17,11 +17,6 @@ use Rattle.ticket_lock.proofs.Neighbours.{shares_below, shares_above}
 use Rattle.ticket_lock.proofs.Logs.{map-each, parts, length-each, each_same, each-append, each_first, each_rest}
 use Rattle.ticket_lock.proofs.Logs.{each_at}
 use Rattle.ticket_lock.proofs.Aware.{own_of_front}
-
--- a list of length 0
-pub no_slot : {X : Type 0} (xs : List X) → length xs ≡ 0 → xs ≡ []
-no_slot [] e = refl
-no_slot (x ∷ xs) e = absurd (omega arith)
 
 map-take_one : {X Y : Type 0} (f : X → Y) (xs : List X) → map f (take 1 xs) ≡ take 1 (map f xs)
 map-take_one f [] = refl

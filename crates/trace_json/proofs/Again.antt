@@ -17,11 +17,12 @@ use Rattle.scenario_image.specs.Scenario.{HasFields, HasShortNumbers, IsGoodStep
 use Rattle.scenario_words.specs.PathWord.{IsPath}
 use Rattle.trace_file.specs.declared.entry.Entry.{Entry}
 use Rattle.fleet_core.specs.Run.{step_at}
-use Rattle.fleet_core.proofs.Valid.{IsStep, all_at, step_is}
+use Rattle.fleet_core.proofs.Valid.{IsStep, step_is}
 use Rattle.device_machine.specs.Acts.{act_name}
 use Rattle.serde_json.specs.Data.{Data, Items}
 use Rattle.serde_json.specs.Data as json
 use Rattle.serde_json.specs.View.{items_of}
+use Rattle.lemmas.proofs.Lists.{each_at}
 use Rattle.trace_json.specs.Entries.{entry_json}
 use Rattle.trace_json.specs.Json.{by_key, items_by_key}
 use Rattle.trace_json.specs.Members.{TellsEntry, IsSameEntry, SendsBytes}
@@ -75,7 +76,7 @@ step_fits : (s : Scenario) (d k : ℕ) (o : Option Step) → IsValid s → step_
 step_fits s d k None valid at = tt
 step_fits s d k (Some step) valid at =
     let is : IsStep s d k step = step_is s d k step valid at in
-    ((all_at (IsGoodStep is.class.accounts) is.steps k step is.good is.stands).fields, is.range)
+    ((each_at (IsGoodStep is.class.accounts) is.steps k step is.good is.stands).fields, is.range)
 
 -- ---- outputs
 

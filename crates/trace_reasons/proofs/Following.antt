@@ -1,11 +1,11 @@
 -- Devices that make their steps beside the entries of a run.
-use Rattle.std.proofs.Common.{◌≡◌, ℕ, zero, suc, ◌+◌, ◌<◌, ◌⊎◌, inl, inr, true, false, List, [], ◌∷◌, ◌++◌, length}
-use Rattle.std.proofs.Common.{take, get_or, Option, None, Some, IsSome, slice_get, slice_set, sym, refl, ap, subst, ◌∙◌}
+use Rattle.std.proofs.Common.{◌≡◌, ℕ, ◌+◌, ◌<◌, ◌⊎◌, inl, inr, true, false, List, [], ◌∷◌, ◌++◌, length}
+use Rattle.std.proofs.Common.{take, get_or, Option, Some, IsSome, slice_get, slice_set, sym, refl, ap, subst, ◌∙◌}
 use Rattle.std.proofs.Common.{arith, add-one}
 use Rattle.std.proofs.lemmas.Bool.{cases_eq}
 use Rattle.std.proofs.lemmas.List.{length-set}
 use Rattle.std.proofs.lemmas.Option.{slice_get_read}
-use Rattle.lemmas.proofs.Lists.{take_one_more}
+use Rattle.lemmas.proofs.Lists.{take_one_more, set_elsewhere, set_gives}
 use Rattle.lemmas.proofs.Tests.{or_second}
 use Rattle.device_machine.specs.Reactions.{passes_end}
 use Rattle.device_machine.specs.declared.event.Event.TheVariants.{Tick}
@@ -25,21 +25,6 @@ use Rattle.trace_text.specs.Selection.{is_wanted}
 use Rattle.trace_text.proofs.Shown.{follows}
 use Rattle.trace_reasons.specs.Beside.{AreBeside}
 use Rattle.trace_reasons.specs.Text.{AreReasonLines, AreReasonsAt, AreSendingsOf}
-
--- ---- one element of a list is set
-
-set_here : {X : Type 0} (xs : List X) (i : ℕ) (y x : X) → slice_get (slice_set xs i y) i ≡ Some x → y ≡ x
-set_here [] i y x h = let e : None ≡ Some x = h in absurd cc
-set_here (z ∷ zs) zero y x h = let e : Some y ≡ Some x = h in cc
-set_here (z ∷ zs) (suc i) y x h = set_here zs i y x h
-
-set_elsewhere : {X : Type 0} (xs : List X) (i j : ℕ) (y : X) → (i ≡ j → ⊥)
-    → slice_get (slice_set xs i y) j ≡ slice_get xs j
-set_elsewhere [] i j y h = refl
-set_elsewhere (z ∷ zs) zero zero y h = absurd (h refl)
-set_elsewhere (z ∷ zs) zero (suc j) y h = refl
-set_elsewhere (z ∷ zs) (suc i) zero y h = refl
-set_elsewhere (z ∷ zs) (suc i) (suc j) y h = set_elsewhere zs i j y (λ e. h (ap suc e))
 
 -- ---- a tick that a device does not refuse
 
@@ -122,7 +107,7 @@ then_shows : (s : Scenario) (wanted : Option ℕ) (before : List Entry) (e : Ent
     → (e.device ≡ j) ⊎ (e.device ≡ j → ⊥) → ShowsAfter s j (made_by j (before ++ e ∷ [])) x
 then_shows s wanted before e devices y beside count shows j x is got (inl own) =
     let same : y ≡ x =
-    set_here devices e.device y x (subst (λ k. slice_get (slice_set devices e.device y) k ≡ Some x) (sym own) got) in
+    set_gives devices e.device y x (subst (λ k. slice_get (slice_set devices e.device y) k ≡ Some x) (sym own) got) in
     let more : e.step + 1 ≡ made_by e.device (before ++ e ∷ []) =
     ap (λ k. k + 1) count ∙ add-one (made_by e.device before) ∙ sym (made_same e.device before e refl) in
     subst (λ k. ShowsAfter s k (made_by k (before ++ e ∷ [])) x) own

@@ -1,9 +1,10 @@
 -- Packets that are spelled alike are alike.
-use Rattle.std.proofs.Common.{◌≡◌, ℕ, ◌+◌, ◌^◌, ◌<◌, List, [], ◌∷◌, ◌++◌, length, drop, refl, sym, ap, ◌∙◌}
+use Rattle.std.proofs.Common.{◌≡◌, ℕ, ◌+◌, ◌^◌, ◌<◌, List, [], ◌∷◌, ◌++◌, drop, refl, sym, ap, ◌∙◌}
 use Rattle.std.proofs.Common.{◌/◌, ◌%◌, append_assoc, arith}
 use Rattle.std.specs.Int.{w16, w32, to_be_bytes}
 use Rattle.std.specs.List.{flat_map, AllByRecursion}
 use Rattle.std.proofs.lemmas.List.{append_cancel_left}
+use Rattle.lemmas.proofs.Lists.{same_parts}
 use Rattle.udp_capture.specs.declared.envelope.Endpoint.{Endpoint}
 use Rattle.udp_capture.specs.declared.envelope.Envelope.{Envelope}
 use Rattle.udp_capture.specs.Fields.{header_bytes}
@@ -28,17 +29,6 @@ two m n r s fm fn e =
     let e1 : m / 256 ^ 1 % 256 ≡ n / 256 ^ 1 % 256 = cc in
     let e0 : m % 256 ≡ n % 256 = cc in
     (omega arith, cc)
-
--- bytes of one length
-bytes_alike : (a b r s : List ℕ) → length a ≡ length b → a ++ r ≡ b ++ s → (a ≡ b) × (r ≡ s)
-bytes_alike [] [] r s same e = (refl, e)
-bytes_alike [] (y ∷ b) r s same e = absurd (omega arith)
-bytes_alike (x ∷ a) [] r s same e = absurd (omega arith)
-bytes_alike (x ∷ a) (y ∷ b) r s same e =
-    let first : x ≡ y = cc in
-    let behind : a ++ r ≡ b ++ s = cc in
-    let rest = bytes_alike a b r s (omega arith) behind in
-    (ap (λ l. x ∷ l) rest.0 ∙ ap (λ z. z ∷ b) first, rest.1)
 
 -- ---- headers, with what stands after them
 
@@ -138,7 +128,7 @@ packet_alike p q r s fp fq same =
     let udps = udp_alike (udp_length p.payload) (udp_length q.payload) (udp_check p) (udp_check q) p.envelope.source
     p.envelope.destination q.envelope.source q.envelope.destination (p.payload ++ r) (q.payload ++ s) fp.source
     fp.destination fq.source fq.destination ips.2 in
-    let rest = bytes_alike p.payload q.payload r s (omega (arith, records.2)) udps.2 in
+    let rest = same_parts p.payload q.payload r s (omega (arith, records.2)) udps.2 in
     (packet_is p q records.0 records.1 ips.0 udps.0 ips.1 udps.1 rest.0, rest.1)
 
 no_packet : (p : CapturedPacket) (r : List ℕ) → [] ≡ packet_record p ++ r → ⊥

@@ -1,5 +1,6 @@
 use Rattle.std.proofs.Common.{arith}
-use Rattle.command_fleet.proofs.Fixed.{if_none, no_account, nowhere}
+use Rattle.lemmas.proofs.Options.{if_none}
+use Rattle.command_fleet.proofs.Fixed.{no_account, nowhere}
 use Rattle.command_fleet.proofs.servers.server_of.Goals as goal
 
 pub returns-in_err-number_of-clause-none : goal.returns-in_err-number_of-clause-none

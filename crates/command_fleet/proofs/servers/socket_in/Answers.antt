@@ -1,4 +1,5 @@
-use Rattle.command_fleet.proofs.Fixed.{if_none, no_port}
+use Rattle.lemmas.proofs.Options.{if_none}
+use Rattle.command_fleet.proofs.Fixed.{no_port}
 use Rattle.command_fleet.proofs.servers.socket_in.Goals as goal
 
 pub returns-in_err-port_of-in-Ok-clause-none : goal.returns-in_err-port_of-in-Ok-clause-none

@@ -1,39 +1,40 @@
 use Rattle.std.proofs.Common.{◌∙◌, ap, refl, sym}
 use Rattle.std.proofs.lemmas.Result.{err_from_is_err_and}
+use Rattle.lemmas.proofs.Results.{on_ok}
 use Rattle.fleet_lines.specs.Counting.{Watched}
 use Rattle.command_fleet.proofs.Settled.{asked_as, fleet_as}
-use Rattle.command_fleet.proofs.Told.{always, cut_traffic, cut_when, told_as, told_when}
+use Rattle.command_fleet.proofs.Told.{cut_traffic, cut_when, told_as, told_when}
 use Rattle.command_fleet.proofs.serving.turn.Goals as goal
 
 pub returns-in_ok-tell_traffic-in-Ok-clause-fleet : goal.returns-in_ok-tell_traffic-in-Ok-clause-fleet
 returns-in_ok-tell_traffic-in-Ok-clause-fleet g c =
-    λ s played before h. always c.tell_if_later.result _
+    λ s played before h. on_ok c.tell_if_later.result _
     (fleet_as s played before _ _ _ _ _ c.tell_traffic.ensures.same (c.in-Ok.ensures.fleet s played before h))
 
 pub returns-in_ok-tell_traffic-in-Ok-clause-asked : goal.returns-in_ok-tell_traffic-in-Ok-clause-asked
 returns-in_ok-tell_traffic-in-Ok-clause-asked g c =
-    λ read_before asked_before calls h. always c.tell_if_later.result _
+    λ read_before asked_before calls h. on_ok c.tell_if_later.result _
     (asked_as _ _ _ _ _ _ _ _ c.tell_traffic.ensures.asked (c.in-Ok.ensures.heard read_before asked_before calls h))
 
 pub returns-in_ok-tell_traffic-in-Ok-clause-wire : goal.returns-in_ok-tell_traffic-in-Ok-clause-wire
 returns-in_ok-tell_traffic-in-Ok-clause-wire g c =
-    always c.tell_if_later.result _
+    on_ok c.tell_if_later.result _
     (c.tell_traffic.ensures.wire
     ∙ ap (λ (w : Watched). w.wire) (c.watched_is_fixed.ensures _ _ c.turn.ensures.fixed))
 
 pub returns-in_ok-tell_traffic-in-Ok-clause-began : goal.returns-in_ok-tell_traffic-in-Ok-clause-began
 returns-in_ok-tell_traffic-in-Ok-clause-began g c =
-    always c.tell_if_later.result _
+    on_ok c.tell_if_later.result _
     (c.tell_traffic.ensures.began
     ∙ ap (λ (w : Watched). w.began) (c.watched_is_fixed.ensures _ _ c.turn.ensures.fixed))
 
 pub returns-in_ok-tell_traffic-in-Ok-clause-repeats : goal.returns-in_ok-tell_traffic-in-Ok-clause-repeats
 returns-in_ok-tell_traffic-in-Ok-clause-repeats g c =
-    always c.tell_if_later.result _ (λ e. c.turn.ensures.went.repeats e)
+    on_ok c.tell_if_later.result _ (λ e. c.turn.ensures.went.repeats e)
 
 pub returns-in_ok-tell_traffic-in-Ok-clause-swept : goal.returns-in_ok-tell_traffic-in-Ok-clause-swept
 returns-in_ok-tell_traffic-in-Ok-clause-swept g c =
-    λ s played before h. always c.tell_if_later.result _ (c.in-Ok.ensures.swept s played before h)
+    λ s played before h. on_ok c.tell_if_later.result _ (c.in-Ok.ensures.swept s played before h)
 
 pub returns-in_ok-tell_traffic-in-Ok-clause-told : goal.returns-in_ok-tell_traffic-in-Ok-clause-told
 returns-in_ok-tell_traffic-in-Ok-clause-told g c =

@@ -1,6 +1,7 @@
 use Rattle.std.proofs.Common.{Some, arith}
 use Rattle.std.proofs.lemmas.Str.Pattern.{split_parts}
-use Rattle.command_join.proofs.Words.{if_none, ranged, unranged}
+use Rattle.lemmas.proofs.Options.{if_none}
+use Rattle.command_join.proofs.Words.{ranged, unranged}
 use Rattle.command_join.proofs.slice.range_and_path.Goals as goal
 
 pub returns-in_err-devices-clause-none : goal.returns-in_err-devices-clause-none

@@ -2,10 +2,12 @@ use Rattle.std.proofs.Common.{◌≡◌, ◌++◌, ◌∷◌, [], refl, sym, ap,
 use Rattle.std.specs.List.{AllByRecursion}
 use Rattle.std.specs.Map.{values_of}
 use Rattle.indexmap.proofs.CallerLemmas.{insert_entry-new}
+use Rattle.lemmas.proofs.Lists.{each_pushed}
+use Rattle.notifier.proofs.ObservedLaws.{values-append}
 use Rattle.device_machine.specs.Records.{HasOwnKey}
 use Rattle.device_machine.specs.declared.records.RecordKey.{RecordKey}
 use Rattle.device_machine.specs.contracts.records.RecordKeyPartialEq.TheImpl.{eq-value}
-use Rattle.device_machine.proofs.Keyed.{each-append, found, values-append}
+use Rattle.device_machine.proofs.Keyed.{found}
 use Rattle.device_machine.proofs.records.add.Goals as goal
 
 key : (c : goal.Joined-branch-2) → RecordKey
@@ -28,7 +30,7 @@ pub returns-clause-keyed : goal.returns-clause-keyed
 unfolding key
 returns-clause-keyed c = (
   subst (AllByRecursion HasOwnKey) (sym (last c))
-      (each-append HasOwnKey c.args.entries.now.entries (key c, c.args.request) c.requires.keyed.0
+      (each_pushed HasOwnKey c.args.entries.now.entries (key c, c.args.request) c.requires.keyed.0
       (record { server = refl; mid = refl; kind = c.kind_number.ensures })),
   c.insert.ensures.unique,
 )

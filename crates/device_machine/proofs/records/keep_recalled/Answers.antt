@@ -2,8 +2,9 @@ use Rattle.std.proofs.Common.{◌≡◌, filter, ap, subst, sym, ◌∙◌, rule
 use Rattle.std.specs.List.{AllByRecursion}
 use Rattle.std.specs.Map.{values_of}
 use Rattle.indexmap.proofs.CallerLemmas.{filter-RetainsPairs}
+use Rattle.lemmas.proofs.Lists.{each_filtered}
+use Rattle.notifier.proofs.ObservedLaws.{values-filter}
 use Rattle.device_machine.specs.Records.{HasOwnKey, is_recalled}
-use Rattle.device_machine.proofs.Keyed.{each-filter, values-filter}
 use Rattle.device_machine.proofs.records.keep_recalled.Goals as goal
 
 kept : (c : goal.After-retain)
@@ -16,6 +17,6 @@ returns-clause-recalled c =
 
 pub returns-clause-keyed : goal.returns-clause-keyed
 returns-clause-keyed c = (
-  subst (AllByRecursion HasOwnKey) (sym (kept c)) (each-filter HasOwnKey _ _ c.requires.0),
+  subst (AllByRecursion HasOwnKey) (sym (kept c)) (each_filtered HasOwnKey _ _ c.requires.0),
   c.retain.ensures.unique,
 )

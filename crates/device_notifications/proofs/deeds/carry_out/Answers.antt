@@ -1,8 +1,8 @@
-use Rattle.std.proofs.Common.{◌≡◌, ◌<◌, ◌≤◌, ◌∙◌, ◌++◌, ◌∷◌, [], List, refl, suc, Some, ap, arith, length, slice_get}
+use Rattle.std.proofs.Common.{◌≡◌, ◌<◌, ◌≤◌, ◌∙◌, ◌++◌, ◌∷◌, [], refl, Some, ap, arith, length, slice_get}
 use Rattle.std.proofs.Common.{sym, take}
 use Rattle.std.proofs.lemmas.List.{append-nil, append_assoc, take_all}
+use Rattle.lemmas.proofs.Lists.{item_at, empty_from_length}
 use Rattle.device_notifications.specs.Deeds.{left_by_all, said_by_all}
-use Rattle.device_notifications.proofs.Places.{there}
 use Rattle.device_notifications.proofs.Planning.{carried_all, left_carried, length-push, more_left, place_within}
 use Rattle.device_notifications.proofs.Planning.{said_carried, still_at}
 use Rattle.device_notifications.proofs.deeds.carry_out.Goals as goal
@@ -40,8 +40,8 @@ loop-deed-preserved c =
     let more = more_left c.args.deeds.items ys c.next.new.self.rest.items d is in
     let inside : n < length old = omega (arith, more, c.requires.each) in
     let said_inside : n < length ss = omega (arith, inside, c.loop-deed.invariant.4) in
-    let o = there old n inside in
-    let s = there ss n said_inside in
+    let o = item_at old n inside in
+    let s = item_at ss n said_inside in
     let o_now : slice_get now i ≡ Some o.0 =
     still_at old now (left_by_all clock (take n old) ys) i n c.loop-deed.invariant.0 ∙ o.1 in
     let s_now : slice_get said_now i ≡ Some s.0 =
@@ -56,16 +56,12 @@ loop-deed-preserved c =
       c.loop-deed.invariant.4,
     )
 
-empty : {X : Type 0} (xs : List X) → length xs ≡ 0 → xs ≡ []
-empty [] h = refl
-empty (x ∷ xs) h = absurd (let some : suc (length xs) ≡ 0 = h in cc)
-
 pub returns-clause-list : goal.returns-clause-list
 returns-clause-list c =
     let old = c.args.observations.now.list in
     let ys = c.loop-deed.yielded in
     let none : c.loop-deed.deed-iterator.rest.items ≡ [] =
-    empty c.loop-deed.deed-iterator.rest.items
+    empty_from_length c.loop-deed.deed-iterator.rest.items
     (sym c.loop-deed.deed-iterator.rest.ok.0 ∙ c.in-None.ensures.steps.0) in
     let all : c.args.deeds.items ≡ ys =
     c.loop-deed.invariant.3 ∙ ap (λ t. ys ++ t) none ∙ append-nil ys in
@@ -79,7 +75,7 @@ returns-clause-said c =
     let ss = c.args.observations.now.said in
     let ys = c.loop-deed.yielded in
     let none : c.loop-deed.deed-iterator.rest.items ≡ [] =
-    empty c.loop-deed.deed-iterator.rest.items
+    empty_from_length c.loop-deed.deed-iterator.rest.items
     (sym c.loop-deed.deed-iterator.rest.ok.0 ∙ c.in-None.ensures.steps.0) in
     let all : c.args.deeds.items ≡ ys =
     c.loop-deed.invariant.3 ∙ ap (λ t. ys ++ t) none ∙ append-nil ys in

@@ -1,21 +1,22 @@
 use Rattle.std.proofs.Common.{◌≡◌, ◌+◌, ap, refl, slice_set, subst, sym, take, drop, ◌∙◌}
 use Rattle.std.specs.Option.{option_map_or}
+use Rattle.lemmas.proofs.Lists.{take_one_more}
 use Rattle.notifier.specs.Said.{as_idle}
 use Rattle.device_notifications.specs.Deeds.{Replaces, left_by, said_by}
-use Rattle.device_notifications.proofs.Places.{dropped_twice, taken, taken_twice}
+use Rattle.device_notifications.proofs.Places.{dropped_twice, taken_twice}
 use Rattle.device_notifications.proofs.deeds.carry_out_one.Goals as goal
 
 pub returns-in-Stays-clause-list : goal.returns-in-Stays-clause-list
 returns-in-Stays-clause-list c =
     let os = c.args.observations.now.list in
     λ o at. subst (λ d. Replaces os os (left_by c.args.clock o d) c.args.place (c.args.place + 1)) (sym c.in-Stays.is)
-    (record { passed = taken os c.args.place o at; coming = refl })
+    (record { passed = take_one_more os c.args.place o at; coming = refl })
 
 pub returns-in-Stays-clause-said : goal.returns-in-Stays-clause-said
 returns-in-Stays-clause-said c =
     let ss = c.args.observations.now.said in
     λ s at. subst (λ d. Replaces ss ss (said_by s d) c.args.place (c.args.place + 1)) (sym c.in-Stays.is)
-    (record { passed = taken ss c.args.place s at; coming = refl })
+    (record { passed = take_one_more ss c.args.place s at; coming = refl })
 
 pub returns-in-Notified-clause-said : goal.returns-in-Notified-clause-said
 returns-in-Notified-clause-said c =

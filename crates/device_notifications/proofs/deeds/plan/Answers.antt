@@ -1,5 +1,5 @@
 use Rattle.std.proofs.Common.{◌<◌, ◌+◌, arith, length, subst, sym}
-use Rattle.device_notifications.proofs.Places.{there}
+use Rattle.lemmas.proofs.Lists.{item_at}
 use Rattle.device_notifications.proofs.Planning.{Planned, one_planned}
 use Rattle.device_notifications.proofs.deeds.plan.Goals as goal
 
@@ -8,7 +8,7 @@ loop-place-preserved c =
     let os = c.args.observations.now.list in
     let n = c.loop-place.place in
     let within : n < length os = omega (arith, c.loop-place-test.true, c.len-place-end.ensures.len) in
-    let here = there os n within in
+    let here = item_at os n within in
     subst (λ deeds. Planned c.args.client.now c.args.clock os deeds c.args.outbox.now c.deed_of.new.outbox (n + 1))
     (sym c.in_ok-push.ensures.items)
     (one_planned c.args.client.now c.args.clock os c.loop-place.deeds.items c.args.outbox.now c.loop-place.outbox

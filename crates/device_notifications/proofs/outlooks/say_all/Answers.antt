@@ -1,5 +1,6 @@
 use Rattle.std.proofs.Common.{◌≡◌, ◌<◌, ◌∙◌, Some, ap, arith, length, slice_get}
-use Rattle.device_notifications.proofs.Places.{length-placed, there}
+use Rattle.lemmas.proofs.Lists.{item_at}
+use Rattle.device_notifications.proofs.Places.{length-placed}
 use Rattle.device_notifications.proofs.Planning.{said_more}
 use Rattle.device_notifications.specs.Outlooks.{outlook_of}
 use Rattle.device_notifications.proofs.outlooks.say_all.Goals as goal
@@ -11,8 +12,8 @@ loop-place-preserved c =
     let ss = c.loop-place.observations.said in
     let n = c.loop-place.place in
     let within : n < length os = omega (arith, c.loop-place-test.true, c.len-place-end.ensures.len) in
-    let here = there os n within in
-    let said_here = there ss n (omega (arith, within, c.loop-place.invariant.2)) in
+    let here = item_at os n within in
+    let said_here = item_at ss n (omega (arith, within, c.loop-place.invariant.2)) in
     let at : slice_get c.loop-place.observations.list n ≡ Some here.0 =
     ap (λ xs. slice_get xs n) c.loop-place.invariant.0 ∙ here.1 in
     let said = c.in_ok-say.ensures.said here.0 at in (

@@ -1,6 +1,6 @@
 use Rattle.std.proofs.Common.{◌≤◌, ◌+◌, ◌-◌, ap, arith, subst, sym}
+use Rattle.lemmas.proofs.Results.{on_err}
 use Rattle.notifier.specs.Said.{Watch}
-use Rattle.notifier.proofs.Answers.{on_error}
 use Rattle.device_notifications.specs.Outbox.{Outbox, empty}
 use Rattle.device_notifications.specs.Progress.{StopsIn}
 use Rattle.device_notifications.proofs.Jumps.{HavePassed, acts_in_all, finished, jumped, none_passed, stopped_at}
@@ -38,7 +38,7 @@ returns-in_err-second-clause-known c = c.in_err-second.ensures.known
 pub returns-in_err-second-clause-stops : goal.returns-in_err-second-clause-stops
 returns-in_err-second-clause-stops c =
     let within : c.in-Some.due ≤ c.args.clock + c.args.count = omega (arith, c.in-Some.ensures.1, c.from.ensures) in
-    on_error c.from_residual.result _
+    on_err c.from_residual.result _
     (subst (λ (w : Watch). StopsIn c.args.client.now c.args.clock c.args.count c.args.next_id
     c.args.observations.now.list w.list) (sym c.in_err-second.ensures.unchanged)
     (stopped_at c.args.client.now c.args.clock c.args.count c.loop-due.now c.in-Some.due c.args.observations.now.list
@@ -48,7 +48,7 @@ returns-in_err-second-clause-stops c =
 pub returns-in_err-second-clause-may_lack_memory : goal.returns-in_err-second-clause-may_lack_memory
 returns-in_err-second-clause-may_lack_memory c =
     let within : c.in-Some.due ≤ c.args.clock + c.args.count = omega (arith, c.in-Some.ensures.1, c.from.ensures) in
-    on_error c.from_residual.result _
+    on_err c.from_residual.result _
     (acts_in_all c.args.client.now c.args.clock c.args.count c.args.next_id c.args.observations.now.list
     c.loop-due.observations.list
     (stopped_at c.args.client.now c.args.clock c.args.count c.loop-due.now c.in-Some.due c.args.observations.now.list

@@ -1,7 +1,8 @@
 use Rattle.std.proofs.Common.{eq-eqb, ◌==◌, ◌++◌, map, filter, sym, ap, ◌∙◌, append-nil}
+use Rattle.lemmas.proofs.Results.{on_err}
 use Rattle.object_defs.proofs.MapLaws.{entries-from_entries}
 use Rattle.notifier.specs.Attributes.{path_of}
-use Rattle.notifier.proofs.Answers.{on_error, one_found}
+use Rattle.notifier.proofs.Answers.{one_found}
 use Rattle.notifier.proofs.Keys.{key_total, key_exact}
 use Rattle.notifier.proofs.attributes.list_of.Goals as goal
 
@@ -17,7 +18,7 @@ returns-clause-listed c =
 
 pub returns-in_err-push-clause-may_lack_memory : goal.returns-in_err-push-clause-may_lack_memory
 returns-in_err-push-clause-may_lack_memory c =
-    on_error c.from_residual.result _
+    on_err c.from_residual.result _
     (λ none. one_found c.loop-key.found.items (λ e. (path_of e.0, e.0.name, e.1))
     (λ e. e.0.server == c.args.server) c.loop-key.key-iterator
     c.next.new.self (c.in-Some.key.now, c.in-Some.number.now) c.in-Some.ensures.steps

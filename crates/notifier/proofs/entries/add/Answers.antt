@@ -2,10 +2,11 @@ use Rattle.std.proofs.Common.{◌≡◌, ◌++◌, ◌∷◌, [], false, refl, s
 use Rattle.std.specs.List.{AllByRecursion, list_any}
 use Rattle.std.specs.Map.{values_of}
 use Rattle.indexmap.proofs.CallerLemmas.{insert_entry-new}
+use Rattle.lemmas.proofs.Lists.{each_pushed}
 use Rattle.notifier.specs.Observed.{IsKeyed, is_named}
 use Rattle.notifier.specs.declared.entries.Key.{Key}
 use Rattle.notifier.specs.contracts.entries.KeyPartialEq.TheImpl.{eq-value}
-use Rattle.notifier.proofs.ObservedLaws.{values-append, each-append, no_key}
+use Rattle.notifier.proofs.ObservedLaws.{values-append, no_key}
 use Rattle.notifier.proofs.entries.add.Goals as goal
 
 key : (c : goal.Joined-branch-3) → Key
@@ -30,7 +31,7 @@ pub returns-clause-keyed : goal.returns-clause-keyed
 unfolding key
 returns-clause-keyed c =
     subst (AllByRecursion IsKeyed) (sym (last c))
-    (each-append IsKeyed c.args.entries.now.entries (key c, c.args.observation) c.requires.keyed
+    (each_pushed IsKeyed c.args.entries.now.entries (key c, c.args.observation) c.requires.keyed
     (record {
       server = refl;
       token = c.in_ok-from_slice.ensures.items ∙ c.as_slice.ensures;

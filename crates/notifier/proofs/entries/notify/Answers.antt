@@ -2,8 +2,9 @@ use Rattle.indexmap.proofs.CallerLemmas.{index_map_len-with_value_at}
 use Rattle.std.proofs.Common.{refl, sym, ap, ◌∙◌, slice_set}
 use Rattle.std.specs.Map.{values_of}
 use Rattle.std.specs.Option.{is_some, option_map_or}
+use Rattle.lemmas.proofs.Tests.{negated}
 use Rattle.notifier.specs.Observed.{notified}
-use Rattle.notifier.proofs.ObservedLaws.{values-set_value_at, next_fits, keyed_set, negated}
+use Rattle.notifier.proofs.ObservedLaws.{values-set_value_at, next_fits, keyed_set}
 use Rattle.notifier.proofs.entries.notify.Goals as goal
 
 pub returns-clause-values : goal.returns-clause-values

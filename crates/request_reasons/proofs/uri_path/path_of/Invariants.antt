@@ -1,7 +1,7 @@
 -- What the options after the index add to the path so far is the path of all.
 use Rattle.std.proofs.Common.{◌≡◌, drop}
 use Rattle.device_requests.specs.Options.{segments_of, path_of, numbers_of}
-use Rattle.request_reasons.proofs.Paths.{finished}
+use Rattle.device_requests.proofs.Paths.{finished}
 use Rattle.request_reasons.proofs.uri_path.path_of.Given as goal
 
 abbrev pub invariant-loop-option : goal.invariant-loop-option

@@ -1,6 +1,7 @@
 -- Where there is none to end, nothing changes; where there is one, it is said of what it reaches.
-use Rattle.std.proofs.Common.{◌≡◌, ◌∙◌, false, Option, None, Some, OnOk, Result, Ok, Err, ap, subst, sym, unwrap_or}
+use Rattle.std.proofs.Common.{◌≡◌, ◌∙◌, false, Option, None, Some, ap, subst, sym, unwrap_or}
 use Rattle.std.specs.Option.{is_some}
+use Rattle.lemmas.proofs.Results.{on_ok}
 use Rattle.device_firmware.specs.Firmware.{firmware_after}
 use Rattle.device_firmware.specs.declared.event.FirmwareEvent.TheVariants.{Ended}
 use Rattle.instance_store.specs.Stored.{Stored}
@@ -14,10 +15,6 @@ missed : (client new : Client) (after : Option Stored) → is_some after ≡ fal
     → new ≡ with_stored client (unwrap_or after client.store) → new ≡ client
 missed client new None h is = is
 missed client new (Some stored) h is = cc
-
-on_ok : {X E : Type 0} (r : Result X E) (P : Type 0) → P → OnOk r P
-on_ok (Ok x) P p = p
-on_ok (Err e) P p = tt
 
 pub returns-clause-up_to_date : goal.returns-clause-up_to_date
 returns-clause-up_to_date c =

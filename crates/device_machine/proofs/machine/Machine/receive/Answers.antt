@@ -2,12 +2,12 @@
 use Rattle.std.proofs.Common.{◌≡◌, ◌<◌, ◌∙◌, Err, true, ap, arith, refl, subst, sym}
 use Rattle.std.proofs.lemmas.List.Elements.{All-from_get_or}
 use Rattle.std.proofs.lemmas.Result.{on_err_weaker}
+use Rattle.std.proofs.lemmas.Bool.{and_from}
 use Rattle.device_requests.specs.Client.{has_account}
 use Rattle.device_machine.specs.Memory.{datagram_takes_memory, message_takes_memory}
 use Rattle.device_machine.specs.Reactions.{Gives}
 use Rattle.device_machine.specs.Held.{Held}
 use Rattle.device_machine.proofs.Copying.{grows_taken, grows_wanting, ignored}
-use Rattle.device_machine.proofs.Repeating.{all_true}
 use Rattle.device_machine.proofs.machine.Machine.receive.Goals as goal
 
 pub returns-then-is_ignored-clause-gives : goal.returns-then-is_ignored-clause-gives
@@ -21,7 +21,7 @@ returns-then-is_ignored-clause-gives c =
 pub returns-in-Ok-clause-may_lack_memory : goal.returns-in-Ok-clause-may_lack_memory
 returns-in-Ok-clause-may_lack_memory c =
     on_err_weaker c.take_owned.result
-    (λ g. all_true (has_account c.args.self.now.flat.kept.client c.args.server) (datagram_takes_memory c.args.bytes.now)
+    (λ g. and_from (has_account c.args.self.now.flat.kept.client c.args.server) (datagram_takes_memory c.args.bytes.now)
     (ap (λ (h : Held). has_account h.flat.kept.client c.args.server) (sym c.self.view_is) ∙ sym c.has_account.ensures
     ∙ c.if-not-has_account.false)
     (grows_taken c.args.self.now.flat c.args.server c.args.bytes.now c.in-Ok.message c.in-Ok.ensures.found
@@ -32,7 +32,7 @@ returns-in-Ok-clause-may_lack_memory c =
 
 pub returns-in-Err-Memory-clause-may_lack_memory : goal.returns-in-Err-Memory-clause-may_lack_memory
 returns-in-Err-Memory-clause-may_lack_memory c =
-    all_true (has_account c.args.self.now.flat.kept.client c.args.server) (datagram_takes_memory c.args.bytes.now)
+    and_from (has_account c.args.self.now.flat.kept.client c.args.server) (datagram_takes_memory c.args.bytes.now)
     (ap (λ (h : Held). has_account h.flat.kept.client c.args.server) (sym c.self.view_is) ∙ sym c.has_account.ensures
     ∙ c.if-not-has_account.false)
     (grows_wanting c.args.bytes.now (Err c.in-Err-Memory.field-0) c.in-Err-Memory.ensures.early

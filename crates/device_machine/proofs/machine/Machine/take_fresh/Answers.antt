@@ -1,6 +1,6 @@
 -- The device is as the answer and what is noted leave it, and replies with both.
 use Rattle.std.proofs.Common.{◌&&◌, ℕ, List, IfOk, Ok, find, inl, refl, ap, subst, sym, ◌∙◌}
-use Rattle.notifier.proofs.Answers.{on_error}
+use Rattle.lemmas.proofs.Results.{on_err}
 use Rattle.notifier.specs.declared.observation.Observation.{Observation}
 use Rattle.device_requests.specs.Answer.{is_change}
 use Rattle.device_requests.specs.Client.{Client}
@@ -67,7 +67,7 @@ returns-in_err-say_after-clause-part c =
     let clock = c.self.inside.clock in
     let next_id = c.self.inside.next_id in
     let new = kept_with c.answer.new.self c.say_after.new.observations.list clock next_id in
-    on_error c.from_residual-in_err-say_after.result _
+    on_err c.from_residual-in_err-say_after.result _
     (subst (λ (f : Machine).
     LeavesOff f server (Ok m) (on_outcome f server m (outcome_of f.kept.client server m)).flat.kept new)
     (ap (λ (h : Held). h.flat) c.self.view_is)

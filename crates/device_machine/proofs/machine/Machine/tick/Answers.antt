@@ -1,7 +1,7 @@
 -- Where something is to be sent, the outputs take memory; and the requests that are kept live.
 use Rattle.std.proofs.Common.{◌≡◌, ◌∙◌, ◌+◌, ◌≤◌, true, refl, subst, sym, arith}
 use Rattle.std.proofs.Math.Logic.{inl}
-use Rattle.notifier.proofs.Answers.{on_error}
+use Rattle.lemmas.proofs.Results.{on_err}
 use Rattle.device_notifications.specs.Progress.{does_act}
 use Rattle.device_notifications.specs.Second.{seconds}
 use Rattle.device_notifications.proofs.Jumps.{acts_is}
@@ -15,7 +15,7 @@ use Rattle.device_machine.proofs.machine.Machine.tick.Goals as goal
 pub returns-in_err-outputs-clause-may_lack_memory : goal.returns-in_err-outputs-clause-may_lack_memory
 returns-in_err-outputs-clause-may_lack_memory c =
     let os = c.self.inside.observations.list in
-    on_error c.from_residual-in_err-outputs.result _
+    on_err c.from_residual-in_err-outputs.result _
     (subst (λ (h : Held). does_act (sweep_in h.flat.kept c.args.count) h.flat.kept.observations ≡ true) c.self.view_is
     (acts_is (seconds c.self.inside.client c.self.inside.clock c.args.count c.self.inside.next_id os) os
     (inl (λ none. c.in_err-outputs.ensures.may_lack_memory
@@ -28,7 +28,7 @@ invariant_of-self-2 c =
 
 pub returns-in_err-outputs-clause-part : goal.returns-in_err-outputs-clause-part
 returns-in_err-outputs-clause-part c =
-    on_error c.from_residual-in_err-outputs.result _
+    on_err c.from_residual-in_err-outputs.result _
     (subst (λ (h : Held). HasPassed h.flat.kept
     (record {
       client = c.self.inside.client;

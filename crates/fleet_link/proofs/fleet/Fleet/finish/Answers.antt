@@ -1,9 +1,10 @@
 use Rattle.std.proofs.Common.{◌≡◌, ◌≤◌, ◌<◌, length, true, false, refl, ◌∙◌, arith}
 use Rattle.std.proofs.Math.ListN.{length-set}
+use Rattle.live_link.proofs.Turned.{none_read}
 use Rattle.fleet_link.proofs.Fleets.{breaks, errs, next_at, next_served, read_at, stand_at}
 use Rattle.fleet_link.proofs.Gone.{gone_both, gone_same, gone_set}
 use Rattle.fleet_link.proofs.Stepped.{goes_later}
-use Rattle.fleet_link.proofs.Told.{read_none, still_none}
+use Rattle.fleet_link.proofs.Told.{still_none}
 use Rattle.fleet_link.proofs.fleet.Fleet.finish.Goals as goal
 
 pub returns-in_err-reach-clause-fleet : goal.returns-in_err-reach-clause-fleet
@@ -68,7 +69,7 @@ loop-place-init g c = record {
   finished = λ s played before h e slot l. absurd (omega (arith, l));
   went = gone_same c.args.self.now.slots.items;
   fixed = refl;
-  asked = read_none (g.P.Ports.asked c.args.ports.now);
+  asked = none_read (g.P.Ports.asked c.args.ports.now);
   second = refl;
   began = refl;
   count = refl;

@@ -1,9 +1,10 @@
 use Rattle.std.proofs.Common.{◌≡◌, ◌≤◌, ◌<◌, length, true, false, refl, ◌∙◌, arith}
 use Rattle.std.proofs.Math.ListN.{length-set}
+use Rattle.live_link.proofs.Turned.{none_read}
 use Rattle.fleet_link.proofs.Fleets.{breaks, errs, next_served, next_swept, read_at, swept_at}
 use Rattle.fleet_link.proofs.Gone.{gone_both, gone_same, gone_set}
 use Rattle.fleet_link.proofs.Stepped.{goes_later}
-use Rattle.fleet_link.proofs.Told.{read_none, still_none}
+use Rattle.fleet_link.proofs.Told.{still_none}
 use Rattle.fleet_link.proofs.fleet.Fleet.sweep.Goals as goal
 
 pub returns-in_err-sweep-clause-fleet : goal.returns-in_err-sweep-clause-fleet
@@ -62,7 +63,7 @@ loop-place-init g c = record {
   swept = λ s played before le h k. k;
   went = gone_same c.args.self.now.slots.items;
   fixed = refl;
-  asked = read_none (g.P.Ports.asked c.args.ports.now);
+  asked = none_read (g.P.Ports.asked c.args.ports.now);
   second = refl;
   began = refl;
   count = refl;

@@ -1,8 +1,8 @@
 use Rattle.std.proofs.Common.{OnOk, length, subst}
+use Rattle.live_link.proofs.Turned.{none_read}
 use Rattle.fleet_link.specs.Serving.{AreSwept}
 use Rattle.fleet_link.proofs.Gone.{gone_both, passed_on}
 use Rattle.fleet_link.proofs.Seconds.{asked_on}
-use Rattle.fleet_link.proofs.Told.{read_none}
 use Rattle.fleet_link.proofs.fleet.Fleet.turn.Goals as goal
 
 pub returns-clause-fleet : goal.returns-clause-fleet
@@ -21,13 +21,13 @@ returns-clause-swept g c =
 pub returns-clause-asked : goal.returns-clause-asked
 returns-clause-asked g c =
     λ read_before asked_before calls h. c.sweep_slices.ensures.asked read_before asked_before calls
-    (asked_on read_before _ asked_before _ _ _ _ _ _ calls h (read_none (g.P.Ports.asked c.args.ports.now))
+    (asked_on read_before _ asked_before _ _ _ _ _ _ calls h (none_read (g.P.Ports.asked c.args.ports.now))
     c.pass_needs.ensures.began c.pass_needs.ensures.second)
 
 pub returns-clause-heard : goal.returns-clause-heard
 returns-clause-heard g c =
     λ read_before asked_before calls h. c.sweep_slices.ensures.heard read_before asked_before calls
-    (asked_on read_before _ asked_before _ _ _ _ _ _ calls h (read_none (g.P.Ports.asked c.args.ports.now))
+    (asked_on read_before _ asked_before _ _ _ _ _ _ calls h (none_read (g.P.Ports.asked c.args.ports.now))
     c.pass_needs.ensures.began c.pass_needs.ensures.second)
 
 pub returns-clause-passed : goal.returns-clause-passed

@@ -1,9 +1,10 @@
 use Rattle.std.proofs.Common.{refl, ◌∙◌, arith}
 use Rattle.fleet_link.specs.Traffic.{no_traffic}
 use Rattle.lemmas.proofs.Lists.{item_at}
+use Rattle.live_link.proofs.Turned.{none_read}
 use Rattle.fleet_link.proofs.Turning.{fewer_left}
 use Rattle.fleet_link.proofs.Stepped.{goes_both, goes_on_same, goes_then, row_served}
-use Rattle.fleet_link.proofs.Told.{carries_none, carries_on, read_none, still_none}
+use Rattle.fleet_link.proofs.Told.{carries_none, carries_on, still_none}
 use Rattle.fleet_link.proofs.slot.Slot.catch_up.Goals as goal
 
 pub returns-clause-served : goal.returns-clause-served
@@ -22,7 +23,7 @@ loop-due-init g c = record {
   others = λ e o. carries_none (g.P.Ports.told c.args.ports.now e);
   share = refl;
   fixed = refl;
-  asked = read_none (g.P.Ports.asked c.args.ports.now);
+  asked = none_read (g.P.Ports.asked c.args.ports.now);
   most = λ most a b. a;
   ended = refl;
 }

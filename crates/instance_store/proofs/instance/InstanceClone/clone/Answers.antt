@@ -1,6 +1,7 @@
 use Rattle.std.proofs.Common.{◌≡◌, subst, sym, ap, ◌∙◌}
+use Rattle.lemmas.proofs.Lists.{same_list}
 use Rattle.instance_store.specs.Tree.{HoldValues, instance_values}
-use Rattle.instance_store.proofs.Clones.{same_list, same_table}
+use Rattle.instance_store.proofs.Clones.{same_table}
 use Rattle.instance_store.proofs.instance.InstanceClone.clone.Goals as goal
 
 same : (c : goal.In_ok-resources) → c.in_ok-resources.resources ≡ c.self.inside.resources

@@ -1,8 +1,9 @@
 use Rattle.std.proofs.Common.{◌≡◌, None, Some, not, is_some, sym, ap, ◌∙◌}
 use Rattle.std.specs.FinMap as fin_map
+use Rattle.lemmas.proofs.Tests.{negated}
 use Rattle.instance_store.specs.Tree.{resource_values}
 use Rattle.instance_store.proofs.Answers.{ok_then, if_ok_then}
-use Rattle.instance_store.proofs.TreeLaws.{get-single, get-part, resource-single, resource-part, flip_test}
+use Rattle.instance_store.proofs.TreeLaws.{get-single, get-part, resource-single, resource-part}
 use Rattle.instance_store.proofs.resource.Resource.put.Goals as goal
 
 -- the part of the number
@@ -19,7 +20,7 @@ returns-in-None-clause-ok c =
 
 pub returns-in-None-clause-added : goal.returns-in-None-clause-added
 returns-in-None-clause-added c =
-    rw c.in-None.is (flip_test c.is_none-added.result (is_some c.self.inside.single) c.is_none-added.ensures
+    rw c.in-None.is (negated c.is_none-added.result (is_some c.self.inside.single) c.is_none-added.ensures
     ∙ ap (λ o. not (is_some o)) (sym (get-single c.self.inside.single c.self.inside.parts)
     ∙ ap (λ m. fin_map.get m None) c.self.view_is))
 

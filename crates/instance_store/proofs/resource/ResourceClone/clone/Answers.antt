@@ -1,6 +1,7 @@
 use Rattle.std.proofs.Common.{◌≡◌, sym, ap, ◌∙◌}
+use Rattle.lemmas.proofs.Lists.{same_list}
 use Rattle.instance_store.specs.Tree.{resource_values}
-use Rattle.instance_store.proofs.Clones.{same_list, same_table, same_value}
+use Rattle.instance_store.proofs.Clones.{same_table, same_value}
 use Rattle.instance_store.proofs.resource.ResourceClone.clone.Goals as goal
 
 pub returns : goal.returns

@@ -1,8 +1,9 @@
 use Rattle.std.proofs.Common.{◌||◌, position, sym, ap, ◌∙◌}
+use Rattle.std.proofs.Math.Bool.{or-true, or-false}
 use Rattle.notifier.specs.Observed.{cancelled, is_named}
 use Rattle.notifier.specs.Said.{Watch, said_without}
 use Rattle.notifier.proofs.Places.{any_first, first_place}
-use Rattle.notifier.proofs.SaidLaws.{filter_none, filter_removed, none_first, or_false, or_true, said_none}
+use Rattle.notifier.proofs.SaidLaws.{filter_none, filter_removed, none_first, said_none}
 use Rattle.notifier.proofs.SaidLaws.{said_removed}
 use Rattle.notifier.proofs.observations.Observations.cancel.Goals as goal
 
@@ -19,7 +20,7 @@ loop-place-preserved c =
       (λ j. said_without p (c.remove.ensures.list j) (c.remove.ensures.said j)) ∙ said_removed p os ss i is_first
           ∙ c.loop-place.invariant.1,
       c.loop-place.invariant.2 ∙ ap (λ b. c.loop-place.held || b) (any_first p os i is_first)
-          ∙ or_true c.loop-place.held,
+          ∙ or-true c.loop-place.held,
     )
 
 pub returns-clause-answer : goal.returns-clause-answer
@@ -27,7 +28,7 @@ returns-clause-answer c =
     let p = is_named c.args.server c.args.token.now in
     let none = none_first p c.loop-place.self.list
     (ap (λ (w : Watch). position p w.list) (sym c.self.view_is) ∙ sym c.in_default.ensures) in
-    sym (c.loop-place.invariant.2 ∙ ap (λ b. c.loop-place.held || b) none ∙ or_false c.loop-place.held)
+    sym (c.loop-place.invariant.2 ∙ ap (λ b. c.loop-place.held || b) none ∙ or-false c.loop-place.held)
 
 pub returns-clause-left : goal.returns-clause-left
 returns-clause-left c =

@@ -1,7 +1,8 @@
 use Rattle.std.proofs.Common.{ap, sym, ◌∙◌}
 use Rattle.std.specs.Prelude.{nat_lt}
 use Rattle.std.specs.List.{list_all}
-use Rattle.scenario_layout.proofs.Items.{not_refused, account_low, account_fits, account_made}
+use Rattle.lemmas.proofs.Options.{not_refused}
+use Rattle.scenario_layout.proofs.Items.{account_low, account_fits, account_made}
 use Rattle.scenario_layout.proofs.class.accounts.account_at.Goals as goal
 
 pub returns-then-not-is_above-clause-read : goal.returns-then-not-is_above-clause-read

@@ -1,7 +1,8 @@
 use Rattle.std.proofs.Common.{sym, ap, ◌∙◌}
+use Rattle.lemmas.proofs.Options.{not_refused}
 use Rattle.scenario_layout.specs.Class.{instances_in}
 use Rattle.scenario_layout.proofs.Filling.{refused, instance_refused, instance_fits, instance_added}
-use Rattle.scenario_layout.proofs.Items.{not_refused, instance_bad, instance_good, instance_made, last_in}
+use Rattle.scenario_layout.proofs.Items.{instance_bad, instance_good, instance_made, last_in}
 use Rattle.scenario_layout.proofs.class.instances.instance_at.Goals as goal
 
 pub returns-in-Err-clause-read : goal.returns-in-Err-clause-read

@@ -1,7 +1,8 @@
 use Rattle.std.proofs.Common.{ap, sym, ◌∙◌}
 use Rattle.std.specs.Prelude.{nat_lt}
 use Rattle.std.specs.List.{list_all}
-use Rattle.scenario_layout.proofs.Items.{not_refused, object_made, object_vendor}
+use Rattle.lemmas.proofs.Options.{not_refused}
+use Rattle.scenario_layout.proofs.Items.{object_made, object_vendor}
 use Rattle.scenario_layout.proofs.class.objects.object_id_at.Goals as goal
 
 pub returns-clause-made : goal.returns-clause-made

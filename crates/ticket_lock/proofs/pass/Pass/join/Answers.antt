@@ -1,17 +1,18 @@
 use Rattle.std.proofs.Common.{rules, ◌≡◌, ◌<◌, sym, ap, ◌∙◌, subst, arith, true}
+use Rattle.lemmas.proofs.Lists.{empty_from_length}
 use Rattle.ticket_lock.specs.Log.{Begins, own}
 use Rattle.ticket_lock.specs.Lock.{is_live}
 use Rattle.ticket_lock.specs.Names.{IsFaithful}
 use Rattle.ticket_lock.proofs.Logs.{both_begin}
 use Rattle.ticket_lock.proofs.Plays.{looks, joins}
-use Rattle.ticket_lock.proofs.Seats.{no_slot, looked_view, looked_end, aware_faithful, joined_lower, joined_upper}
+use Rattle.ticket_lock.proofs.Seats.{looked_view, looked_end, aware_faithful, joined_lower, joined_upper}
 use Rattle.ticket_lock.proofs.pass.Pass.join.Goals as goal
 
 pub join_seat-requires : goal.join_seat-requires
 join_seat-requires g c = let p = c.args.self in let q = c.args.other in (
   search rules,
   search rules,
-  no_slot q.seat.me.1 q.bare,
+  empty_from_length q.seat.me.1 q.bare,
   search rules,
   joins g.T.Logged.log _ p.seat.id p.seat.me.0 q.seat.id q.seat.me.0 p.at_rest q.at_rest c.requires.neighbours,
 )
