@@ -149,7 +149,8 @@ fn put_class(alloc: Global, out: &mut String, class: &Template) -> Result<(), Al
 fn class_count(scenario: &Scenario) -> u16
     ensures { result ≡ length scenario.now.classes }
 {
-    let _rows = scenario.rows();
+    // For the proof alone: a scenario whose rows are counted is known to be valid.
+    let _known = scenario.rows();
     scenario.classes() as u16
 }
 
