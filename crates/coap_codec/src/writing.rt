@@ -1,6 +1,6 @@
 ghost use Rattle.std.specs.Prelude.{◌≡◌, ◌≤◌, ◌<◌, ◌+◌, ◌*◌, ◌++◌, length, IfOk, OnOk};
-ghost use Rattle.coap_codec.specs.Message.{Spells, MayFollow, IsOptionList, kind_number, header_bytes, nibble_of};
-ghost use Rattle.coap_codec.specs.Message.{extension_of, option_bytes, options_bytes, payload_bytes, spelling};
+ghost use Rattle.coap_codec.specs.Message.{Spells, IsWellFormed, MayFollow, IsOptionList, kind_number, header_bytes};
+ghost use Rattle.coap_codec.specs.Message.{nibble_of, extension_of, option_bytes, options_bytes, payload_bytes, spelling};
 
 use crate::{Kind, Message, Opt};
 use std::alloc::{AllocError, Global};
@@ -22,9 +22,11 @@ pub fn encode_into(out: &mut Vec<u8>, message: &Message) -> Result<(), AllocErro
     ensures spells { OnOk result (Spells (spelling message.now) message.now) }
     ensures spelling { OnOk result (out.new.items ≡ out.old.items ++ spelling message.now) }
 {
+    // Read first: they come with the promise that the message is well formed.
+    let options = message.options();
     put_header(out, message)?;
     put_bytes(out, message.token().as_slice())?;
-    put_options(out, message.options().as_slice())?;
+    put_options(out, options.as_slice())?;
     put_payload(out, message.payload().as_slice())
 }
 
@@ -73,10 +75,9 @@ fn kind_bits(kind: Kind) -> u8
 
 /// The four bytes of the header.
 fn put_header(out: &mut Vec<u8>, message: &Message) -> Result<(), AllocError>
+    requires { IsWellFormed message.now }
     ensures { OnOk result (out.new.items ≡ out.old.items ++ header_bytes message.now) }
 {
-    // For the proof alone: a message whose options are read is known to be well formed.
-    let _known = message.options();
     let first = 64 + 16 * kind_bits(message.kind()) + message.token().len() as u8;
     let mid = message.mid();
     out.push(first)?;

@@ -81,7 +81,8 @@ fn class_of(scenario: &Scenario, device: u16) -> Result<Template, Fault>
     ensures refused { IfErr result (λ fault. (fault ≡ Fault.Memory)
         ⊎ ((fault ≡ Fault.NoDevice) × HasNoRow scenario.now device)) }
 {
-    let _rows = scenario.rows();
+    // For the proof alone: a scenario whose rows are counted is known to be valid.
+    let _known = scenario.rows();
     match scenario.row(device) {
         None => Err(Fault::NoDevice),
         Some((place, _)) => match scenario.class(place) {

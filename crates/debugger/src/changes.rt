@@ -58,7 +58,8 @@ fn step_changes(
     ensures changes { IfOk result (λ b. IsTrue b ↔ (value_of (state_of scenario.now device place) path.now
         ≡ value_of (state_of scenario.now device (place + 1)) path.now → ⊥)) }
 {
-    let _rows = scenario.rows();
+    // For the proof alone: a scenario whose rows are counted is known to be valid.
+    let _known = scenario.rows();
     let Some(step) = step_of(scenario, device, place) else {
         unreachable!()
     };

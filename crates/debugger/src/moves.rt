@@ -52,7 +52,8 @@ pub(crate) fn count_rows(
     Ok(made)
 }
 
-/// Takes the counts at a place on to a later one: with an entry, its device has made the step of the entry.
+/// Takes the counts at a place on to a later one: with an entry, its device has made the step of the entry. The
+/// scenario is for the contract alone, here and in `count_back`: it says whose run the entries are.
 fn count_on(_scenario: &Scenario, entries: &[Entry], counts: &mut Vec<u64>, from: usize, to: usize)
     requires run { IsRun _scenario.now entries.now }
     requires order { from ≤ to }
@@ -185,7 +186,8 @@ fn moved_device(
     ensures { IfOk result (λ m. IsMoved scenario.now device to
         (steps_between scenario.now device from to) m) }
 {
-    let _rows = scenario.rows();
+    // For the proof alone: a scenario whose rows are counted is known to be valid.
+    let _known = scenario.rows();
     if from <= to {
         let later = device_after(alloc, scenario, machine, device, from as u32, to as u32)?;
         return Ok(later);
@@ -234,7 +236,8 @@ pub(crate) fn moved_devices(
     Ok(Moves { moved, steps })
 }
 
-/// Puts the moved devices in the places of others.
+/// Puts the moved devices in the places of others. The scenario and the counts are for the contract alone, which says
+/// where the devices are.
 pub(crate) fn settle(
     _scenario: &Scenario,
     _counts: &[u64],

@@ -70,7 +70,8 @@ impl<'a> Model for Debugger<'a> {
         b.copies.items };
 }
 
-/// The outputs of the device's latest entry; none before its first one.
+/// The outputs of the device's latest entry; none before its first one. The scenario is for the contract alone, which
+/// says whose run the entries are.
 fn latest_outputs<'a>(_scenario: &Scenario, entries: &'a [Entry], device: u16) -> &'a [Output]
     requires { IsRun _scenario.now entries.now }
     ensures { result.now ≡ latest _scenario.now device (made_by device entries.now) }
@@ -215,7 +216,8 @@ impl<'a> Debugger<'a> {
             ≡ value_shown self.now.scenario self.now.entries self.now.place device path.now) }
         ensures device { IsOk result ↔ (device < length self.now.scenario.rows) }
     {
-        let _rows = self.scenario.rows();
+        // For the proof alone: a scenario whose rows are counted is known to be valid.
+        let _known = self.scenario.rows();
         match self.devices.get(usize::from(device)) {
             None => Err(DeviceFault::NoDevice),
             Some(machine) => Ok(machine.value(path)),
@@ -228,7 +230,8 @@ impl<'a> Debugger<'a> {
             ≡ observations_shown self.now.scenario self.now.entries self.now.place device) }
         ensures device { IsOk result ↔ (device < length self.now.scenario.rows) }
     {
-        let _rows = self.scenario.rows();
+        // For the proof alone: a scenario whose rows are counted is known to be valid.
+        let _known = self.scenario.rows();
         match self.devices.get(usize::from(device)) {
             None => Err(DeviceFault::NoDevice),
             Some(machine) => Ok(machine.observations()),
@@ -256,7 +259,8 @@ impl<'a> Debugger<'a> {
             ≡ step_shown self.now.scenario self.now.entries self.now.place device) }
         ensures device { IsOk result ↔ (device < length self.now.scenario.rows) }
     {
-        let _rows = self.scenario.rows();
+        // For the proof alone: a scenario whose rows are counted is known to be valid.
+        let _known = self.scenario.rows();
         match self.made.get(usize::from(device)) {
             None => Err(DeviceFault::NoDevice),
             Some(made) => Ok(latest_step(self.scenario, device, *made)),
@@ -269,7 +273,8 @@ impl<'a> Debugger<'a> {
         ensures { IfOk result
             (ShowsState (before_shown self.now.scenario self.now.entries self.now.place device)) }
     {
-        let _rows = self.scenario.rows();
+        // For the proof alone: a scenario whose rows are counted is known to be valid.
+        let _known = self.scenario.rows();
         let made = self.made[usize::from(device)];
         let kept = &self.copies[usize::from(device)];
         let copies = kept.devices.as_slice();

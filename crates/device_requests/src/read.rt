@@ -21,7 +21,8 @@ use object_defs::{Catalog, Path, ResourceDef, ResourcePath};
 use octets::Bytes;
 use std::alloc::AllocError;
 
-/// Whether what the path names can be read, by the definition of its resource.
+/// Whether what the path names can be read, by the definition of its resource. The catalog is for the contract alone,
+/// which says whose definition it is.
 fn can_be_read(_catalog: &Catalog, path: Path, definition: Option<ResourceDef>) -> bool
     requires { definition ≡ definition_at _catalog.now path }
     ensures { result ≡ can_be_read _catalog.now path }

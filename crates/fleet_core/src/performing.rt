@@ -31,8 +31,8 @@ pub(crate) fn class_of_row(scenario: &Scenario, device: u16) -> &Template
     requires { device < length scenario.now.rows }
     ensures { (class : Template) (steps : List Step) → IsRowOf scenario.now device class steps → result.now ≡ class }
 {
-    // The proof needs that the scenario is valid, which this call says.
-    let _valid = scenario.rows();
+    // For the proof alone: a scenario whose rows are counted is known to be valid.
+    let _known = scenario.rows();
     let Some((class, _)) = scenario.row(device) else {
         unreachable!()
     };
@@ -100,8 +100,8 @@ pub fn make_step(
     // A post and a need take no memory.
     ensures silent { is_event step.now ≡ false → IsOk result }
 {
-    // The proof needs that the scenario is valid, which this call says.
-    let _valid = scenario.rows();
+    // For the proof alone: a scenario whose rows are counted is known to be valid.
+    let _known = scenario.rows();
     perform(alloc, machine, step)
 }
 

@@ -70,8 +70,8 @@ fn make_steps<R: Wait, G: Gate>(
             return (stop_trace(rt, lock, pass), Err(LoopEnd::Memory));
         }
     }
-    // The proof needs that the job's entries are a run, which this call says.
-    let _made = job.entries();
+    // For the proof alone: a job whose entries are read is known to have made a run.
+    let _known = job.entries();
     put_and_claim(rt, lock, pass, job)
 }
 

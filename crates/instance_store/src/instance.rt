@@ -9,7 +9,7 @@ ghost use Rattle.instance_store.specs.Tree.{at_part, path_below, instance_values
 use crate::resource::Resource;
 use crate::table::Table;
 use lwm2m_values::Value;
-use object_defs::{FullPath, InstancePath, ResourcePath};
+use object_defs::{FullPath, InstancePath};
 use std::alloc::{AllocError, Global};
 use std::marker::Model;
 
@@ -42,17 +42,6 @@ impl Clone for Instance {
     }
 }
 
-/// The path to a resource of an instance.
-fn resource_at(place: InstancePath, resource: u16) -> ResourcePath
-    ensures { result ≡ record { object = place.object; instance = place.instance; resource = resource } }
-{
-    ResourcePath {
-        object: place.object,
-        instance: place.instance,
-        resource,
-    }
-}
-
 /// How many values the resources have.
 fn count_values(resources: &Table<Resource>) -> usize
     requires { fin_map.len (instance_values resources.now) < 2 ^ 64 }
@@ -77,7 +66,7 @@ fn push_resources<'a>(
 {
     for index in 0..resources.len() {
         let (resource, held) = resources.entry(index);
-        held.push_values(found, resource_at(place, resource))?;
+        held.push_values(found, place.resource_path(resource))?;
     }
     Ok(())
 }
@@ -183,7 +172,7 @@ impl Instance {
             ++ block path_below place (filter (λ e. e.0.0 == resource) (fin_map.entries self.now))) }
     {
         match self.resources.get(resource) {
-            Some(held) => held.push_values(found, resource_at(place, resource)),
+            Some(held) => held.push_values(found, place.resource_path(resource)),
             None => Ok(()),
         }
     }
@@ -213,7 +202,7 @@ impl Instance {
     {
         match self.get(resource, Some(part)) {
             Some(value) => {
-                let path = resource_at(place, resource).part(part);
+                let path = place.resource_path(resource).part(part);
                 found.push((path, value))?;
                 Ok(())
             }

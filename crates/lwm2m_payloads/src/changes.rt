@@ -6,7 +6,7 @@ ghost use Rattle.lwm2m_payloads.specs.Changes.{instance_written, has_new, SameOu
 ghost use Rattle.lwm2m_payloads.specs.declared.given.Given.TheVariants as given;
 ghost use Rattle.lwm2m_payloads.specs.declared.given.Mode.TheVariants.{Update};
 
-use crate::definitions::{is_kept, path_to};
+use crate::definitions::is_kept;
 use crate::given::{Assignment, Assignments, Given, Mode, Parts};
 use instance_store::{Store, StoreFault};
 use object_defs::{InstancePath, ResourceDef, ResourcePath};
@@ -83,7 +83,7 @@ fn set_assigned(
     if !is_kept(resources, assignment.resource) {
         return Ok(());
     }
-    let path = path_to(place, assignment.resource);
+    let path = place.resource_path(assignment.resource);
     set_given(mode, store, path, assignment.given)
 }
 
@@ -132,7 +132,7 @@ fn clear_lost(
 {
     for definition in resources {
         if is_lost(given, *definition) {
-            store.clear_resource(path_to(place, definition.id))?;
+            store.clear_resource(place.resource_path(definition.id))?;
         }
     }
     Ok(())

@@ -5,7 +5,7 @@ ghost use Rattle.lwm2m_payloads.specs.Changes.{KeepsParts, is_kept, is_other, pa
 ghost use Rattle.lwm2m_payloads.specs.Changes.{resource_of};
 ghost use Rattle.lwm2m_payloads.specs.declared.given.Mode.TheVariants.{Update};
 
-use crate::definitions::{is_kept, path_to};
+use crate::definitions::is_kept;
 use crate::given::{Assignment, Assignments, Given, Mode, Parts};
 use instance_store::Store;
 use object_defs::{InstancePath, ResourceDef, ResourcePath};
@@ -67,7 +67,7 @@ fn exceeds(
     if !is_kept(resources, assignment.resource) {
         return Ok(false);
     }
-    let path = path_to(place, assignment.resource);
+    let path = place.resource_path(assignment.resource);
     is_too_many(mode, store, path, &assignment.given)
 }
 

@@ -1,9 +1,9 @@
 ghost use Rattle.std.specs.Prelude.{◌≡◌};
 ghost use Rattle.std.specs.Option.{option_copied};
 ghost use Rattle.object_defs.specs.Catalog.{resource_in};
-ghost use Rattle.lwm2m_payloads.specs.Changes.{is_kept_as, resource_of};
+ghost use Rattle.lwm2m_payloads.specs.Changes.{is_kept_as};
 
-use object_defs::{InstancePath, ResourceDef, ResourcePath};
+use object_defs::ResourceDef;
 
 /// The definition of the resource of this number.
 pub(crate) fn definition_in(resources: &[ResourceDef], id: u16) -> Option<&ResourceDef>
@@ -19,16 +19,5 @@ pub fn is_kept(resources: &[ResourceDef], id: u16) -> bool
     match definition_in(resources, id) {
         None => false,
         Some(definition) => definition.ops.can_read(),
-    }
-}
-
-/// The path to a resource of an instance.
-pub(crate) fn path_to(place: InstancePath, resource: u16) -> ResourcePath
-    ensures { result ≡ resource_of place resource }
-{
-    ResourcePath {
-        object: place.object,
-        instance: place.instance,
-        resource,
     }
 }

@@ -25,6 +25,14 @@ full_path (Instance _ _) = None
 full_path (Resource o i r) = Some (record { object = o; instance = i; resource = r; part = None })
 full_path (Part o i r p) = Some (record { object = o; instance = i; resource = r; part = Some p })
 
+-- the path of a resource, or of one of its parts
+abbrev pub path_with : ℕ → ℕ → ℕ → Option ℕ → Path
+path_with o i r None = Resource o i r
+path_with o i r (Some n) = Part o i r n
+
+abbrev pub path_to : FullPath → Path
+path_to p = path_with p.object p.instance p.resource p.part
+
 -- the object that a path begins with
 abbrev pub object_in : Path → ℕ
 object_in (Object o) = o

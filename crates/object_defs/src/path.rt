@@ -1,6 +1,6 @@
 ghost use Rattle.std.specs.Prelude.{◌≡◌, IfOk};
 ghost use Rattle.std.specs.String.{string_bytes};
-ghost use Rattle.object_defs.specs.Path.{full_path, object_in, part_of, path_text, single_of};
+ghost use Rattle.object_defs.specs.Path.{full_path, object_in, part_of, path_text, path_to, single_of};
 
 use std::alloc::{AllocError, Global};
 
@@ -30,6 +30,19 @@ pub struct FullPath {
     pub resource: u16,
     /// The resource instance's number, or none for the single value.
     pub part: Option<u16>,
+}
+
+impl FullPath {
+    /// The path of three or four numbers that it is.
+    pub fn to_path(self) -> Path
+        ensures same { result ≡ path_to self }
+        ensures again { full_path result ≡ Some self }
+    {
+        match self.part {
+            None => Path::Resource(self.object, self.instance, self.resource),
+            Some(part) => Path::Part(self.object, self.instance, self.resource, part),
+        }
+    }
 }
 
 /// The path to a resource.
@@ -74,6 +87,19 @@ pub struct InstancePath {
     pub object: u16,
     /// The instance's number.
     pub instance: u16,
+}
+
+impl InstancePath {
+    /// The path to a resource of the instance.
+    pub fn resource_path(self, resource: u16) -> ResourcePath
+        ensures { result ≡ record { object = self.object; instance = self.instance; resource = resource } }
+    {
+        ResourcePath {
+            object: self.object,
+            instance: self.instance,
+            resource,
+        }
+    }
 }
 
 impl Path {

@@ -65,7 +65,7 @@ fn served_for(catalog: &Catalog, path: Path, operation: Operation) -> Served
     }
 }
 
-/// The number of the format that a request names.
+/// The number of the format that a request names. The message is for the contract alone.
 fn format_named(_message: &Message, request: Request) -> Option<u16>
     requires { request_of _message.now ≡ Ok request }
     ensures { result ≡ format_named (purpose_of _message.now request.operation) }

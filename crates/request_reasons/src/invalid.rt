@@ -214,7 +214,7 @@ fn fault_in(
     }
 }
 
-/// What a request gives that is not valid.
+/// What a request gives that is not valid. The server is for the contract alone.
 pub(crate) fn payload_fault_of(
     alloc: Global,
     client: &Client,

@@ -416,7 +416,7 @@ fn room_limit(
     }
 }
 
-/// The limit that a request would pass.
+/// The limit that a request would pass. The server is for the contract alone.
 pub(crate) fn limit_of(
     alloc: Global,
     client: &Client,

@@ -60,7 +60,8 @@ pub(crate) fn query_fault(
 ) -> Result<Option<PayloadFault>, AllocError>
     ensures { IfOk result (λ f. f ≡ query_fault [] level 1 (queries_of options.now)) }
 {
-    let _count = options.len();
+    // For the proof alone: a slice whose length is read is known to have fewer than 2^64 items.
+    let _known = options.len();
     let mut changes = Changes::new(alloc);
     let mut place: usize = 0;
     let mut rest = options;

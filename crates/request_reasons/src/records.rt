@@ -219,7 +219,8 @@ fn first_refused(
 ) -> Result<Option<PayloadFault>, AllocError>
     ensures { IfOk result (λ f. f ≡ first_refused purpose resources.now 1 (trees_of nodes.now)) }
 {
-    let _count = nodes.len();
+    // For the proof alone: a slice whose length is read is known to have fewer than 2^64 items.
+    let _known = nodes.len();
     let mut place: usize = 0;
     let mut rest = nodes;
     while let [node, others @ ..] = rest {

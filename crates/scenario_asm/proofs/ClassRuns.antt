@@ -18,7 +18,7 @@ use Rattle.lwm2m_values.specs.Value.{kind_of}
 use Rattle.object_defs.specs.Base.{base}
 use Rattle.object_defs.specs.Catalog.{definition_of, object_of}
 use Rattle.object_defs.specs.Lines.{first_line}
-use Rattle.object_defs.specs.Path.{full_path, instance_cmp, path_cmp}
+use Rattle.object_defs.specs.Path.{full_path, instance_cmp, path_cmp, path_to, path_with}
 use Rattle.object_defs.specs.Vendor.{is_vendor, new_object, with_object, with_resource}
 use Rattle.object_defs.specs.declared.definition.ObjectDef.{ObjectDef}
 use Rattle.object_defs.specs.declared.definition.ResourceDef.{ResourceDef}
@@ -52,7 +52,6 @@ use Rattle.scenario_layout.proofs.GoodClass.{class_good}
 use Rattle.scenario_layout.proofs.Items.{instance_made, object_vendor, value_made, number_again}
 use Rattle.scenario_layout.proofs.Ordered.{inserted_end}
 use Rattle.scenario_layout.proofs.GoodEntries.{plain_short}
-use Rattle.scenario_image.specs.Layout.{path_to, path_with}
 use Rattle.scenario_image.specs.Scenario.{Scenario, class_fault}
 use Rattle.scenario_image.specs.declared.fault.ScenarioFault.TheVariants as scenario
 use Rattle.scenario_words.specs.Reading.{◌>>=◌}

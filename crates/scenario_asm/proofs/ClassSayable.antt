@@ -9,6 +9,7 @@ use Rattle.lemmas.proofs.Lists.{each_appended, each_flat}
 use Rattle.lwm2m_values.specs.Value.{IsGood}
 use Rattle.lwm2m_values.specs.declared.value.Value.{Value}
 use Rattle.object_defs.specs.Base.{base}
+use Rattle.object_defs.specs.Path.{path_with}
 use Rattle.object_defs.specs.declared.definition.ObjectDef.{ObjectDef}
 use Rattle.object_defs.specs.declared.definition.ResourceDef.{ResourceDef}
 use Rattle.object_defs.specs.declared.path.FullPath.{FullPath}
@@ -16,7 +17,6 @@ use Rattle.object_defs.specs.declared.path.InstancePath.{InstancePath}
 use Rattle.device_template.specs.Template.{Template, is_notify}
 use Rattle.device_template.specs.Built.{IsBuilt, IsShort}
 use Rattle.scenario_layout.specs.Class.{objects_in, instances_in, values_in}
-use Rattle.scenario_image.specs.Layout.{path_with}
 use Rattle.scenario_words.specs.PathWord.{IsPath}
 use Rattle.scenario_statements.specs.declared.statement.Statement.TheVariants as says
 use Rattle.scenario_statements.specs.Spelling.{IsWithin, IsSayable}

@@ -3,13 +3,13 @@ use Rattle.std.specs.Prelude.{ℕ, ◌==◌, List, [], ◌∷◌, ◌++◌, map,
 use Rattle.std.specs.List.{flat_map}
 use Rattle.lwm2m_values.specs.declared.value.Value.{Value}
 use Rattle.object_defs.specs.declared.definition.ObjectDef.{ObjectDef}
+use Rattle.object_defs.specs.Path.{path_to}
 use Rattle.object_defs.specs.declared.path.FullPath.{FullPath}
 use Rattle.device_template.specs.Template.{Template}
 use Rattle.device_machine.specs.declared.event.Event.TheVariants.{Recv, Put, Firmware, Tick}
 use Rattle.scenario_layout.specs.Class.{objects_in, instances_in, values_in}
 use Rattle.scenario_image.specs.declared.step.Step.{Step}
 use Rattle.scenario_image.specs.declared.step.Step.TheVariants.{Event, Post, Need}
-use Rattle.scenario_image.specs.Layout.{path_to}
 use Rattle.scenario_image.specs.Scenario.{Row, Scenario}
 use Rattle.scenario_words.specs.Words.{ended_line}
 use Rattle.scenario_mnemonics.specs.declared.mnemonic.Mnemonic.{Mnemonic}

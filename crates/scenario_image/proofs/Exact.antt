@@ -11,6 +11,7 @@ use Rattle.byte_layout.specs.Exact.{IsExact}
 use Rattle.byte_layout.proofs.Fields.{byte_exact, short_exact, long_exact}
 use Rattle.byte_layout.proofs.Layouts.{fits_exact, at_most_exact, split_exact, last_exact, sized_exact}
 use Rattle.byte_layout.proofs.Lists.{counted_exact}
+use Rattle.object_defs.specs.Path.{path_to, path_with}
 use Rattle.scenario_layout.specs.Value.{path, value}
 use Rattle.scenario_layout.proofs.ExactValue.{path_exact, value_exact}
 use Rattle.device_template.specs.Template.{Template}
@@ -22,7 +23,7 @@ use Rattle.scenario_image.specs.declared.step.Step.TheVariants.{Event, Post, Nee
 use Rattle.scenario_image.specs.Scenario.{accounts_of, most_rows, most_steps}
 use Rattle.scenario_image.specs.Layout.{step_kind, step_kind_number, step_kind_numbered, kind, server_in, datagram_in}
 use Rattle.scenario_image.specs.Layout.{seconds_in}
-use Rattle.scenario_image.specs.Layout.{path_in, value_in, code_in, group_in, count_in, path_with, path_to, datagram}
+use Rattle.scenario_image.specs.Layout.{path_in, value_in, code_in, group_in, count_in, datagram}
 use Rattle.scenario_image.specs.Layout.{recv, tick, put, firmware, post, need, of_kind, step, steps, row_of, row, rows}
 
 abbrev is_number : ℕ → Bool

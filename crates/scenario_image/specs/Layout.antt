@@ -7,9 +7,7 @@ use Rattle.byte_layout.specs.declared.fault.Break.TheVariants.{BadField}
 use Rattle.byte_layout.specs.Layout.{Layout, number, judged, at_most, split, last, sized, counted}
 use Rattle.lwm2m_values.specs.declared.value.Value.{Value}
 use Rattle.lwm2m_values.specs.declared.value.Value.TheVariants.{Text}
-use Rattle.object_defs.specs.Path.{full_path}
-use Rattle.object_defs.specs.declared.path.Path.{Path}
-use Rattle.object_defs.specs.declared.path.Path.TheVariants.{Resource, Part as ResourcePart}
+use Rattle.object_defs.specs.Path.{full_path, path_to}
 use Rattle.object_defs.specs.declared.path.FullPath.{FullPath}
 use Rattle.scenario_layout.specs.Value.{path, value}
 use Rattle.device_template.specs.Template.{Template}
@@ -92,14 +90,6 @@ group_in _ = 0
 abbrev pub count_in : Step → ℕ
 count_in (Need group count) = count
 count_in _ = 0
-
--- the path of a resource, or of one of its parts
-abbrev pub path_with : ℕ → ℕ → ℕ → Option ℕ → Path
-path_with o i r None = Resource o i r
-path_with o i r (Some n) = ResourcePart o i r n
-
-abbrev pub path_to : FullPath → Path
-path_to p = path_with p.object p.instance p.resource p.part
 
 -- ---- steps
 

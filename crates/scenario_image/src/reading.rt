@@ -6,7 +6,7 @@ ghost use Rattle.byte_layout.specs.declared.fault.ReadError.TheVariants.{Fault, 
 ghost use Rattle.byte_layout.specs.Outcome.{Gives};
 ghost use Rattle.scenario_image.specs.declared.kind.StepKind.{StepKind};
 ghost use Rattle.scenario_image.specs.Layout.{kind, takes_memory, datagram, recv, tick, put, firmware, post, need};
-ghost use Rattle.scenario_image.specs.Layout.{of_kind, step, steps, path_to};
+ghost use Rattle.scenario_image.specs.Layout.{of_kind, step, steps};
 
 use crate::kind::{StepKind, kind_at};
 use crate::scenario::MOST_STEPS;
@@ -15,20 +15,9 @@ use byte_layout::{
     Break, Items, ReadError, bytes_at, items_at, u8_at, u16_at, u16_at_most, u32_at,
 };
 use device_machine::Event;
-use object_defs::{FullPath, Path};
 use octets::Bytes;
 use scenario_layout::{path_at, value_at};
 use std::alloc::Global;
-
-/// The path of three or four numbers.
-fn path_to(full: FullPath) -> Path
-    ensures { result ≡ path_to full }
-{
-    match full.part {
-        None => Path::Resource(full.object, full.instance, full.resource),
-        Some(part) => Path::Part(full.object, full.instance, full.resource, part),
-    }
-}
 
 #[tactic(auto, unfolding(crate::specs::Layout::datagram))]
 fn datagram_at(alloc: Global, bytes: &[u8]) -> Result<(Bytes, &[u8]), ReadError>
@@ -75,7 +64,7 @@ fn put_at(alloc: Global, bytes: &[u8]) -> Result<(Step, &[u8]), ReadError>
 {
     let (full, rest) = path_at(bytes)?;
     let (value, rest) = value_at(alloc, None, rest)?;
-    let path = path_to(full);
+    let path = full.to_path();
     Ok((Step::Event(Event::Put { path, value }), rest))
 }
 

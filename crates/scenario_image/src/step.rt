@@ -52,7 +52,8 @@ pub(crate) fn is_within_limits(step: &Step) -> bool
 {
     match step {
         Step::Event(Event::Recv { server, bytes }) => {
-            let _server = *server;
+            // For the proof alone: what the code reads is known to be in its type's range.
+            let _known = *server;
             let bytes = bytes.as_slice();
             bytes.len() <= 1500
         }
@@ -62,7 +63,8 @@ pub(crate) fn is_within_limits(step: &Step) -> bool
         }
         Step::Event(Event::Firmware(_) | Event::Tick(_)) => true,
         Step::Post(group) | Step::Need(group, _) => {
-            let _group = *group;
+            // For the proof alone: what the code reads is known to be in its type's range.
+            let _known = *group;
             true
         }
     }

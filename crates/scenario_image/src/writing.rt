@@ -47,8 +47,8 @@ fn put_any(out: &mut Vec<u8>, held: &Value) -> Result<(), AllocError>
     ensures ok { OnOk result (out.new.items ≡ out.old.items ++ (value None).spell held.now) }
     ensures appends { StartsWith out.new.items out.old.items }
 {
-    // A value that has a spelling is short, and one that is short is known to be good.
-    let _good = held.is_good();
+    // For the proof alone: a value that has a spelling is short, and one that is short is known to be good.
+    let _known = held.is_good();
     put_value(out, held)
 }
 

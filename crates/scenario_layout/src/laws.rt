@@ -50,8 +50,8 @@ pub fn class_has_bytes(template: &Template)
     ensures first { template.now.notify ≡ 0 → (class 1).Good template.now }
     ensures longer { (class 2).spell template.now ≡ template.now.notify ∷ (class 1).spell template.now }
 {
-    // A template's accounts are known to be those of a class that accepted additions made.
-    let _accounts = template.accounts();
+    // For the proof alone: a template's accounts are known to be those of a class that accepted additions made.
+    let _known = template.accounts();
 }
 
 /// There are no more of each part of a class than its bytes can tell, and its definitions and values have bytes.
@@ -62,5 +62,6 @@ pub(crate) fn good_parts(template: &Template)
     ensures values { length (values_in template.now) < 65536 }
     ensures held { All (λ e. IsGood e.1) (values_in template.now) }
 {
-    let _accounts = template.accounts();
+    // For the proof alone: a template's accounts are known to be those of a class that accepted additions made.
+    let _known = template.accounts();
 }

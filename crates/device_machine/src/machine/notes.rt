@@ -42,8 +42,8 @@ fn token_of(message: &Message) -> Result<Bytes, AllocError>
     ensures value { IfOk result (λ t. t ≡ message.now.token) }
     ensures short { IfOk result (λ t. length t ≤ 8) }
 {
-    // the options come with the promise that the message is well formed
-    let _options = message.options();
+    // For the proof alone: a message whose options are read is known to be well formed.
+    let _known = message.options();
     message.token().clone()
 }
 

@@ -85,8 +85,8 @@ impl Machine {
         ensures may_lack_memory { OnErr result
             (is_some (reply_to self.now.flat.kept.next_id message.now message.now.kind number answer) ≡ true) }
     {
-        // A message whose options are borrowed is known to be well formed.
-        let _options = message.options();
+        // For the proof alone: a message whose options are read is known to be well formed.
+        let _known = message.options();
         let (kind, mid) = match message.kind() {
             Kind::Con => (Kind::Ack, message.mid()),
             Kind::Non => {

@@ -4,7 +4,7 @@ ghost use Rattle.std.specs.List.{list_all};
 ghost use Rattle.std.specs.Ordering.{is_lt};
 ghost use Rattle.byte_layout.specs.Outcome.{Gives};
 ghost use Rattle.byte_layout.specs.Layout.{each};
-ghost use Rattle.object_defs.specs.Path.{full_path, path_cmp};
+ghost use Rattle.object_defs.specs.Path.{path_cmp};
 ghost use Rattle.device_template.specs.Template.{kind_taken, value_fault_at};
 ghost use Rattle.device_template.specs.Values.{has_kind};
 ghost use Rattle.lwm2m_values.specs.Value.{has_good_length};
@@ -18,7 +18,7 @@ use crate::value::value_at;
 use byte_layout::{Break, ReadError, u16_at};
 use device_template::Template;
 use lwm2m_values::ValueKind;
-use object_defs::{FullPath, Path};
+use object_defs::FullPath;
 use std::alloc::Global;
 
 /// Adds the values at the front of the bytes to a class that has none, and gives the bytes after them.
@@ -73,7 +73,7 @@ fn entry_at<'a>(
 {
     let (path, kind, rest) = value_path_at(template, last, bytes)?;
     let (value, after) = value_at(alloc, Some(kind), rest)?;
-    if let Err(fault) = template.add_value(path_to(path), value) {
+    if let Err(fault) = template.add_value(path.to_path(), value) {
         return Err(refusal(fault, rest.len()));
     }
     Ok((path, after))
@@ -110,14 +110,5 @@ fn is_behind(last: Option<FullPath>, path: FullPath) -> bool
     match last {
         None => true,
         Some(last) => last < path,
-    }
-}
-
-fn path_to(path: FullPath) -> Path
-    ensures { full_path result ≡ Some path }
-{
-    match path.part {
-        None => Path::Resource(path.object, path.instance, path.resource),
-        Some(part) => Path::Part(path.object, path.instance, path.resource, part),
     }
 }

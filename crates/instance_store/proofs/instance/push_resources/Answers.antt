@@ -20,7 +20,7 @@ loop-index-preserved c =
     ap (λ t. t ++ rest) c.in_ok-push_values.ensures
     ∙ append_assoc found _ rest
     ∙ ap (λ p. found ++ (map (λ e. (path_in p e.0, e.1)) (fin_map.entries c.entry-resource.result.1.now) ++ rest))
-    c.resource_at.ensures
+    c.resource_path.ensures
     ∙ ap (λ t. found ++ t) (sym (paths_next c.args.place es c.loop-index.index _ c.entry-resource.ensures))
     ∙ c.loop-index.invariant
 

@@ -20,8 +20,8 @@ loop-definition-preserved c = record {
   elsewhere = λ q h. elim c.if-is_lost.branch [
     | then-is_lost+in_ok-clear_resource w ↦
         ap (λ s. value_at s q) (w.store-is ∙ w.in_ok-clear_resource.ensures.ok)
-        ∙ cleared_outside c.loop-definition.store (resource_path w.path_to.result) q
-        (ap (λ p. lies_in (resource_path p) q) w.path_to.ensures ∙ outside_resource c.args.place _ q h)
+        ∙ cleared_outside c.loop-definition.store (resource_path w.resource_path.result) q
+        (ap (λ p. lies_in (resource_path p) q) w.resource_path.ensures ∙ outside_resource c.args.place _ q h)
         ∙ c.loop-definition.invariant.elsewhere q h
     | else-is_lost w ↦ ap (λ s. value_at s q) w.store-is ∙ c.loop-definition.invariant.elsewhere q h
   ];
@@ -33,6 +33,6 @@ returns-in_err-clear_resource-clause-absent c = λ h.
     ∙ sym (ap (λ s. has_instance s c.args.place) c.loop-definition.invariant.left)
     ∙ lost_present (drop c.loop-definition.definition-index c.args.resources.now) c.loop-definition.store c.args.place
     c.args.given.now c.args.place
-    ∙ sym (ap (λ p. has_instance c.loop-definition.store (instance_of p)) c.path_to.ensures)
-    ∙ is_absent (has_instance c.loop-definition.store (instance_of c.path_to.result)) _ _
+    ∙ sym (ap (λ p. has_instance c.loop-definition.store (instance_of p)) c.resource_path.ensures)
+    ∙ is_absent (has_instance c.loop-definition.store (instance_of c.resource_path.result)) _ _
     c.in_err-clear_resource.ensures.answer

@@ -13,7 +13,7 @@ returns-in-Some c =
     let found = shown_pairs c.args.found.now.items in
     ok_then c.push_values.result _ _ c.push_values.ensures (λ e.
     e
-    ∙ ap (λ p. found ++ map (λ f. (path_in p f.0, f.1)) (fin_map.entries c.in-Some.held.now)) c.resource_at.ensures
+    ∙ ap (λ p. found ++ map (λ f. (path_in p f.0, f.1)) (fin_map.entries c.in-Some.held.now)) c.resource_path.ensures
     ∙ ap (λ t. found ++ t) (sym (paths_of c.args.place c.args.resource (fin_map.entries c.in-Some.held.now)))
     ∙ ap (λ t. found ++ block path_below c.args.place t)
     (sym (resource_some c.self.inside.resources c.args.resource c.in-Some.held.now (sym c.in-Some.ensures)))

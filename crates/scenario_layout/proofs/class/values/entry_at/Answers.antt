@@ -22,12 +22,12 @@ returns-in-Err-clause-read c =
     c.in_ok-value.ensures.read) (within c.in_ok-value.value c.in_ok-value.ensures.good) in
     rw c.refusal.ensures (refused c.in-Err.fault _ _
     (λ other. absurd (not_both c.args.template.now _ c.in_ok-path.path c.in_ok-value.value c.in-Err.fault
-    c.path_to.ensures free (c.in-Err.ensures.refused other))))
+    c.to_path.ensures.again free (c.in-Err.ensures.refused other))))
 
 pub returns-clause-read : goal.returns-clause-read
 returns-clause-read c =
     let stored = value_stored c.args.template.now c.add_value.new.self _ c.in_ok-path.path c.in_ok-value.value
-    c.path_to.ensures c.in_default.ensures.added in
+    c.to_path.ensures.again c.in_default.ensures.added in
     entry_read c.args.template.now c.add_value.new.self c.args.bytes.now c.in_ok-path.path c.in_ok-path.rest.now
     c.in_ok-path.kind c.in_ok-value.value c.in_ok-value.after.now c.in_ok-path.ensures.read
     c.in_ok-path.ensures.kind c.in_ok-value.ensures.read
@@ -37,13 +37,13 @@ returns-clause-read c =
 pub returns-clause-made : goal.returns-clause-made
 returns-clause-made c =
     value_made c.args.template.now c.add_value.new.self c.in_ok-path.path c.in_ok-value.value
-    (value_stored c.args.template.now c.add_value.new.self _ c.in_ok-path.path c.in_ok-value.value c.path_to.ensures
-    c.in_default.ensures.added)
+    (value_stored c.args.template.now c.add_value.new.self _ c.in_ok-path.path c.in_ok-value.value
+    c.to_path.ensures.again c.in_default.ensures.added)
 
 pub returns-clause-last : goal.returns-clause-last
 returns-clause-last c =
     let stored = value_stored c.args.template.now c.add_value.new.self _ c.in_ok-path.path c.in_ok-value.value
-    c.path_to.ensures c.in_default.ensures.added in
+    c.to_path.ensures.again c.in_default.ensures.added in
     last_value c.args.template.now c.add_value.new.self c.in_ok-path.path c.in_ok-value.value
     c.in_ok-path.ensures.behind
     (ap values_in stored ∙ value_added c.args.template.now c.in_ok-path.path c.in_ok-value.value
