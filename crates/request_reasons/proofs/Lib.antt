@@ -3,7 +3,6 @@ mod Exceeding
 mod Grants
 mod Lines
 mod Nodes
-mod Paths
 mod Recognized
 mod Recorded
 mod Refused
