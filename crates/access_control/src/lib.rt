@@ -6,4 +6,4 @@ mod letters;
 mod right;
 
 pub use letters::Rights;
-pub use right::{control, control_of, may_create, rights};
+pub use right::{control, control_of, entry_of, integer_at, may_create, rights};

@@ -27,7 +27,7 @@ pub fn control(instance: u16, resource: u16) -> ResourcePath
 }
 
 /// The Integer at a path.
-fn integer_at(store: &Store, path: FullPath) -> Option<i64>
+pub fn integer_at(store: &Store, path: FullPath) -> Option<i64>
     ensures { result ≡ integer_in (value_at store.now path) }
 {
     match store.get(path) {
@@ -49,7 +49,7 @@ fn names(store: &Store, instance: u16, resource: u16, number: u16) -> bool
 }
 
 /// The entry of a server in the ACL of an instance of Access Control.
-fn entry_of(store: &Store, instance: u16, server: u16) -> Option<i64>
+pub fn entry_of(store: &Store, instance: u16, server: u16) -> Option<i64>
     ensures { result ≡ entry_of store.now instance server }
 {
     let acl = control(instance, ACL);

@@ -1,28 +1,15 @@
 //! The message of a datagram, beside what is stated of it.
 
-ghost use Rattle.std.specs.Prelude.{◌≡◌, ◌↔◌, IsTrue, IfOk, MatchOption};
+ghost use Rattle.std.specs.Prelude.{◌≡◌, ◌↔◌, IsTrue, IfOk};
 ghost use Rattle.std.specs.List.{list_any};
 ghost use Rattle.std.specs.Option.{option_copied};
-ghost use Rattle.coap_codec.specs.Message.{Message, Spells};
 ghost use Rattle.case_play.specs.Outputs.{HasPayload, IsMessage, IsNotification, is_observe};
 
 use coap_codec::option_number::OBSERVE;
-use coap_codec::{CoapFault, Message, Opt, decode, uint};
+use coap_codec::{Opt, message_in, uint};
 use lwm2m_values::Text;
 use octets::Bytes;
 use std::alloc::{AllocError, Global};
-
-/// The message that a datagram spells, if it spells one.
-fn message_of(alloc: Global, bytes: &[u8]) -> Result<Option<Message>, AllocError>
-    ensures found { IfOk result (λ r. MatchOption r (Unit {0}) (λ m. Spells bytes.now m)) }
-    ensures only { IfOk result (λ r. (m : Message) → Spells bytes.now m → MatchOption r ⊥ (λ n. n ≡ m)) }
-{
-    match decode(alloc, bytes) {
-        Ok(message) => Ok(Some(message)),
-        Err(CoapFault::Memory) => Err(AllocError),
-        Err(_) => Ok(None),
-    }
-}
 
 fn has_payload(text: Option<&Text>, payload: &Bytes) -> bool
     ensures { IsTrue result ↔ HasPayload (option_copied text.entry) payload.now }
@@ -55,7 +42,7 @@ pub(crate) fn is_message(
 ) -> Result<bool, AllocError>
     ensures { IfOk result (λ b. IsTrue b ↔ IsMessage code (option_copied text.entry) bytes.now) }
 {
-    let Some(message) = message_of(alloc, bytes)? else {
+    let Some(message) = message_in(alloc, bytes)? else {
         return Ok(false);
     };
     Ok(message.code() == code && has_payload(text, message.payload()))
@@ -70,7 +57,7 @@ pub(crate) fn is_notification(
 ) -> Result<bool, AllocError>
     ensures { IfOk result (λ b. IsTrue b ↔ IsNotification number text.now bytes.now) }
 {
-    let Some(message) = message_of(alloc, bytes)? else {
+    let Some(message) = message_in(alloc, bytes)? else {
         return Ok(false);
     };
     let observes = has_observe(message.options().as_slice(), number);

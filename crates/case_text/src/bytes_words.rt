@@ -10,13 +10,12 @@ ghost use Rattle.scenario_words.specs.Reading.{Gives, Reads};
 ghost use Rattle.case_text.specs.BytesWords.{all_digits, bytes_at, bytes_of, hex_at, hex_of, hex_up_to_at, or_token, plain_hex};
 ghost use Rattle.case_text.specs.BytesWords.{text_hex, times_after, word_hex};
 
-use crate::cut::cut;
 use crate::digits::Digits;
 use crate::pieces::{digits_in, pieces_of, repeated, times_of};
 use crate::stating::only_text;
 use hex::FromHexError;
 use octets::Bytes;
-use scenario_words::{Cause, end, first_word, is_name, next_word};
+use scenario_words::{Cause, cut, end, first_word, is_name, next_word};
 use std::alloc::{AllocError, Global};
 
 fn times_after(behind: &[u8]) -> Result<u32, Cause>

@@ -5,9 +5,8 @@ ghost use Rattle.std.specs.List.{list_any};
 ghost use Rattle.scenario_words.specs.Words.{parts};
 ghost use Rattle.case_text.specs.Expanding.{expanded, expanded_word, has_star};
 
-use crate::cut::cut;
 use crate::pieces::pieces_of;
-use scenario_words::Cause;
+use scenario_words::{Cause, cut};
 use std::alloc::{AllocError, Global};
 
 fn has_star(word: &[u8]) -> bool

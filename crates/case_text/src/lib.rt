@@ -11,7 +11,6 @@ mod body;
 mod bytes_words;
 mod case;
 mod checking;
-mod cut;
 mod digit;
 mod digits;
 mod expanding;

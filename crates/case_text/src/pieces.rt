@@ -6,10 +6,9 @@ ghost use Rattle.scenario_words.specs.Words.{words, parts};
 ghost use Rattle.scenario_words.specs.Reading.{Gives, Reads};
 ghost use Rattle.case_text.specs.Digits.{digit_of, digits_of, is_digit, is_hex, piece_of, pieces_of, times_of};
 
-use crate::cut::cut;
 use crate::digit::Digit;
 use crate::digits::Digits;
-use scenario_words::{Cause, end, hex_digit_value, is_name, natural};
+use scenario_words::{Cause, cut, end, hex_digit_value, is_name, natural};
 use std::alloc::{AllocError, Global};
 
 fn digit_of(byte: u8) -> Option<Digit>

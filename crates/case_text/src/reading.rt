@@ -17,7 +17,6 @@ ghost use Rattle.case_text.specs.Marks.{Finds};
 use crate::above::CaseKind;
 use crate::asking::read_question;
 use crate::bytes_words::bytes_of;
-use crate::cut::cut;
 use crate::expanding::expanded;
 use crate::fault::Why;
 use crate::file_stating::read_recorded_stated;
@@ -31,7 +30,7 @@ use device_machine::Event;
 use lwm2m_values::Text;
 use scenario_mnemonics::{Mnemonic, encode};
 use scenario_statements::{Ack, Statement, ack_bytes, read_statement, recv_line, said_ack};
-use scenario_words::{Cause, is_name};
+use scenario_words::{Cause, cut, is_name};
 use std::alloc::{AllocError, Global};
 
 /// What a line states in a case of this kind, by the line behind its `=>`.

@@ -20,5 +20,5 @@ pub use laws::one_reading;
 pub use message::Message;
 pub use number::{uint, uint_bytes};
 pub use option::{Opt, Options};
-pub use reading::{decode, decode_in};
+pub use reading::{decode, decode_in, message_in};
 pub use writing::{encode, encode_into};

@@ -1,5 +1,7 @@
 ghost use Rattle.std.specs.Prelude.{◌≡◌, ◌≢◌, ◌≤◌, ◌<◌, ◌+◌, ◌*◌, ◌++◌, ◌∷◌, List, ℕ, [], length, drop, IfOk, IfErr};
-ghost use Rattle.std.specs.Prelude.{IfSome, IfNone, IsErrAnd, IsOk, IsOkAnd, MatchResult, Some, None, Ok, Err, true};
+ghost use Rattle.std.specs.Prelude.{IfSome, IfNone, IsErrAnd, IsOk, IsOkAnd, MatchOption, MatchResult, Some, None, Ok};
+ghost use Rattle.std.specs.Prelude.{Err, true};
+ghost use Rattle.std.specs.Result.{result_ok};
 ghost use Rattle.coap_codec.specs.Message.{Message, MayFollow, IsOptionList, Spells, kind_number, two_bytes, nibble_of};
 ghost use Rattle.coap_codec.specs.Message.{extension_of, option_bytes, options_bytes, payload_bytes};
 ghost use Rattle.coap_codec.specs.Fault.{token_length, header_fault, width, amount, option_fault, place_fault};
@@ -9,7 +11,7 @@ ghost use Rattle.coap_codec.specs.Reading.{reading_of};
 use crate::front::kind_of;
 use crate::{CoapFault, Kind, Message, Opt, Options};
 use octets::Bytes;
-use std::alloc::Global;
+use std::alloc::{AllocError, Global};
 
 /// The header of a message, its token, and what stands after them.
 #[derive(Drop)]
@@ -166,6 +168,19 @@ pub fn decode(alloc: Global, bytes: &[u8]) -> Result<Message, CoapFault>
         (λ f. f ≢ CoapFault.Memory → reading_of bytes.now ≡ Err f) }
 {
     decode_in(alloc, Vec::new(alloc), bytes)
+}
+
+/// The message that bytes spell, if they spell one.
+pub fn message_in(alloc: Global, bytes: &[u8]) -> Result<Option<Message>, AllocError>
+    ensures reading { IfOk result (λ m. m ≡ result_ok (reading_of bytes.now)) }
+    ensures found { IfOk result (λ r. MatchOption r (Unit {0}) (λ m. Spells bytes.now m)) }
+    ensures only { IfOk result (λ r. (m : Message) → Spells bytes.now m → MatchOption r ⊥ (λ n. n ≡ m)) }
+{
+    match decode(alloc, bytes) {
+        Ok(message) => Ok(Some(message)),
+        Err(CoapFault::Memory) => Err(AllocError),
+        Err(_) => Ok(None),
+    }
 }
 
 /// Like `decode`, with the options in the memory of this list: `Message::into_spare` gives it back, so that one list

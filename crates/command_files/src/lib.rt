@@ -25,4 +25,4 @@ pub use output::Output;
 pub use refusal::{Refusal, Why, complaint};
 pub use status::Status;
 pub use telling::{complain, tell};
-pub use verdicts::{judge, no_run};
+pub use verdicts::{judge, no_run, verdict_status};

@@ -43,7 +43,8 @@ fn told_verdict<'a>(alloc: Global, verdict: Verdict) -> Result<Answer<'a>, Alloc
     Ok(Answer::printed(verdict_status(verdict), text))
 }
 
-fn verdict_status(verdict: Verdict) -> Status
+/// How the program ends with a verdict.
+pub fn verdict_status(verdict: Verdict) -> Status
     ensures { result ≡ verdict_status verdict }
 {
     match verdict {

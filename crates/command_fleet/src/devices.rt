@@ -5,8 +5,9 @@ ghost use Rattle.command_fleet.specs.declared.devices.Devices.{Devices as Device
 ghost use Rattle.command_fleet.specs.Devices.{AreChosen, IsPart, IsRange, count_of};
 ghost use Rattle.command_line.specs.Words.{IsOptionalNumber, SpellsNumber};
 
-use crate::rows::{add_row, steps_to_play};
+use crate::rows::steps_to_play;
 use command_files::Fault;
+use fleet_link::add_row;
 use scenario_image::Scenario;
 use std::alloc::Global;
 

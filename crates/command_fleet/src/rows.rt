@@ -1,9 +1,9 @@
 //! The rows of a part of a scenario.
-ghost use Rattle.std.specs.Prelude.{◌≡◌, ◌∷◌, ◌++◌, [], IfOk, OnOk};
+ghost use Rattle.std.specs.Prelude.{◌≡◌, IfOk};
 ghost use Rattle.fleet_link.specs.Playing.{played_steps};
 
 use fleet_link::own_steps;
-use scenario_image::{Scenario, ScenarioFault, Step};
+use scenario_image::Step;
 use std::alloc::{AllocError, Global};
 
 /// Copies of the steps of a row that are played: all but its datagrams, if rows are played.
@@ -18,21 +18,4 @@ pub(crate) fn steps_to_play(
         return Ok(Vec::new(alloc));
     }
     own_steps(alloc, steps)
-}
-
-/// Adds the row of a device of this class, with these steps.
-pub(crate) fn add_row(
-    scenario: &mut Scenario,
-    class: u16,
-    steps: Vec<Step>,
-) -> Result<(), ScenarioFault>
-    ensures classes { OnOk result (scenario.new.classes ≡ scenario.old.classes) }
-    ensures rows { OnOk result (scenario.new.rows
-        ≡ scenario.old.rows ++ record { class = class; steps = steps.items } ∷ []) }
-{
-    scenario.add_row(class)?;
-    for step in steps {
-        scenario.add_step(step)?;
-    }
-    Ok(())
 }

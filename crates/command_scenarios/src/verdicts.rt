@@ -4,22 +4,12 @@ ghost use Rattle.command_files.specs.Answers.{files_of};
 ghost use Rattle.command_files.specs.Verdicts.{verdict_status};
 ghost use Rattle.command_scenarios.specs.Jobs.{IsJudgedInJson};
 
-use command_files::{Answer, Status};
-use fleet_core::{Verdict, check};
+use command_files::{Answer, verdict_status};
+use fleet_core::check;
 use scenario_image::Scenario;
 use std::alloc::{AllocError, Global};
 use trace_file::Entry;
 use trace_json::verdict_line;
-
-/// How the program ends with a verdict.
-fn status_of(verdict: Verdict) -> Status
-    ensures { result ≡ verdict_status verdict }
-{
-    match verdict {
-        Verdict::Run => Status::Done,
-        Verdict::NotRun(_) => Status::NotRun,
-    }
-}
 
 /// Whether the entries are a run of the scenario, as an object in a line.
 #[tactic(auto, using(crate::proofs::Built::judged_in_json))]
@@ -33,5 +23,5 @@ pub(crate) fn judge_in_json<'a>(
 {
     let verdict = check(alloc, scenario, entries)?;
     let text = verdict_line(alloc, verdict)?;
-    Ok(Answer::printed(status_of(verdict), text))
+    Ok(Answer::printed(verdict_status(verdict), text))
 }

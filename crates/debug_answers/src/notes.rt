@@ -1,10 +1,10 @@
 //! What a person gets on standard error beside the answer `bad command`.
 ghost use Rattle.std.specs.Prelude.{◌≡◌, ◌++◌, IfOk, OnOk, take};
 ghost use Rattle.std.specs.String.{string_bytes};
-ghost use Rattle.scenario_words.specs.Quoted.{escaped, is_plain, quoted_word};
+ghost use Rattle.scenario_words.specs.Quoted.{escaped, quoted_word};
 ghost use Rattle.debug_answers.specs.Notes.{cut_mark, most_shown_bytes, no_command, no_command_line};
 
-use scenario_words::hex_word;
+use scenario_words::{hex_word, is_plain};
 use std::alloc::{AllocError, Global};
 
 /// The most bytes of a line that are shown.
@@ -67,10 +67,4 @@ fn push_escaped(alloc: Global, text: &mut String, byte: u8) -> Result<(), AllocE
     let digits = hex_word(alloc, &[byte])?;
     text.push('\\')?;
     text.push_str(digits.as_str())
-}
-
-fn is_plain(byte: u8) -> bool
-    ensures { result ≡ is_plain byte }
-{
-    (32 <= byte && byte <= 126) && (byte != b'"' && byte != b'\\')
 }

@@ -3,8 +3,6 @@
 ghost use Rattle.std.specs.Prelude.{◌≡◌, IfOk};
 ghost use Rattle.std.specs.String.{string_bytes};
 ghost use Rattle.device_machine.specs.State.{Machine as FlatState, Shows};
-ghost use Rattle.message_words.specs.Names.{class_and_detail};
-ghost use Rattle.message_words.specs.Text.{fault_reason};
 ghost use Rattle.device_reasons.specs.Text.{IsReasonLine, arrival_reason_text, empty_reset_text, empty_text};
 ghost use Rattle.device_reasons.specs.Text.{malformed_text};
 ghost use Rattle.device_reasons.specs.Text.{no_request_text, not_empty_text, other_text};
@@ -13,6 +11,7 @@ use crate::arrival::ArrivalReason;
 use crate::deciding::arrival_reason;
 use coap_codec::CoapFault;
 use device_machine::Device;
+use message_words::{class_and_detail, fault_reason};
 use request_reasons::reason_text;
 use std::alloc::{AllocError, Global};
 
@@ -29,33 +28,6 @@ const REPEATED_CON: &str = "rule 2: a repeat of a CON within 247 s: the recorded
 
 /// What becomes of a repeated NON.
 const REPEATED_NON: &str = "rule 2: a repeat of a NON within 145 s: nothing is sent";
-
-/// Why bytes are not a message.
-fn fault_reason(fault: CoapFault) -> &'static str
-    ensures { result.now ≡ fault_reason fault }
-{
-    match fault {
-        CoapFault::Short => "fewer than four bytes",
-        CoapFault::Version => "a version other than 1",
-        CoapFault::TokenLength => "a token length above 8",
-        CoapFault::EmptyWithData => "an empty message with bytes behind its header",
-        CoapFault::OptionCut => "the bytes end within a token or an option",
-        CoapFault::OptionReserved => "a reserved nibble",
-        CoapFault::OptionNumber => "an option number above 65535",
-        CoapFault::PayloadEmpty => "a payload marker with no payload",
-        CoapFault::Memory => "out of memory",
-    }
-}
-
-/// A code as class and detail, as `2.05`.
-fn class_and_detail(alloc: Global, code: u8) -> Result<String, AllocError>
-    ensures { IfOk result (λ text. string_bytes text ≡ class_and_detail code) }
-{
-    let class = code / 32;
-    let tens = code % 32 / 10;
-    let ones = code % 32 % 10;
-    format!(in alloc; "{class}.{tens}{ones}")
-}
 
 /// Bytes that are not a message, and what becomes of them.
 fn malformed_text(alloc: Global, fault: CoapFault, what: &str) -> Result<String, AllocError>

@@ -95,7 +95,7 @@ fn unsigned_text(alloc: Global, number: u64) -> Result<String, AllocError>
 }
 
 /// A number of thousandths, as `-0.5` or `50`.
-fn thousandths_text(alloc: Global, number: i64) -> Result<String, AllocError>
+pub fn thousandths_text(alloc: Global, number: i64) -> Result<String, AllocError>
     ensures { IfOk result (λ t. string_bytes t ≡ thousandths_text number) }
 {
     let text = unsigned_text(alloc, number.unsigned_abs())?;

@@ -33,7 +33,7 @@ use object_defs::{Path, ResourceDef, ResourcePath};
 use std::alloc::{AllocError, Global};
 
 /// Whether a resource is defined, and can be executed.
-fn is_executable(definition: Option<ResourceDef>) -> bool
+pub fn is_executable(definition: Option<ResourceDef>) -> bool
     ensures { result ≡ is_executable definition }
 {
     match definition {

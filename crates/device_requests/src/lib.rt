@@ -20,6 +20,8 @@ mod write_attributes;
 
 pub use answer::{Act, Answer, Code};
 pub use client::Client;
+pub use discover::thousandths_text;
+pub use execute::is_executable;
 pub use laws::{
     arguments_are_tested, first_line_answers, links_what_exists, only_reads_observe,
     reads_depend_on_their_values, reads_what_was_written, refusals_change_nothing,
@@ -27,4 +29,8 @@ pub use laws::{
 };
 pub use observe::Interest;
 pub use operation::Operation;
+pub use options::{has_known_form, observe_of, path_of, repeats};
 pub use request::{Request, RequestResult};
+pub use targets::{defined, definition_at, is_fixed, is_readable};
+pub use write::{given_to_part, given_to_resource, is_writable, mode_at};
+pub use write_attributes::level_at;

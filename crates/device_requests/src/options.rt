@@ -14,7 +14,7 @@ use coap_codec::{Opt, uint};
 use object_defs::{Path, decimal_number};
 
 /// Whether the option is a recognized one whose value has a length that this one may have.
-fn has_known_form(option: &Opt) -> bool
+pub fn has_known_form(option: &Opt) -> bool
     ensures { result ≡ has_known_form option.now }
 {
     let length = option.value.len();
@@ -35,7 +35,7 @@ fn is_critical(option: &Opt) -> bool
 }
 
 /// Whether the option of this number stands there twice or more.
-fn repeats(number: u16, options: &[Opt]) -> bool
+pub fn repeats(number: u16, options: &[Opt]) -> bool
     ensures { result ≡ repeats number options.now }
 {
     options.iter().filter(|o| o.number == number).count() > 1
@@ -118,7 +118,7 @@ fn observe_number(option: &Opt) -> Option<u32>
 }
 
 /// The number of the first Observe; one of a wrong length counts as none.
-fn observe_of(options: &[Opt]) -> Option<u32>
+pub fn observe_of(options: &[Opt]) -> Option<u32>
     ensures { result ≡ observe_of options.now }
 {
     observe_number(first_of(OBSERVE, options)?)
@@ -147,7 +147,7 @@ fn extended(path: Option<Path>, number: u16) -> Option<Path>
 }
 
 /// The path that the Uri-Path options name, of one to four numbers.
-pub(crate) fn path_of(options: &[Opt]) -> Option<Path>
+pub fn path_of(options: &[Opt]) -> Option<Path>
     ensures { result ≡ path_of (segments_of options.now) }
 {
     let mut path: Option<Path> = None;

@@ -31,14 +31,14 @@ pub(crate) fn is_resource(object: u16, resource: u16, path: Path) -> bool
 }
 
 /// Whether servers create and delete no instances of the object.
-pub(crate) fn is_fixed(object: u16) -> bool
+pub fn is_fixed(object: u16) -> bool
     ensures { result ≡ is_fixed object }
 {
     object == SERVER || object == ACCESS_CONTROL || object == DEVICE || object == FIRMWARE_UPDATE
 }
 
 /// The definitions of an object's resources; none where the object is not known.
-pub(crate) fn defined(catalog: &Catalog, object: u16) -> &[ResourceDef]
+pub fn defined(catalog: &Catalog, object: u16) -> &[ResourceDef]
     ensures { result.now ≡ defined catalog.now object }
 {
     match catalog.object(object) {
@@ -48,7 +48,7 @@ pub(crate) fn defined(catalog: &Catalog, object: u16) -> &[ResourceDef]
 }
 
 /// The definition of the resource that a path names.
-pub(crate) fn definition_at(catalog: &Catalog, path: Path) -> Option<ResourceDef>
+pub fn definition_at(catalog: &Catalog, path: Path) -> Option<ResourceDef>
     ensures { result ≡ definition_at catalog.now path }
 {
     match path {
@@ -69,7 +69,7 @@ pub(crate) fn is_multiple(definition: Option<ResourceDef>) -> bool
 }
 
 /// Whether a resource is defined, and can be read.
-pub(crate) fn is_readable(definition: Option<ResourceDef>) -> bool
+pub fn is_readable(definition: Option<ResourceDef>) -> bool
     ensures { result ≡ is_readable definition }
 {
     match definition {

@@ -68,7 +68,7 @@ fn is_target(catalog: &Catalog, store: &Store, path: Path) -> bool
 }
 
 /// Whether a resource is defined, and can be written.
-fn is_writable(definition: Option<ResourceDef>) -> bool
+pub fn is_writable(definition: Option<ResourceDef>) -> bool
     ensures { result ≡ is_writable definition }
 {
     match definition {
@@ -141,7 +141,7 @@ fn event_of(path: Path, values: &NewValues) -> Result<Option<FirmwareEvent>, All
 }
 
 /// What a payload gives to the resource of this definition.
-fn given_to_resource(
+pub fn given_to_resource(
     alloc: Global,
     definition: Option<ResourceDef>,
     format: Format,
@@ -157,7 +157,7 @@ fn given_to_resource(
 }
 
 /// What a payload gives to a part of the resource of this definition.
-fn given_to_part(
+pub fn given_to_part(
     alloc: Global,
     definition: Option<ResourceDef>,
     part: u16,
@@ -202,7 +202,7 @@ fn values_given(
 }
 
 /// How a Write at the path treats the parts that it does not name.
-fn mode_at(mode: Mode, path: Path) -> Mode
+pub fn mode_at(mode: Mode, path: Path) -> Mode
     ensures { result ≡ mode_at mode path }
 {
     match path {

@@ -44,7 +44,7 @@ fn is_numeric(definition: Option<ResourceDef>) -> bool
 }
 
 /// The level of a path, for attributes.
-fn level_at(catalog: &Catalog, path: Path) -> Level
+pub fn level_at(catalog: &Catalog, path: Path) -> Level
     ensures { result ≡ level_at catalog.now path }
 {
     match path {

@@ -13,7 +13,7 @@ ghost use Rattle.expectations.specs.ExpectationWords.{what_named, within_at};
 use crate::expectation::Expected;
 use crate::what::{AskedRequest, Details, What};
 use octets::Bytes;
-use scenario_mnemonics::{Format, Keyword, Queries, Verb};
+use scenario_mnemonics::{Format, Keyword, Queries, Verb, format_of};
 use scenario_words::{
     Cause, end, first_word, hex_bytes, is_name, name_fault, natural, next_word, path,
 };
@@ -26,22 +26,6 @@ fn is_over(line: &[u8]) -> bool
     match next_word(line) {
         None => true,
         Some((word, _)) => is_name(word, "within"),
-    }
-}
-
-fn format_of(alloc: Global, word: &[u8]) -> Result<Format, Cause>
-    ensures { Gives (λ f. f) result (format_of word.now) }
-{
-    if is_name(word, "any") {
-        Ok(Format::Any)
-    } else if is_name(word, "text") {
-        Ok(Format::Text)
-    } else if is_name(word, "opaque") {
-        Ok(Format::Opaque)
-    } else if is_name(word, "tlv") {
-        Ok(Format::Tlv)
-    } else {
-        Err(name_fault(alloc, word))
     }
 }
 

@@ -1,13 +1,11 @@
 //! The datagrams that the row of a device receives.
 ghost use Rattle.std.specs.Prelude.{◌≡◌, ◌≤◌, ◌++◌, length, IfOk, OnOk};
-ghost use Rattle.std.specs.Result.{result_ok};
-ghost use Rattle.coap_codec.specs.Reading.{reading_of};
 ghost use Rattle.scenario_image.specs.Layout.{seconds_in};
 ghost use Rattle.scenario_image.specs.Scenario.{most_steps};
 ghost use Rattle.expectations.specs.Arrivals.{arrivals_from, arrivals_in, arrivals_of, end_of_row, row_of};
 
 use crate::arrival::Arrival;
-use coap_codec::{CoapFault, Message, decode};
+use coap_codec::message_in;
 use device_machine::Event;
 use scenario_image::{Scenario, Step};
 use std::alloc::{AllocError, Global};
@@ -34,17 +32,6 @@ fn seconds_in(step: &Step) -> u32
         Step::Event(Event::Recv { .. } | Event::Put { .. } | Event::Firmware(_))
         | Step::Post(_)
         | Step::Need(_, _) => 0,
-    }
-}
-
-/// The message that bytes spell, if they spell one.
-fn message_in(alloc: Global, bytes: &[u8]) -> Result<Option<Message>, AllocError>
-    ensures { IfOk result (λ m. m ≡ result_ok (reading_of bytes.now)) }
-{
-    match decode(alloc, bytes) {
-        Ok(message) => Ok(Some(message)),
-        Err(CoapFault::Memory) => Err(AllocError),
-        Err(_) => Ok(None),
     }
 }
 

@@ -30,5 +30,6 @@ pub use memory::{ScriptedPorts, Sending};
 pub use ports::{Arrival, Ports, PortsFault, Receipt};
 pub use recording::Recording;
 pub use row::{PlayedRow, RowState, own_steps};
+pub use saving::add_row;
 pub use slot::{DeviceEnd, Slot};
 pub use udp::{BindFault, Counts, UdpPorts};

@@ -26,7 +26,7 @@ fn copy_classes(alloc: Global, scenario: &Scenario) -> Result<Scenario, Scenario
 }
 
 /// Adds the row of a device of this class, with these steps.
-fn add_row(scenario: &mut Scenario, class: u16, steps: Vec<Step>) -> Result<(), ScenarioFault>
+pub fn add_row(scenario: &mut Scenario, class: u16, steps: Vec<Step>) -> Result<(), ScenarioFault>
     ensures classes { OnOk result (scenario.new.classes ≡ scenario.old.classes) }
     ensures rows { OnOk result (scenario.new.rows
         ≡ scenario.old.rows ++ record { class = class; steps = steps.items } ∷ []) }

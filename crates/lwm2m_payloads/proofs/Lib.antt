@@ -11,6 +11,6 @@ pub mod Reading
 pub mod Room
 pub mod Places
 pub mod ShownAgain
-pub mod Sole
+mod LoneRecord
 pub mod Writing
 pub mod Written

@@ -17,7 +17,7 @@ use object_defs::{Ops, ResourceDef};
 use std::alloc::{AllocError, Global};
 
 /// Whether a payload may give something to a resource with these operations.
-fn may_be_given(purpose: Purpose, ops: Ops) -> bool
+pub fn may_be_given(purpose: Purpose, ops: Ops) -> bool
     ensures { result ≡ may_be_given purpose ops }
 {
     match purpose {

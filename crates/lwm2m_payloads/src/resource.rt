@@ -12,7 +12,7 @@ use object_defs::ResourceDef;
 use std::alloc::{AllocError, Global};
 
 /// The number of a record.
-pub(crate) fn number_in(node: &Node) -> u16
+pub fn number_in(node: &Node) -> u16
     ensures { result ≡ number_in (tree_of node.now) }
 {
     match node {

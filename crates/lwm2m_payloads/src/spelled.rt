@@ -49,7 +49,7 @@ pub(crate) fn records_in(alloc: Global, payload: &[u8]) -> Result<Option<Vec<Nod
 }
 
 /// The record that stands alone.
-pub(crate) fn sole(nodes: &[Node]) -> Option<&Node>
+pub fn sole(nodes: &[Node]) -> Option<&Node>
     ensures { option_map (λ n. tree_of n.now) result ≡ sole (trees_of nodes.now) }
 {
     if nodes.len() == 1 {

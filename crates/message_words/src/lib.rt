@@ -7,4 +7,5 @@ mod payload;
 mod text;
 mod uri;
 
-pub use text::{datagram_text, message_text};
+pub use names::{class_and_detail, format_name};
+pub use text::{datagram_text, fault_reason, message_text};

@@ -1,11 +1,11 @@
 //! The names of types, of codes and of Content-Formats.
-ghost use Rattle.std.specs.Prelude.{◌≡◌, ◌++◌, ◌/◌, ◌%◌, option_map, OnOk};
+ghost use Rattle.std.specs.Prelude.{◌≡◌, ◌++◌, ◌/◌, ◌%◌, option_map, IfOk, OnOk};
 ghost use Rattle.std.specs.String.{string_bytes};
 ghost use Rattle.message_words.specs.Names.{class_and_detail, client_errors, code_name, code_text, format_text};
 ghost use Rattle.message_words.specs.Names.{formats, type_name, methods, name_in, server_errors, successes};
 
 use coap_codec::Kind;
-use std::alloc::AllocError;
+use std::alloc::{AllocError, Global};
 
 /// The type of a message.
 pub(crate) fn type_name(kind: Kind) -> &'static str
@@ -104,6 +104,15 @@ fn put_class_and_detail(out: &mut String, code: u8) -> Result<(), AllocError>
     write!(out, "{class}.{tens}{ones}")
 }
 
+/// A code as class and detail, as `4.04`.
+pub fn class_and_detail(alloc: Global, code: u8) -> Result<String, AllocError>
+    ensures { IfOk result (λ text. string_bytes text ≡ class_and_detail code) }
+{
+    let mut text = String::new(alloc);
+    put_class_and_detail(&mut text, code)?;
+    Ok(text)
+}
+
 /// Writes a code, and its name where it has one.
 pub(crate) fn put_code(out: &mut String, code: u8) -> Result<(), AllocError>
     ensures { OnOk result (string_bytes out.new ≡ string_bytes out.old ++ code_text code) }
@@ -119,7 +128,8 @@ pub(crate) fn put_code(out: &mut String, code: u8) -> Result<(), AllocError>
     out.push_str(name)
 }
 
-fn format_name(format: u32) -> Option<&'static str>
+/// The name of a Content-Format, where it has one.
+pub fn format_name(format: u32) -> Option<&'static str>
     ensures { option_map (λ name. name.now) result ≡ name_in formats format }
 {
     match format {

@@ -63,7 +63,8 @@ pub fn message_text(alloc: Global, message: &Message) -> Result<String, AllocErr
     words_of(alloc, message)
 }
 
-fn fault_reason(fault: CoapFault) -> &'static str
+/// Why bytes are not a message.
+pub fn fault_reason(fault: CoapFault) -> &'static str
     ensures { result.now ≡ fault_reason fault }
 {
     match fault {

@@ -2,64 +2,15 @@
 
 ghost use Rattle.std.specs.Prelude.{◌≡◌, IfOk};
 ghost use Rattle.std.specs.String.{string_bytes};
-ghost use Rattle.device_requests.specs.Discover.{fraction_text, thousandths_text, unsigned_text};
-ghost use Rattle.message_words.specs.Names.{class_and_detail};
 ghost use Rattle.notification_reasons.specs.Text.{crossed_words, due_text, due_words, elapsed_words, ended_words};
 ghost use Rattle.notification_reasons.specs.Text.{head_text, reason_words, resent_words, sending_line, sending_text};
 ghost use Rattle.notification_reasons.specs.Text.{stepped_words};
 
 use crate::reasons::{DueBy, NotificationReason, Sending};
+use device_requests::thousandths_text;
+use message_words::class_and_detail;
 use object_defs::path_text;
 use std::alloc::{AllocError, Global};
-
-/// The digits of thousandths below 1,000 after a point, with no needless zero.
-fn fraction_text(alloc: Global, fraction: u64) -> Result<String, AllocError>
-    ensures { IfOk result (λ t. string_bytes t ≡ fraction_text fraction) }
-{
-    let tenths = fraction / 100;
-    let hundredths = fraction / 10 % 10;
-    let last = fraction % 10;
-    if fraction == 0 {
-        return Ok(String::new(alloc));
-    }
-    if fraction % 100 == 0 {
-        return format!(in alloc; ".{tenths}");
-    }
-    if fraction % 10 == 0 {
-        return format!(in alloc; ".{tenths}{hundredths}");
-    }
-    format!(in alloc; ".{tenths}{hundredths}{last}")
-}
-
-/// A number of thousandths without its sign.
-fn unsigned_text(alloc: Global, number: u64) -> Result<String, AllocError>
-    ensures { IfOk result (λ t. string_bytes t ≡ unsigned_text number) }
-{
-    let whole = number / 1000;
-    let fraction = fraction_text(alloc, number % 1000)?;
-    format!(in alloc; "{whole}{fraction}")
-}
-
-/// A number of thousandths, as `-0.5` or `50`.
-fn thousandths_text(alloc: Global, number: i64) -> Result<String, AllocError>
-    ensures { IfOk result (λ t. string_bytes t ≡ thousandths_text number) }
-{
-    let text = unsigned_text(alloc, number.unsigned_abs())?;
-    if number < 0 {
-        return format!(in alloc; "-{text}");
-    }
-    Ok(text)
-}
-
-/// A code as class and detail, as `4.04`.
-fn class_and_detail(alloc: Global, code: u8) -> Result<String, AllocError>
-    ensures { IfOk result (λ text. string_bytes text ≡ class_and_detail code) }
-{
-    let class = code / 32;
-    let tens = code % 32 / 10;
-    let ones = code % 32 % 10;
-    format!(in alloc; "{class}.{tens}{ones}")
-}
 
 /// One number and then another, between which this bound lies.
 fn crossed_words(

@@ -9,9 +9,8 @@ ghost use Rattle.device_requests.specs.Refusals.{lacks_format};
 ghost use Rattle.device_requests.specs.Request.{purpose_of, request_of};
 ghost use Rattle.request_reasons.specs.Formats.{IsUnserved, format_named, is_served, with_format};
 
-use crate::targets::definition_at;
 use coap_codec::Message;
-use device_requests::{Operation, Request};
+use device_requests::{Operation, Request, definition_at};
 use lwm2m_payloads::{Format, format_for};
 use object_defs::{Catalog, Path, ResourceDef};
 

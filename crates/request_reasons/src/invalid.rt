@@ -11,11 +11,10 @@ ghost use Rattle.request_reasons.specs.Payloads.{create_fault, instance_payload_
 ghost use Rattle.request_reasons.specs.Payloads.{resource_payload_fault, value_fault, write_fault, write_fault_in};
 
 use crate::payload::PayloadFault;
-use crate::queries::{level_at, query_fault};
+use crate::queries::query_fault;
 use crate::records::{creation_fault, instance_fault, is_value, part_record_fault, resource_fault};
-use crate::targets::{defined, definition_at};
 use coap_codec::Message;
-use device_requests::{Client, Operation, Request};
+use device_requests::{Client, Operation, Request, defined, definition_at, level_at};
 use lwm2m_payloads::{Format, format_for};
 use lwm2m_values::{Node, TlvFault, ValueFault, ValueKind, read_text, read_tlv};
 use object_defs::{Catalog, Path, ResourceDef};

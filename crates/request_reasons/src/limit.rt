@@ -6,21 +6,22 @@ ghost use Rattle.std.specs.Option.{option_copied};
 ghost use Rattle.device_requests.specs.Create.{newborn};
 ghost use Rattle.device_requests.specs.Refusals.{is_too_much, to_create, to_write};
 ghost use Rattle.device_requests.specs.Request.{purpose_of, request_of};
-ghost use Rattle.device_requests.specs.Write.{given_to_part, given_to_resource, mode_at};
+ghost use Rattle.device_requests.specs.Write.{mode_at};
 ghost use Rattle.instance_store.specs.Stored.{parts_of};
 ghost use Rattle.lwm2m_payloads.specs.Changes.{is_other};
 ghost use Rattle.request_reasons.specs.Limits.{IsLimit, assigned_at, created_excess, excess_in, firmware_state_in};
 ghost use Rattle.request_reasons.specs.Limits.{given_at, is_excess, lone, part_count, place_in, state_as};
 ghost use Rattle.request_reasons.specs.Limits.{written_excess};
 
-use crate::targets::{defined, definition_at};
 use coap_codec::Message;
 use device_instances::number_for;
-use device_requests::{Client, Operation, Request};
+use device_requests::{
+    Client, Operation, Request, defined, definition_at, given_to_part, given_to_resource, mode_at,
+};
 use instance_store::Store;
 use lwm2m_payloads::{
     Assignment, Assignments, Format, Given, Mode, Parts, creation_given, format_for,
-    instance_given, is_kept, is_too_many, part_given, resource_given,
+    instance_given, is_kept, is_too_many,
 };
 use lwm2m_values::Value;
 use object_defs::object_number::{ACCESS_CONTROL, FIRMWARE_UPDATE};
@@ -194,37 +195,6 @@ fn excess_in(
     Ok(None)
 }
 
-/// What a payload gives to the resource of this definition.
-fn given_to_resource(
-    alloc: Global,
-    definition: Option<ResourceDef>,
-    format: Format,
-    payload: &[u8],
-) -> Result<Option<Given>, AllocError>
-    ensures { IfOk result (λ g. g ≡ given_to_resource definition format payload.now) }
-{
-    match definition {
-        None => Ok(None),
-        Some(definition) => resource_given(alloc, definition, format, payload),
-    }
-}
-
-/// What a payload gives to a part of the resource of this definition.
-fn given_to_part(
-    alloc: Global,
-    definition: Option<ResourceDef>,
-    part: u16,
-    format: Format,
-    payload: &[u8],
-) -> Result<Option<Given>, AllocError>
-    ensures { IfOk result (λ g. g ≡ given_to_part definition part format payload.now) }
-{
-    match definition {
-        None => Ok(None),
-        Some(definition) => part_given(alloc, definition, part, format, payload),
-    }
-}
-
 /// The instance that a path names, or in which it lies.
 fn place_in(path: Path) -> InstancePath
     ensures { result ≡ place_in path }
@@ -237,16 +207,6 @@ fn place_in(path: Path) -> InstancePath
         Path::Instance(object, instance)
         | Path::Resource(object, instance, _)
         | Path::Part(object, instance, _, _) => InstancePath { object, instance },
-    }
-}
-
-/// How a Write at the path treats the parts that it does not name.
-fn mode_at(mode: Mode, path: Path) -> Mode
-    ensures { result ≡ mode_at mode path }
-{
-    match path {
-        Path::Object(_) | Path::Instance(_, _) | Path::Resource(_, _, _) => mode,
-        Path::Part(_, _, _, _) => Mode::Update,
     }
 }
 

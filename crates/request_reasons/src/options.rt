@@ -3,14 +3,14 @@
 ghost use Rattle.std.specs.Prelude.{◌≡◌, true, find, Some};
 ghost use Rattle.std.specs.Option.{option_copied};
 ghost use Rattle.object_defs.specs.Lines.{first_line};
-ghost use Rattle.device_requests.specs.Options.{has_known_form, has_unknown_critical, has_unrecognized_critical};
-ghost use Rattle.device_requests.specs.Options.{is_critical, repeats};
+ghost use Rattle.device_requests.specs.Options.{has_unrecognized_critical};
 ghost use Rattle.request_reasons.specs.Options.{IsUnrecognized, is_known, is_unrecognized, repeated_lines};
 
 use coap_codec::Opt;
 use coap_codec::option_number::{
     ACCEPT, CONTENT_FORMAT, OBSERVE, URI_HOST, URI_PATH, URI_PORT, URI_QUERY,
 };
+use device_requests::{has_known_form, repeats};
 
 /// Why an option that must be understood is not recognized.
 #[derive(Clone, Copy, Debug, PartialEq, Eq)]
@@ -24,20 +24,6 @@ pub enum OptionFault {
     },
     /// It is a second one, where there may be one.
     Repeated,
-}
-
-/// Whether the option is a recognized one whose value has a length that this one may have.
-fn has_known_form(option: &Opt) -> bool
-    ensures { result ≡ has_known_form option.now }
-{
-    let length = option.value.len();
-    match option.number {
-        URI_HOST => 1 <= length && length <= 255,
-        OBSERVE => length <= 3,
-        URI_PATH | URI_QUERY => length <= 255,
-        URI_PORT | CONTENT_FORMAT | ACCEPT => length <= 2,
-        _ => false,
-    }
 }
 
 /// Whether the option must be understood, and is unknown or of a wrong length.
@@ -55,13 +41,6 @@ fn is_known(number: u16) -> bool
         URI_HOST | OBSERVE | URI_PORT | URI_PATH | CONTENT_FORMAT | URI_QUERY | ACCEPT => true,
         _ => false,
     }
-}
-
-/// Whether the option of this number stands there twice or more.
-fn repeats(number: u16, options: &[Opt]) -> bool
-    ensures { result ≡ repeats number options.now }
-{
-    options.iter().filter(|o| o.number == number).count() > 1
 }
 
 /// The number of an option of which there is a second one that is not recognized, if there is one.

@@ -5,8 +5,6 @@ ghost use Rattle.std.specs.Option.{is_some, option_copied};
 ghost use Rattle.lwm2m_values.specs.Reading.{nodes_of_bytes, value_of_bytes, value_of_text};
 ghost use Rattle.lwm2m_values.specs.Tree.{tree_of, trees_of};
 ghost use Rattle.object_defs.specs.Catalog.{resource_in};
-ghost use Rattle.lwm2m_payloads.specs.Building.{sole};
-ghost use Rattle.lwm2m_payloads.specs.Given.{may_be_given, number_in};
 ghost use Rattle.request_reasons.specs.Payloads.{count_of, creation_fault, fault_as, fault_in, first_refused};
 ghost use Rattle.request_reasons.specs.Payloads.{has_number, instance_fault, is_lacking, lone_part_fault, lone_part_in};
 ghost use Rattle.request_reasons.specs.Payloads.{mandatory_fault, number_fault, part_fault, part_record_fault, part_refused};
@@ -16,9 +14,9 @@ ghost use Rattle.request_reasons.specs.declared.payload.PayloadFault.TheVariants
 use crate::payload::{PayloadFault, RecordFault};
 use device_instances::number_for;
 use instance_store::Store;
-use lwm2m_payloads::Purpose;
+use lwm2m_payloads::{Purpose, may_be_given, number_in, sole};
 use lwm2m_values::{Node, ValueFault, ValueKind, value_of};
-use object_defs::{Ops, ResourceDef};
+use object_defs::ResourceDef;
 use std::alloc::{AllocError, Global};
 
 /// Whether bytes are a value of this kind.
@@ -29,18 +27,6 @@ pub(crate) fn is_value(alloc: Global, kind: ValueKind, bytes: &[u8]) -> Result<b
         Ok(_) => Ok(true),
         Err(ValueFault::BadValue) => Ok(false),
         Err(ValueFault::Memory) => Err(AllocError),
-    }
-}
-
-/// The number of a record.
-fn number_in(node: &Node) -> u16
-    ensures { result ≡ number_in (tree_of node.now) }
-{
-    match node {
-        Node::Instance { id, .. } => *id,
-        Node::Multi { id, .. } => *id,
-        Node::Part { id, .. } => *id,
-        Node::Single { id, .. } => *id,
     }
 }
 
@@ -149,16 +135,6 @@ fn fault_in(
     }
 }
 
-/// Whether a payload may give something to a resource with these operations.
-fn may_be_given(purpose: Purpose, ops: Ops) -> bool
-    ensures { result ≡ may_be_given purpose ops }
-{
-    match purpose {
-        Purpose::Write => ops.can_write(),
-        Purpose::Create => !ops.can_execute(),
-    }
-}
-
 /// The definition of the resource of this number.
 fn definition_in(resources: &[ResourceDef], id: u16) -> Option<&ResourceDef>
     ensures { option_copied result ≡ resource_in resources.now id }
@@ -249,17 +225,6 @@ fn lone_record(number: u16, fault: Option<RecordFault>) -> Option<PayloadFault>
             number,
             fault,
         }),
-    }
-}
-
-/// The record that stands alone.
-fn sole(nodes: &[Node]) -> Option<&Node>
-    ensures { option_map (λ n. tree_of n.now) result ≡ sole (trees_of nodes.now) }
-{
-    if nodes.len() == 1 {
-        Some(&nodes[0])
-    } else {
-        None
     }
 }
 

@@ -3,22 +3,20 @@
 ghost use Rattle.std.specs.Prelude.{◌≡◌, ◌==◌, true, false, length, Ok, Some};
 ghost use Rattle.object_defs.specs.Path.{object_in};
 ghost use Rattle.object_defs.specs.declared.path.Path.TheVariants as paths;
-ghost use Rattle.access_control.specs.Rights.{entry_of, integer_in, owns, right_of};
-ghost use Rattle.instance_store.specs.Stored.{value_at};
+ghost use Rattle.access_control.specs.Rights.{owns, right_of};
 ghost use Rattle.device_requests.specs.Access.{may_read};
 ghost use Rattle.device_requests.specs.Refusals.{lacks_right};
 ghost use Rattle.device_requests.specs.Request.{purpose_of, request_of};
 ghost use Rattle.request_reasons.specs.Rights.{IsDenied, IsDeniedAll, IsGrant, instance_asked, is_read_of_object};
 ghost use Rattle.request_reasons.specs.Rights.{letter_for, rights_by};
 
-use access_control::{Rights, control, control_of, rights};
+use access_control::{Rights, control, control_of, entry_of, integer_at, rights};
 use coap_codec::Message;
 use device_requests::{Client, Operation, Request};
 use instance_store::Store;
-use lwm2m_values::Value;
+use object_defs::Path;
 use object_defs::object_number::ACCESS_CONTROL;
-use object_defs::resource_number::{ACCESS_CONTROL_OWNER, ACL};
-use object_defs::{FullPath, Path};
+use object_defs::resource_number::ACCESS_CONTROL_OWNER;
 
 /// The instance number by whose right instances are created: none has it.
 const CREATION: u16 = 65535;
@@ -72,25 +70,6 @@ pub enum Grant {
         /// The lowest instance of Access Control that refers to the instance.
         control: u16,
     },
-}
-
-/// The Integer at a path.
-fn integer_at(store: &Store, path: FullPath) -> Option<i64>
-    ensures { result ≡ integer_in (value_at store.now path) }
-{
-    match store.get(path) {
-        Some(Value::Whole(number)) => Some(*number),
-        Some(_) => None,
-        None => None,
-    }
-}
-
-/// The entry of a server in the ACL of an instance of Access Control.
-fn entry_of(store: &Store, instance: u16, server: u16) -> Option<i64>
-    ensures { result ≡ entry_of store.now instance server }
-{
-    let acl = control(instance, ACL);
-    integer_at(store, acl.part(server))
 }
 
 /// Whether a server is the owner of an instance of Access Control.

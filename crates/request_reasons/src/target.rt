@@ -5,7 +5,7 @@ ghost use Rattle.object_defs.specs.Lines.{first_line};
 ghost use Rattle.device_requests.specs.Inside.{has_place};
 ghost use Rattle.request_reasons.specs.Missing.{is_part_of_single, is_undefined, missing_lines};
 
-use crate::targets::definition_at;
+use device_requests::definition_at;
 use instance_store::Store;
 use object_defs::{Catalog, InstancePath, Path};
 

@@ -2,7 +2,6 @@
 
 ghost use Rattle.std.specs.Prelude.{◌≡◌, option_map, true, false, IfOk, Some};
 ghost use Rattle.std.specs.String.{string_bytes};
-ghost use Rattle.message_words.specs.Names.{formats, name_in};
 ghost use Rattle.request_reasons.specs.Words.{entry_path, entry_text, fixed_text, format_words, get_text, grant_text};
 ghost use Rattle.request_reasons.specs.Words.{instance_path, kind_text, letter_if, letter_text, letters_text};
 ghost use Rattle.request_reasons.specs.Words.{method_text, missing_text, named_format, needed_text, no_entry_text};
@@ -19,6 +18,7 @@ use crate::target::Missing;
 use crate::uri_path::PathFault;
 use access_control::Rights;
 use device_requests::Operation;
+use message_words::format_name;
 use object_defs::{Ops, Path, path_text};
 use std::alloc::{AllocError, Global};
 
@@ -385,23 +385,6 @@ pub(crate) fn operations_text(
     }
 }
 
-/// The name of a Content-Format.
-fn format_name(format: u16) -> Option<&'static str>
-    ensures { option_map (λ name. name.now) result ≡ name_in formats format }
-{
-    match format {
-        0 => Some("text/plain"),
-        40 => Some("link-format"),
-        42 => Some("octet-stream"),
-        60 => Some("cbor"),
-        110 => Some("senml+json"),
-        112 => Some("senml+cbor"),
-        11542 => Some("tlv"),
-        11543 => Some("lwm2m+json"),
-        _ => None,
-    }
-}
-
 /// A Content-Format by its name, where it has one.
 fn named_format(
     alloc: Global,
@@ -423,7 +406,7 @@ pub(crate) fn format_words(alloc: Global, number: u16) -> Result<String, AllocEr
     if number == 11542 {
         return String::from_str(alloc, "TLV (11542)");
     }
-    named_format(alloc, format_name(number), number)
+    named_format(alloc, format_name(u32::from(number)), number)
 }
 
 /// The formats that are served, in words.

@@ -27,7 +27,7 @@ use device_machine::{Event, Template};
 use lwm2m_values::Value;
 use object_defs::{InstancePath, Path, ResourceDef};
 use octets::Bytes;
-use scenario_image::{Scenario, Step};
+use scenario_image::{Scenario, Step, is_account};
 use scenario_mnemonics::{Mnemonic, encode};
 use scenario_statements::{Statement, read_statement};
 use scenario_words::Cause;
@@ -65,13 +65,6 @@ impl Model for Draft {
       open_class = d.open_class;
       object = d.object;
     }) };
-}
-
-/// Whether the server is one of the accounts.
-fn is_account(accounts: &[u16], server: u16) -> bool
-    ensures { result ≡ list_any (λ account. account == server) accounts.now }
-{
-    accounts.iter().any(|account| *account == server)
 }
 
 impl Draft {

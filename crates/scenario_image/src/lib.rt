@@ -21,4 +21,4 @@ pub use laws::{exact_layouts, one_image, states_follow, valid_have_bytes};
 pub use playing::{play, take_step, take_steps};
 pub use reading::{step_at, steps_at};
 pub use scenario::Scenario;
-pub use step::Step;
+pub use step::{Step, is_account};

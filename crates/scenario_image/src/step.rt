@@ -71,7 +71,7 @@ pub(crate) fn is_within_limits(step: &Step) -> bool
 }
 
 /// Whether the server is one of the accounts.
-pub(crate) fn is_account(accounts: &[u16], server: u16) -> bool
+pub fn is_account(accounts: &[u16], server: u16) -> bool
     ensures { result ≡ list_any (λ account. account == server) accounts.now }
 {
     accounts.iter().any(|account| *account == server)

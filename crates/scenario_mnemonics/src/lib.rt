@@ -24,7 +24,7 @@ pub use laws::{one_mnemonic, words_again};
 pub use message::encode;
 pub use mnemonic::{Mnemonic, Request};
 pub use queries::Queries;
-pub use reading::read;
+pub use reading::{format_of, read};
 pub use request_type::RequestType;
 pub use token::Token;
 pub use verb::{Keyword, Verb};

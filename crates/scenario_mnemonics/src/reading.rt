@@ -43,7 +43,8 @@ fn request_type(alloc: Global, line: &[u8]) -> Result<(RequestType, &[u8]), Caus
     Ok((kind, line))
 }
 
-fn format_of(alloc: Global, word: &[u8]) -> Result<Format, Cause>
+/// The format that a word names.
+pub fn format_of(alloc: Global, word: &[u8]) -> Result<Format, Cause>
     ensures { Gives (λ f. f) result (format_of word.now) }
 {
     if is_name(word, "any") {

@@ -3,7 +3,7 @@
 #![tactic(auto)]
 
 mod cause;
-mod cut;
+mod cutting;
 mod hex_words;
 mod laws;
 mod line;
@@ -13,7 +13,7 @@ mod quotes;
 mod values;
 
 pub use cause::{Cause, cause_words};
-pub use cut::next_line;
+pub use cutting::{cut, next_line};
 pub use hex_words::{hex_bytes, hex_word};
 pub use laws::{
     bytes_in_hex, numbers, paths_and_links, texts_in_quotes, values_read_again, words_and_lines,
@@ -21,5 +21,5 @@ pub use laws::{
 pub use line::{end, first_word, is_name, next_word};
 pub use number::{integer, natural};
 pub use paths::path;
-pub use quotes::{hex_digit_value, quoted, quoted_word};
+pub use quotes::{hex_digit_value, is_plain, quoted, quoted_word};
 pub use values::{is_too_long, kind, kind_word, name_fault, spell, value};

@@ -6,7 +6,7 @@ ghost use Rattle.scenario_words.specs.Number.{is_number, number_of};
 ghost use Rattle.scenario_words.specs.PathWord.{path_of, path_of_numbers, link_of};
 
 use crate::cause::Cause;
-use crate::cut::{cut, last};
+use crate::cutting::{cut, last};
 use crate::line::first_word;
 use crate::number::{is_number, number_of};
 use object_defs::Path;

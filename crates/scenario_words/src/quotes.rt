@@ -17,7 +17,7 @@ use lwm2m_values::Text;
 use std::alloc::{AllocError, Global};
 
 /// Whether a byte stands for itself in quotes.
-fn is_plain(byte: u8) -> bool
+pub fn is_plain(byte: u8) -> bool
     ensures { result ≡ is_plain byte }
 {
     (32 <= byte && byte <= 126) && (byte != b'"' && byte != b'\\')

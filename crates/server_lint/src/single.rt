@@ -1,9 +1,8 @@
 //! What a datagram is by itself.
-ghost use Rattle.std.specs.Prelude.{◌≡◌, ◌==◌, find};
+ghost use Rattle.std.specs.Prelude.{◌≡◌, ◌==◌};
 ghost use Rattle.std.specs.List.{list_any};
 ghost use Rattle.std.specs.Option.{option_copied};
-ghost use Rattle.coap_codec.specs.OptionNumber.{observe_option};
-ghost use Rattle.device_requests.specs.Options.{has_unrecognized_critical, observe_number, observe_of};
+ghost use Rattle.device_requests.specs.Options.{has_unrecognized_critical};
 ghost use Rattle.server_lint.specs.History.{message_of};
 ghost use Rattle.server_lint.specs.Single.{begins_with_zero, has_empty_segment, has_long_number, has_observe};
 ghost use Rattle.server_lint.specs.Single.{has_own_id, has_unknown_option, is_client_error, is_con, is_confirmable};
@@ -15,8 +14,8 @@ ghost use Rattle.server_lint.specs.Single.{registers};
 use crate::sender::Sender;
 use crate::transmission::Transmission;
 use coap_codec::option_number::{ACCEPT, CONTENT_FORMAT, OBSERVE, URI_PATH, URI_PORT};
-use coap_codec::{Kind, Message, Opt, uint};
-use device_requests::{Code, Request};
+use coap_codec::{Kind, Message, Opt};
+use device_requests::{Code, Request, observe_of};
 
 /// Max-Age (RFC 7252 section 5.10.5).
 const MAX_AGE: u16 = 14;
@@ -211,30 +210,6 @@ pub(crate) fn has_long_number(t: &Transmission) -> bool
         None => false,
         Some(message) => has_long(message.options().as_slice()),
     }
-}
-
-fn first_observe(options: &[Opt]) -> Option<&Opt>
-    ensures { option_copied result ≡ find (λ o. o.number == observe_option) options.now }
-{
-    options.iter().find(|o| o.number == OBSERVE)
-}
-
-/// The number in an Observe, of at most three bytes.
-fn observe_number(option: &Opt) -> Option<u32>
-    ensures { result ≡ observe_number option.now }
-{
-    let value = option.value.as_slice();
-    if value.len() <= 3 {
-        return Some(uint(value));
-    }
-    None
-}
-
-/// The number of the first Observe.
-fn observe_of(options: &[Opt]) -> Option<u32>
-    ensures { result ≡ observe_of options.now }
-{
-    observe_number(first_observe(options)?)
 }
 
 fn is_zero(number: Option<u32>) -> bool

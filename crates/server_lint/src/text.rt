@@ -2,7 +2,6 @@
 ghost use Rattle.std.specs.Prelude.{◌≡◌, ◌++◌, codes, find, reverse, IfOk};
 ghost use Rattle.std.specs.Option.{option_copied};
 ghost use Rattle.std.specs.String.{string_bytes};
-ghost use Rattle.message_words.specs.Names.{class_and_detail};
 ghost use Rattle.server_lint.specs.Observing.{is_sent_for, response_to};
 ghost use Rattle.server_lint.specs.Pairs.{is_again_within, reuses_id};
 ghost use Rattle.server_lint.specs.Text.{code_of, deed_of, finding_text, seconds_after, seconds_since_last};
@@ -13,7 +12,7 @@ use crate::pairs::{is_again_within, reuses_id, seconds_since};
 use crate::rule::Rule;
 use crate::transmission::Transmission;
 use coap_codec::Message;
-use message_words::datagram_text;
+use message_words::{class_and_detail, datagram_text};
 use std::alloc::{AllocError, Global};
 
 fn seconds_after(t: &Transmission, earlier: Option<&Transmission>) -> u32
@@ -47,15 +46,6 @@ fn last_notified<'a>(before: &'a [Transmission], t: &Transmission) -> Option<&'a
     ensures { option_copied result ≡ find (λ earlier. is_sent_for t.now earlier) (reverse before.now) }
 {
     before.iter().rev().find(|earlier| is_sent_for(t, earlier))
-}
-
-fn class_and_detail(alloc: Global, code: u8) -> Result<String, AllocError>
-    ensures { IfOk result (λ text. string_bytes text ≡ class_and_detail code) }
-{
-    let class = code / 32;
-    let tens = code % 32 / 10;
-    let ones = code % 32 % 10;
-    format!(in alloc; "{class}.{tens}{ones}")
 }
 
 /// The code of a message, as `4.05`.

@@ -1,12 +1,10 @@
 //! A datagram of the history of a device.
 ghost use Rattle.std.specs.Prelude.{◌≡◌, IfOk};
-ghost use Rattle.std.specs.Result.{result_ok};
-ghost use Rattle.coap_codec.specs.Reading.{reading_of};
 ghost use Rattle.std.specs.Option.{option_copied};
 ghost use Rattle.server_lint.specs.History.{message_of};
 
 use crate::sender::Sender;
-use coap_codec::{CoapFault, Message, decode};
+use coap_codec::{Message, message_in};
 use octets::Bytes;
 use std::alloc::{AllocError, Global};
 use std::marker::Model;
@@ -42,17 +40,6 @@ impl Model for Transmission {
     ghost use Rattle.coap_codec.specs.Reading.{reading_of};
 
     ghost invariant = { λ t. t.message ≡ result_ok (reading_of t.bytes) };
-}
-
-/// The message that bytes spell, if they spell one.
-fn message_in(alloc: Global, bytes: &[u8]) -> Result<Option<Message>, AllocError>
-    ensures { IfOk result (λ m. m ≡ result_ok (reading_of bytes.now)) }
-{
-    match decode(alloc, bytes) {
-        Ok(message) => Ok(Some(message)),
-        Err(CoapFault::Memory) => Err(AllocError),
-        Err(_) => Ok(None),
-    }
 }
 
 impl Transmission {

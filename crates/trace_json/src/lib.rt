@@ -3,7 +3,6 @@
 //! holds.
 #![tactic(auto)]
 
-mod asked;
 mod cases;
 mod datagrams;
 mod ends;

@@ -9,7 +9,6 @@ ghost use Rattle.trace_json.specs.Entries.{selected_json, trace_json};
 ghost use Rattle.trace_json.specs.Lines.{AreLinesOf, json_lines};
 ghost use Rattle.trace_json.specs.Writing.{IsReadAgain};
 
-use crate::asked::{check, is_asked};
 use crate::lines::{JsonLines, put_head_line, text_of};
 use scenario_image::Scenario;
 use std::alloc::{AllocError, Global};
@@ -32,7 +31,7 @@ fn put_asked(
         (AllByRecursion IsReadAgain (selected_json lines.old selection number (entry.now ∷ []))) }
     ensures same { lines.new ≡ lines.old }
 {
-    if !is_asked(selection, number, entry) {
+    if !selection.has(number, entry) {
         return Ok(out);
     }
     let bytes = lines.put_entry_line(out, number, entry)?;
@@ -72,7 +71,7 @@ pub fn selected_lines(
         (λ t. AreLinesOf (trace_json scenario.now selection entries.now) (string_bytes t)) }
     ensures refused { IfErr result (IsSelectionFault scenario.now selection entries.now) }
 {
-    check(selection, scenario, entries)?;
+    selection.check(scenario, entries)?;
     let bytes = put_trace(alloc, scenario, entries, selection)?;
     Ok(text_of(bytes))
 }

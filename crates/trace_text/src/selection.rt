@@ -46,7 +46,7 @@ impl From<AllocError> for SelectionFault {
 
 impl Selection {
     /// Whether the entry of this number is one of those that are asked for.
-    pub(crate) fn has(self, number: usize, entry: &Entry) -> bool
+    pub fn has(self, number: usize, entry: &Entry) -> bool
         ensures { result ≡ is_selected self number entry.now }
     {
         is_wanted(self.device, entry.device)
@@ -55,7 +55,7 @@ impl Selection {
     }
 
     /// Whether a trace of this many entries has what is asked for.
-    pub(crate) fn check(self, scenario: &Scenario, entries: &[Entry]) -> Result<(), SelectionFault>
+    pub fn check(self, scenario: &Scenario, entries: &[Entry]) -> Result<(), SelectionFault>
         ensures fits { OnOk result (IsSelectable scenario.now self entries.now) }
         ensures refused { IfErr result (IsSelectionFault scenario.now self entries.now) }
     {

@@ -1,4 +1,4 @@
-use Rattle.lwm2m_payloads.proofs.Sole.{not_sole}
+use Rattle.lwm2m_payloads.proofs.LoneRecord.{not_sole}
 use Rattle.lwm2m_payloads.proofs.spelled.sole.Goals as goal
 
 pub returns-else-nodes-eq1 : goal.returns-else-nodes-eq1

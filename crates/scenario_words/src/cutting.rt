@@ -8,7 +8,7 @@ fn place_of(bytes: &[u8], byte: u8) -> Option<usize>
 }
 
 /// What stands before the first byte that is this one, and, where there is one, what stands after it.
-pub(crate) fn cut(bytes: &[u8], byte: u8) -> (&[u8], Option<&[u8]>)
+pub fn cut(bytes: &[u8], byte: u8) -> (&[u8], Option<&[u8]>)
     ensures parts { parts byte bytes.now ≡ result.0.now ∷ parts_behind byte (option_map (λ x. x.now) result.1) }
     ensures shorter { IfSome result.1 (λ x. length x.now < length bytes.now) }
 {

@@ -1,7 +1,7 @@
 use Rattle.std.proofs.Common.{◌==◌, sym}
 use Rattle.std.proofs.lemmas.List.{take_rest}
 use Rattle.scenario_words.proofs.Cuts.{split_at_place, split_nowhere}
-use Rattle.scenario_words.proofs.cut.cut.Goals as goal
+use Rattle.scenario_words.proofs.cutting.cut.Goals as goal
 
 pub returns-in-Some-clause-parts : goal.returns-in-Some-clause-parts
 returns-in-Some-clause-parts c =
