@@ -10,8 +10,8 @@ use Rattle.bench_commands.specs.Judged.{IsGoalRefused, IsJudgedBy, IsUnjudged}
 use Rattle.command_fleet.specs.declared.concluding.Held.{Held}
 use Rattle.command_fleet.specs.Fleet.{IsFleetDone, IsFleetFault, IsHeldFault, IsSessionBroken}
 use Rattle.command_fleet.specs.Fleet.{telling_for}
-use Rattle.command_fleet.specs.Telling.{Event, IsCut, IsRefused as IsEventRefused, IsSecondRefused, MayCome, Passed}
-use Rattle.command_fleet.specs.Telling.{came, went}
+use Rattle.command_fleet.specs.Telling.{Event, IsCut, IsRefused as IsEventRefused, IsSecondRefused, MayCome}
+use Rattle.command_fleet.specs.Telling.{SecondCounts, came, went}
 use Rattle.command_fleet.specs.declared.telling.Telling.{Telling}
 use Rattle.command_fleet.specs.declared.telling.Telling.TheVariants.{Nothing, Objects, Progress}
 use Rattle.command_files.specs.World.{FilesKnown, IsSilent, StreamFaults, Streams, World}
@@ -108,7 +108,8 @@ served_if files faults before after terminal words (Err e) served unread = tt
 -- ---- not done
 
 -- a second that was not told is the same beside an input
-refused_so : (telling : Telling) (faults : StreamFaults) (passed : Passed) (between after : Streams) (fault : Fault)
+refused_so : (telling : Telling) (faults : StreamFaults) (passed : SecondCounts) (between after : Streams)
+    (fault : Fault)
     → IsSecondRefused telling (beside_faults faults) passed between (beside_input after) fault
     → IsSecondRefused telling faults passed between after fault
 refused_so Nothing faults passed between after fault refused = absurd refused

@@ -4,7 +4,8 @@ use Rattle.std.proofs.Common.{length-append, arith, inl, inr}
 use Rattle.std.specs.Prelude.{◌+◌, ◌==◌, nat_lt}
 use Rattle.byte_layout.specs.declared.fault.Break.{Break}
 use Rattle.byte_layout.specs.declared.fault.Break.TheVariants.{BadField, Limit}
-use Rattle.byte_layout.specs.Layout.{Layout, ◌>>=◌, judged, at_most, mark, done, split, last, marked, sized, raw}
+use Rattle.byte_layout.specs.Layout.{Layout, ◌>>=◌, layout_with_test, at_most, mark, constant_layout, split, last}
+use Rattle.byte_layout.specs.Layout.{after_mark, bytes_with_length, raw}
 use Rattle.std.proofs.lemmas.Bool.{eqb-true}
 use Rattle.byte_layout.specs.Exact.{IsBytes, IsExact, left_of}
 use Rattle.byte_layout.proofs.Steps.{ok_is, bind_ok, bind_err, guard_ok, guard_err, behind_front}
@@ -19,7 +20,7 @@ pub le_behind : (n : ℕ) (bytes front rest : List ℕ) → bytes ≡ front ++ r
 le_behind n bytes front rest e le = omega (arith, le, ap length e, length-append front rest)
 
 pub judged_exact : {A : Type 0} (fault : ℕ → Break) → ((left : ℕ) → left_of (fault left) ≤ left)
-    → (is_good : A → Bool) (p : Layout A) → IsExact p → IsExact (judged fault is_good p)
+    → (is_good : A → Bool) (p : Layout A) → IsExact p → IsExact (layout_with_test fault is_good p)
 judged_exact {A = A} fault bound is_good p exact = record {
   taken = λ bytes fits a rest e.
       let s = bind_ok (p.read bytes) (λ x. cond (is_good x.0) (Ok x) (Err (fault (length bytes)))) (a, rest) e in
@@ -55,7 +56,8 @@ judged_exact {A = A} fault bound is_good p exact = record {
 }
 
 -- a value that does not fit is a bad field at its first byte
-pub fits_exact : {A : Type 0} (is_good : A → Bool) (p : Layout A) → IsExact p → IsExact (judged BadField is_good p)
+pub fits_exact : {A : Type 0} (is_good : A → Bool) (p : Layout A) → IsExact p
+    → IsExact (layout_with_test BadField is_good p)
 fits_exact is_good p exact = judged_exact BadField (λ left. omega arith) is_good p exact
 
 -- a fault with no place
@@ -65,7 +67,7 @@ mark_exact fault plain n p exact = judged_exact (λ left. fault) (λ left. omega
 pub at_most_exact : (limit : ℕ) (p : Layout ℕ) → IsExact p → IsExact (at_most limit p)
 at_most_exact limit p exact = judged_exact Limit (λ left. omega arith) (λ n. nat_lt n (limit + 1)) p exact
 
-pub done_exact : {A : Type 0} (a : A) → IsExact (done a)
+pub done_exact : {A : Type 0} (a : A) → IsExact (constant_layout a)
 done_exact a = record {
   taken = λ bytes fits x rest e. let s = ok_is (a, bytes) (x, rest) e in (ap (λ y. y.0) (sym s), ap (λ y. y.1) s);
   again = λ x rest good. ap (λ y. Ok (y, rest)) (sym good);
@@ -123,14 +125,14 @@ split_exact {A = A} {B = B} proj p q first second agrees = record {
 pub last_exact : {A B : Type 0} (proj : A → B) (make : B → A) (p : Layout B) → IsExact p
     → ((b : B) → p.Good b → proj (make b) ≡ b) → IsExact (last proj make p)
 last_exact proj make p exact made =
-    split_exact proj p (λ b. done (make b)) exact (λ b good. done_exact (make b))
+    split_exact proj p (λ b. constant_layout (make b)) exact (λ b good. done_exact (make b))
     (λ b good a h. ap proj h ∙ made b good)
 
-pub sized_exact : (len : Layout ℕ) → IsExact len → IsExact (sized len)
+pub sized_exact : (len : Layout ℕ) → IsExact len → IsExact (bytes_with_length len)
 sized_exact len exact = split_exact length len raw exact (λ n good. raw_exact n) (λ n good a h. raw_length n a h)
 
 pub marked_exact : {A : Type 0} (fault : Break) → left_of fault ≡ 0 → (n : ℕ) (p : Layout ℕ) (q : Layout A) → IsExact p
-    → IsExact q → IsExact (marked fault n p q)
+    → IsExact q → IsExact (after_mark fault n p q)
 marked_exact fault plain n p q first second =
     split_exact (λ a. n) (mark fault n p) (λ m. q) (mark_exact fault plain n p first) (λ m good. second)
     (λ m good a h. sym (eqb-true m n good.1))

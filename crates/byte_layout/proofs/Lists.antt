@@ -5,7 +5,7 @@ use Rattle.std.specs.List.{slice_get, flat_map}
 use Rattle.std.proofs.lemmas.List.{append-nil}
 use Rattle.std.proofs.lemmas.List.Concat.{flat_map-cons}
 use Rattle.byte_layout.specs.declared.fault.Break.{Break}
-use Rattle.byte_layout.specs.Layout.{Layout, ◌>>=◌, linked, each, counted}
+use Rattle.byte_layout.specs.Layout.{Layout, ◌>>=◌, head_then_tail, each, list_with_count}
 use Rattle.byte_layout.specs.Exact.{IsBytes, IsExact, left_of}
 use Rattle.byte_layout.proofs.Steps.{ok_is, went_well, bind_ok, bind_err}
 use Rattle.byte_layout.proofs.Layouts.{bytes_behind, le_behind, done_exact, split_exact}
@@ -15,15 +15,15 @@ abbrev joined : {A : Type 0} → A → Result (List A × List ℕ) Break → Res
 joined a r = r >>= λ xs. Ok (a ∷ xs.0, xs.1)
 
 linked_taken : {A : Type 0} (p : Layout A) (q : A → Layout (List A)) → IsExact p → ((a : A) → p.Good a → IsExact (q a))
-    → (bytes : List ℕ) → IsBytes bytes → (xs : List A) (rest : List ℕ) → (linked p q).read bytes ≡ Ok (xs, rest)
-    → (linked p q).Good xs × (bytes ≡ (linked p q).spell xs ++ rest)
+    → (bytes : List ℕ) → IsBytes bytes → (xs : List A) (rest : List ℕ) → (head_then_tail p q).read bytes ≡ Ok (xs, rest)
+    → (head_then_tail p q).Good xs × (bytes ≡ (head_then_tail p q).spell xs ++ rest)
 linked_taken {A = A} p q first second bytes fits xs rest e =
     let s = bind_ok (p.read bytes) (λ x. joined x.0 ((q x.0).read x.1)) (xs, rest) e in
     let t = bind_ok ((q s.0.0).read s.0.1) (λ ys. Ok (s.0.0 ∷ ys.0, ys.1)) (xs, rest) s.2 in
     let f = first.taken bytes fits s.0.0 s.0.1 s.1 in
     let g = (second s.0.0 f.0).taken s.0.1 (bytes_behind bytes (p.spell s.0.0) s.0.1 fits f.1) t.0.0 t.0.1 t.1 in
     let made : List A × List ℕ = (s.0.0 ∷ t.0.0, t.0.1) in
-    subst (λ (y : List A × List ℕ). (linked p q).Good y.0 × (bytes ≡ (linked p q).spell y.0 ++ y.1))
+    subst (λ (y : List A × List ℕ). (head_then_tail p q).Good y.0 × (bytes ≡ (head_then_tail p q).spell y.0 ++ y.1))
     (ok_is made (xs, rest) t.2) (
       (f.0, g.0),
       f.1 ∙ ap (λ r. p.spell s.0.0 ++ r) g.1
@@ -31,8 +31,8 @@ linked_taken {A = A} p q first second bytes fits xs rest e =
     )
 
 linked_again : {A : Type 0} (p : Layout A) (q : A → Layout (List A)) → IsExact p → ((a : A) → p.Good a → IsExact (q a))
-    → (xs : List A) (rest : List ℕ) → (linked p q).Good xs
-    → (linked p q).read ((linked p q).spell xs ++ rest) ≡ Ok (xs, rest)
+    → (xs : List A) (rest : List ℕ) → (head_then_tail p q).Good xs
+    → (head_then_tail p q).read ((head_then_tail p q).spell xs ++ rest) ≡ Ok (xs, rest)
 linked_again p q first second [] rest good = absurd good
 linked_again {A = A} p q first second (a ∷ xs) rest good =
     let after = λ (x : A × List ℕ). joined x.0 ((q x.0).read x.1) in
@@ -41,7 +41,8 @@ linked_again {A = A} p q first second (a ∷ xs) rest good =
     ∙ ap (joined a) ((second a good.0).again xs rest good.1)
 
 linked_broken : {A : Type 0} (p : Layout A) (q : A → Layout (List A)) → IsExact p → ((a : A) → p.Good a → IsExact (q a))
-    → (bytes : List ℕ) → IsBytes bytes → (b : Break) → (linked p q).read bytes ≡ Err b → (linked p q).Breaks bytes b
+    → (bytes : List ℕ) → IsBytes bytes → (b : Break) → (head_then_tail p q).read bytes ≡ Err b
+    → (head_then_tail p q).Breaks bytes b
 linked_broken p q first second bytes fits b e =
     elim (bind_err (p.read bytes) (λ x. joined x.0 ((q x.0).read x.1)) b e) [
       | inl h ↦ inl (first.broken bytes fits b h)
@@ -61,7 +62,7 @@ linked_broken p q first second bytes fits b e =
 
 linked_refused : {A : Type 0} (p : Layout A) (q : A → Layout (List A)) → IsExact p
     → ((a : A) → p.Good a → IsExact (q a))
-    → (bytes : List ℕ) (b : Break) → (linked p q).Breaks bytes b → (linked p q).read bytes ≡ Err b
+    → (bytes : List ℕ) (b : Break) → (head_then_tail p q).Breaks bytes b → (head_then_tail p q).read bytes ≡ Err b
 linked_refused {A = A} p q first second bytes b h =
     let after = λ (x : A × List ℕ). joined x.0 ((q x.0).read x.1) in
     elim h [
@@ -72,7 +73,7 @@ linked_refused {A = A} p q first second bytes b h =
 
 pub linked_exact : {A : Type 0} (p : Layout A) (q : A → Layout (List A)) → IsExact p
     → ((a : A) → p.Good a → IsExact (q a))
-    → IsExact (linked p q)
+    → IsExact (head_then_tail p q)
 linked_exact p q first second = record {
   taken = linked_taken p q first second;
   again = linked_again p q first second;
@@ -101,7 +102,7 @@ each_length part (suc n) before [] good = absurd good
 each_length part (suc n) before (x ∷ xs) good = ap suc (each_length part n (before ++ x ∷ []) xs good.1)
 
 pub counted_exact : {A : Type 0} (count : Layout ℕ) (part : List A → Layout A) → IsExact count
-    → ((before : List A) → IsExact (part before)) → IsExact (counted count part)
+    → ((before : List A) → IsExact (part before)) → IsExact (list_with_count count part)
 counted_exact count part first exact =
     split_exact length count (λ n. each part n []) first (λ n good. each_exact part exact n [])
     (λ n good xs h. each_length part n [] xs h)

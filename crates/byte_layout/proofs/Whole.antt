@@ -10,7 +10,7 @@ use Rattle.byte_layout.specs.declared.fault.LayoutFault.TheVariants as faults
 use Rattle.byte_layout.specs.declared.fault.ReadError.{ReadError}
 use Rattle.byte_layout.specs.declared.fault.ReadError.TheVariants as errors
 use Rattle.byte_layout.specs.Layout.{Layout, ◌>>=◌}
-use Rattle.byte_layout.specs.Whole.{IsAll, BreaksOff, HasFault, placed, fault_of, read_all}
+use Rattle.byte_layout.specs.Whole.{IsAll, BreaksOff, HasFault, fault_of_break, fault_of, read_all}
 use Rattle.byte_layout.specs.Outcome.{Fails}
 use Rattle.byte_layout.specs.Exact.{IsBytes, IsExact, left_of}
 use Rattle.byte_layout.proofs.Steps.{ok_is, went_well, bind_ok, bind_err, guard_ok, guard_err}
@@ -81,7 +81,8 @@ one_break p exact bytes b c h k =
 
 pub one_fault : {A : Type 0} (p : Layout A) → IsExact p → (bytes : List ℕ) (f g : LayoutFault) → HasFault p bytes f
     → HasFault p bytes g → f ≡ g
-one_fault p exact bytes f g h k = h.2 ∙ ap (placed (length bytes)) (one_break p exact bytes h.0 k.0 h.1 k.1) ∙ sym k.2
+one_fault p exact bytes f g h k =
+    h.2 ∙ ap (fault_of_break (length bytes)) (one_break p exact bytes h.0 k.0 h.1 k.1) ∙ sym k.2
 
 pub never_both : {A : Type 0} (p : Layout A) → IsExact p → (bytes : List ℕ) (a : A) (f : LayoutFault) → IsAll p bytes a
     → HasFault p bytes f → ⊥
@@ -115,7 +116,7 @@ pub failed_refused : {A : Type 0} (p : Layout A) → IsExact p → (bytes : List
     → fault_of (length bytes) e ≡ f
 failed_refused p exact bytes errors.Memory f h k other = absurd (other refl)
 failed_refused p exact bytes (errors.Fault b) f h k other =
-    ap (placed (length bytes)) (err_is p b k.0 (sym h ∙ whole_refused p exact bytes k.0 k.1)) ∙ sym k.2
+    ap (fault_of_break (length bytes)) (err_is p b k.0 (sym h ∙ whole_refused p exact bytes k.0 k.1)) ∙ sym k.2
 
 -- no break of all of the bytes says that more are left than there are
 pub whole_within : {A : Type 0} (p : Layout A) → IsExact p → (bytes : List ℕ) (b : Break) → BreaksOff p bytes b
@@ -134,4 +135,4 @@ either {A = A} p exact bytes fits = told (read_all p bytes) refl
     told : (r : Result A Break) → read_all p bytes ≡ r → ((a : A) × IsAll p bytes a)
         ⊎ ((f : LayoutFault) × HasFault p bytes f)
     told (Ok a) e = inl (a, whole_taken p exact bytes fits a e)
-    told (Err b) e = inr (placed (length bytes) b, (b, whole_broken p exact bytes fits b e, refl))
+    told (Err b) e = inr (fault_of_break (length bytes) b, (b, whole_broken p exact bytes fits b e, refl))

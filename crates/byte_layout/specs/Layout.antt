@@ -44,8 +44,8 @@ number w = record {
 
 -- a layout whose value has to pass a test, made once all of it is there. A value that fails breaks the bytes off at its
 -- first byte: the fault is told how many bytes are left from there
-abbrev pub judged : {A : Type 0} → (ℕ → Break) → (A → Bool) → Layout A → Layout A
-judged fault is_good p = record {
+abbrev pub layout_with_test : {A : Type 0} → (ℕ → Break) → (A → Bool) → Layout A → Layout A
+layout_with_test fault is_good p = record {
   spell = p.spell;
   Good = λ a. p.Good a × (is_good a ≡ true);
   Breaks = λ bytes b. p.Breaks bytes b
@@ -56,15 +56,15 @@ judged fault is_good p = record {
 
 -- a count or a length that is at most the limit
 abbrev pub at_most : ℕ → Layout ℕ → Layout ℕ
-at_most limit p = judged Limit (λ n. nat_lt n (limit + 1)) p
+at_most limit p = layout_with_test Limit (λ n. nat_lt n (limit + 1)) p
 
 -- one number and no other: what marks a format, or its version
 abbrev pub mark : Break → ℕ → Layout ℕ → Layout ℕ
-mark fault n p = judged (λ left. fault) (λ m. m == n) p
+mark fault n p = layout_with_test (λ left. fault) (λ m. m == n) p
 
 -- no bytes: the value is known
-abbrev pub done : {A : Type 0} → A → Layout A
-done a = record {
+abbrev pub constant_layout : {A : Type 0} → A → Layout A
+constant_layout a = record {
   spell = λ x. [];
   Good = λ x. x ≡ a;
   Breaks = λ bytes b. ⊥;
@@ -83,34 +83,34 @@ split proj p q = record {
 
 -- the last field: the value is made of it
 abbrev pub last : {A B : Type 0} → (A → B) → (B → A) → Layout B → Layout A
-last proj make p = split proj p (λ b. done (make b))
+last proj make p = split proj p (λ b. constant_layout (make b))
 
 -- one number and no other, and then the rest of the value
-abbrev pub marked : {A : Type 0} → Break → ℕ → Layout ℕ → Layout A → Layout A
-marked fault n p q = split (λ a. n) (mark fault n p) (λ m. q)
+abbrev pub after_mark : {A : Type 0} → Break → ℕ → Layout ℕ → Layout A → Layout A
+after_mark fault n p q = split (λ a. n) (mark fault n p) (λ m. q)
 
 -- a signed number of this width, in two's complement, the high byte first
-abbrev pub signed : Width → Layout ℤ
-signed w = last (cast_unsigned w) (cast_signed w) (number w)
+abbrev pub signed_number : Width → Layout ℤ
+signed_number w = last (cast_unsigned w) (cast_signed w) (number w)
 
 -- a length by this layout, and n bytes
-abbrev pub sized : Layout ℕ → Layout (List ℕ)
-sized len = split length len raw
+abbrev pub bytes_with_length : Layout ℕ → Layout (List ℕ)
+bytes_with_length len = split length len raw
 
 -- no list but the empty one has no head
-abbrev pub LinkedGood : {A : Type 0} → Layout A → (A → Layout (List A)) → List A → Type 0
-LinkedGood p q [] = ⊥
-LinkedGood p q (a ∷ tail) = p.Good a × (q a).Good tail
+abbrev pub IsHeadThenTail : {A : Type 0} → Layout A → (A → Layout (List A)) → List A → Type 0
+IsHeadThenTail p q [] = ⊥
+IsHeadThenTail p q (a ∷ tail) = p.Good a × (q a).Good tail
 
-abbrev pub linked_bytes : {A : Type 0} → Layout A → (A → Layout (List A)) → List A → List ℕ
-linked_bytes p q [] = []
-linked_bytes p q (a ∷ tail) = p.spell a ++ (q a).spell tail
+abbrev pub head_then_tail_bytes : {A : Type 0} → Layout A → (A → Layout (List A)) → List A → List ℕ
+head_then_tail_bytes p q [] = []
+head_then_tail_bytes p q (a ∷ tail) = p.spell a ++ (q a).spell tail
 
 -- a list that is not empty: its head by the first layout; then, knowing it, its tail by the second
-abbrev pub linked : {A : Type 0} → Layout A → (A → Layout (List A)) → Layout (List A)
-linked p q = record {
-  spell = linked_bytes p q;
-  Good = LinkedGood p q;
+abbrev pub head_then_tail : {A : Type 0} → Layout A → (A → Layout (List A)) → Layout (List A)
+head_then_tail p q = record {
+  spell = head_then_tail_bytes p q;
+  Good = IsHeadThenTail p q;
   Breaks = λ bytes b. p.Breaks bytes b
       ⊎ ((x : _) × (rest : List ℕ) × p.Good x × (bytes ≡ p.spell x ++ rest) × (q x).Breaks rest b);
   read = λ bytes. p.read bytes >>= λ x. (q x.0).read x.1 >>= λ xs. Ok (x.0 ∷ xs.0, xs.1);
@@ -118,9 +118,9 @@ linked p q = record {
 
 -- n items, each by a layout that knows the list of those before it
 unfoldable pub each : {A : Type 0} → (List A → Layout A) → ℕ → List A → Layout (List A)
-each part zero before = done []
-each part (suc n) before = linked (part before) (λ a. each part n (before ++ a ∷ []))
+each part zero before = constant_layout []
+each part (suc n) before = head_then_tail (part before) (λ a. each part n (before ++ a ∷ []))
 
 -- a count by this layout, and n items
-abbrev pub counted : {A : Type 0} → Layout ℕ → (List A → Layout A) → Layout (List A)
-counted count part = split length count (λ n. each part n [])
+abbrev pub list_with_count : {A : Type 0} → Layout ℕ → (List A → Layout A) → Layout (List A)
+list_with_count count part = split length count (λ n. each part n [])

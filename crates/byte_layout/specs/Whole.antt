@@ -24,19 +24,19 @@ abbrev pub read_all : {A : Type 0} → Layout A → List ℕ → Result A Break
 read_all p bytes = p.read bytes >>= λ x. if length x.1 == 0 then Ok x.0 else Err breaks.Trailing
 
 -- the fault of n bytes that break off so: its place is counted from the first byte
-abbrev pub placed : ℕ → Break → LayoutFault
-placed total breaks.Magic = faults.Magic
-placed total breaks.Version = faults.Version
-placed total breaks.Cut = faults.Cut
-placed total breaks.Trailing = faults.Trailing
-placed total (breaks.BadField left) = faults.BadField (total - left)
-placed total (breaks.Limit left) = faults.Limit (total - left)
+abbrev pub fault_of_break : ℕ → Break → LayoutFault
+fault_of_break total breaks.Magic = faults.Magic
+fault_of_break total breaks.Version = faults.Version
+fault_of_break total breaks.Cut = faults.Cut
+fault_of_break total breaks.Trailing = faults.Trailing
+fault_of_break total (breaks.BadField left) = faults.BadField (total - left)
+fault_of_break total (breaks.Limit left) = faults.Limit (total - left)
 
 -- the fault of n bytes whose reading ended so
 abbrev pub fault_of : ℕ → ReadError → LayoutFault
 fault_of total errors.Memory = faults.Memory
-fault_of total (errors.Fault b) = placed total b
+fault_of total (errors.Fault b) = fault_of_break total b
 
 -- the bytes have this fault, the first from the left
 abbrev pub HasFault : {A : Type 0} → Layout A → List ℕ → LayoutFault → Type 0
-HasFault p bytes fault = (b : Break) × BreaksOff p bytes b × (fault ≡ placed (length bytes) b)
+HasFault p bytes fault = (b : Break) × BreaksOff p bytes b × (fault ≡ fault_of_break (length bytes) b)

@@ -1,5 +1,5 @@
 ghost use Rattle.std.specs.Prelude.{◌≡◌};
-ghost use Rattle.byte_layout.specs.Whole.{placed, fault_of};
+ghost use Rattle.byte_layout.specs.Whole.{fault_of_break, fault_of};
 
 use std::alloc::{AllocError, AllocFailed};
 use thiserror::Error;
@@ -96,7 +96,7 @@ pub fn fault_at(total: usize, error: ReadError) -> LayoutFault
 
 /// The fault of n bytes that break off so.
 fn place(total: usize, broken: Break) -> LayoutFault
-    ensures { result ≡ placed total broken }
+    ensures { result ≡ fault_of_break total broken }
 {
     match broken {
         Break::Magic => LayoutFault::Magic,

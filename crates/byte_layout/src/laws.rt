@@ -2,7 +2,7 @@ ghost use Rattle.std.specs.Prelude.{◌≡◌, ◌↔◌, ◌≤◌, ◌⊎◌, 
 ghost use Rattle.byte_layout.specs.declared.fault.Break.{Break};
 ghost use Rattle.byte_layout.specs.declared.fault.LayoutFault.{LayoutFault};
 ghost use Rattle.std.specs.Int.{w8, w16, w32, w64};
-ghost use Rattle.byte_layout.specs.Layout.{raw, number, signed};
+ghost use Rattle.byte_layout.specs.Layout.{raw, number, signed_number};
 ghost use Rattle.byte_layout.specs.Whole.{IsAll, BreaksOff, HasFault, read_all};
 ghost use Rattle.byte_layout.specs.Exact.{IsBytes, IsExact, left_of};
 
@@ -33,5 +33,5 @@ pub fn exact_fields()
     ensures two_bytes { IsExact (number w16) }
     ensures four_bytes { IsExact (number w32) }
     ensures eight_bytes { IsExact (number w64) }
-    ensures signed { IsExact (signed w64) }
+    ensures signed { IsExact (signed_number w64) }
 {}

@@ -3,7 +3,7 @@
 ghost use Rattle.std.specs.Prelude.{◌≡◌, ◌≢◌, ◌≤◌, length, IfOk, IfErr};
 ghost use Rattle.std.specs.Int.{w8, w16, w32, w64};
 ghost use Rattle.byte_layout.specs.declared.fault.ReadError.TheVariants.{Memory};
-ghost use Rattle.byte_layout.specs.Layout.{raw, number, signed, at_most};
+ghost use Rattle.byte_layout.specs.Layout.{raw, number, signed_number, at_most};
 ghost use Rattle.byte_layout.specs.Outcome.{Gives};
 
 use crate::fault::{Break, ReadError};
@@ -70,7 +70,7 @@ pub fn u16_at_most(limit: u16, bytes: &[u8]) -> Result<(u16, &[u8]), ReadError>
 /// A signed number of eight bytes in two's complement, the highest first, and the bytes after it.
 #[tactic(auto, unfolding(crate::specs::Layout::number, crate::specs::Layout::raw))]
 pub fn i64_at(bytes: &[u8]) -> Result<(i64, &[u8]), ReadError>
-    ensures read { Gives (λ x. (x.0, x.1.now)) result ((signed w64).read bytes.now) }
+    ensures read { Gives (λ x. (x.0, x.1.now)) result ((signed_number w64).read bytes.now) }
     ensures no_memory { IfErr result (λ e. e ≢ Memory) }
 {
     let (field, rest) = bytes_at(8, bytes)?;

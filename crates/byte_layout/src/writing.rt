@@ -3,7 +3,7 @@
 
 ghost use Rattle.std.specs.Prelude.{◌≡◌, ◌++◌, length, OnOk, OnErr};
 ghost use Rattle.std.specs.Int.{w8, w16, w32, w64};
-ghost use Rattle.byte_layout.specs.Layout.{number, signed, raw};
+ghost use Rattle.byte_layout.specs.Layout.{number, signed_number, raw};
 
 use std::alloc::AllocError;
 
@@ -37,7 +37,7 @@ pub fn put_u32(out: &mut Vec<u8>, n: u32) -> Result<(), AllocError>
 /// Writes a signed number of eight bytes in two's complement, the highest first.
 #[tactic(auto, unfolding(crate::specs::Layout::number))]
 pub fn put_i64(out: &mut Vec<u8>, n: i64) -> Result<(), AllocError>
-    ensures ok { OnOk result (out.new.items ≡ out.old.items ++ (signed w64).spell n) }
+    ensures ok { OnOk result (out.new.items ≡ out.old.items ++ (signed_number w64).spell n) }
     ensures err { OnErr result (out.new.items ≡ out.old.items) }
 {
     out.extend_from_slice(&i64::to_be_bytes(n))

@@ -8,7 +8,7 @@ use Rattle.scenario_image.specs.Image.{IsImage, HasImageFault}
 use Rattle.scenario_image.specs.Scenario.{Scenario}
 use Rattle.scenario_words.specs.declared.cause.Cause.TheVariants as cause
 use Rattle.scenario_asm.specs.declared.fault.AsmFault.{AsmFault}
-use Rattle.scenario_asm.specs.Text.{assembled}
+use Rattle.scenario_asm.specs.Text.{scenario_of_text}
 use Rattle.trace_file.specs.declared.entry.Entry.{Entry}
 use Rattle.trace_file.specs.Layout.{trace_file, IsTraceFile}
 use Rattle.case_text.specs.declared.file_case.FileKind.TheVariants.{Image, Trace, Text}
@@ -98,28 +98,28 @@ same_Err f g r a b = cc
 not_both : (s : Scenario) (f : AsmFault) (r : Result Scenario AsmFault) → r ≡ Ok s → r ≡ Err f → ⊥
 not_both s f r a b = cc
 
-one_text : (bytes : List ℕ) (s : Scenario) → IsUtf8 bytes → assembled bytes ≡ Ok s → (other : Finding)
+one_text : (bytes : List ℕ) (s : Scenario) → IsUtf8 bytes → scenario_of_text bytes ≡ Ok s → (other : Finding)
     → IsInText bytes other → other ≡ found.Scenario s
-one_text bytes s utf8 is (found.Scenario t) h = ap found.Scenario (same_Ok t s (assembled bytes) h.1 is)
+one_text bytes s utf8 is (found.Scenario t) h = ap found.Scenario (same_Ok t s (scenario_of_text bytes) h.1 is)
 one_text bytes s utf8 is (found.Entries es) h = absurd h
 one_text bytes s utf8 is (found.Fault words) (inl h) = absurd (h.0 utf8)
-one_text bytes s utf8 is (found.Fault words) (inr h) = absurd (not_both s h.0 (assembled bytes) is h.2)
+one_text bytes s utf8 is (found.Fault words) (inr h) = absurd (not_both s h.0 (scenario_of_text bytes) is h.2)
 
-pub text_found : (bytes : List ℕ) (s : Scenario) → IsUtf8 bytes → assembled bytes ≡ Ok s
+pub text_found : (bytes : List ℕ) (s : Scenario) → IsUtf8 bytes → scenario_of_text bytes ≡ Ok s
     → IsOneFinding Text bytes (found.Scenario s)
 text_found bytes s utf8 is = record { is = (utf8, is); only = one_text bytes s utf8 is }
 
-one_text_fault : (bytes : List ℕ) (f : AsmFault) → IsUtf8 bytes → assembled bytes ≡ Err f → (other : Finding)
+one_text_fault : (bytes : List ℕ) (f : AsmFault) → IsUtf8 bytes → scenario_of_text bytes ≡ Err f → (other : Finding)
     → IsInText bytes other → other ≡ found.Fault (text_fault_words f)
-one_text_fault bytes f utf8 is (found.Scenario t) h = absurd (not_both t f (assembled bytes) h.1 is)
+one_text_fault bytes f utf8 is (found.Scenario t) h = absurd (not_both t f (scenario_of_text bytes) h.1 is)
 one_text_fault bytes f utf8 is (found.Entries es) h = absurd h
 one_text_fault bytes f utf8 is (found.Fault words) (inl h) = absurd (h.0 utf8)
 one_text_fault bytes f utf8 is (found.Fault words) (inr h) =
-    ap found.Fault (h.3 ∙ ap text_fault_words (same_Err h.0 f (assembled bytes) h.2 is))
+    ap found.Fault (h.3 ∙ ap text_fault_words (same_Err h.0 f (scenario_of_text bytes) h.2 is))
 
 pub text_refused : {E : Type 0} (bytes : List ℕ) (f : AsmFault) (r : Result Finding E) → IsUtf8 bytes
     → IfOk r (λ x. (f.cause ≢ cause.Memory) × (x ≡ found.Fault (text_fault_words f)))
-    → (f.cause ≢ cause.Memory → assembled bytes ≡ Err f) → IfOk r (λ x. IsOneFinding Text bytes x)
+    → (f.cause ≢ cause.Memory → scenario_of_text bytes ≡ Err f) → IfOk r (λ x. IsOneFinding Text bytes x)
 text_refused bytes f (Ok x) utf8 h is =
     subst (λ y. IsOneFinding Text bytes y) (sym h.1) (record {
       is = inr (f, utf8, is h.0, refl);

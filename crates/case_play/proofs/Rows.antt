@@ -12,7 +12,7 @@ use Rattle.device_machine.specs.State.{Machine, Device, Shows}
 use Rattle.device_machine.specs.Reactions.{outputs_of, flat_after}
 use Rattle.scenario_image.specs.declared.step.Step.{Step}
 use Rattle.scenario_image.specs.Scenario.{Row, Scenario, IsValid}
-use Rattle.scenario_image.specs.Play.{state_at, shown, IsRowOf}
+use Rattle.scenario_image.specs.Play.{state_at, device_showing, IsRowOf}
 use Rattle.scenario_image.proofs.RowLaws.{row_of}
 use Rattle.fleet_core.specs.Run.{steps_in, step_at, out_at}
 use Rattle.fleet_core.specs.Board.{ShowsAfter}
@@ -123,7 +123,7 @@ puts_same s spot (parts.Recorded bytes) a b first other = first ∙ sym other
 device_with : (spent : Bool) (flat : Machine) → Device
 device_with spent flat = record { spent = spent; flat = flat }
 
-pub shown_is : (x : Device) (f : Machine) → Shows x f → x ≡ shown f
+pub shown_is : (x : Device) (f : Machine) → Shows x f → x ≡ device_showing f
 unfolding device_with
 shown_is x f shows = ap (λ b. device_with b x.flat) shows.ready ∙ ap (device_with false) shows.holds
 

@@ -8,7 +8,7 @@ use Rattle.device_machine.specs.State.{Machine, Device, Shows}
 use Rattle.device_machine.specs.Reactions.{outputs_of, flat_after, is_refused}
 use Rattle.scenario_image.specs.declared.step.Step.{Step}
 use Rattle.scenario_image.specs.Scenario.{Scenario, IsValid}
-use Rattle.scenario_image.specs.Play.{start, shown, IsRowOf}
+use Rattle.scenario_image.specs.Play.{start, device_showing, IsRowOf}
 use Rattle.fleet_core.specs.Run.{step_at, out_at}
 use Rattle.fleet_core.specs.Board.{ShowsAfter}
 use Rattle.fleet_core.proofs.Taken.{place_below}
@@ -68,7 +68,8 @@ pub takes_it : (x y : Device) (f : Machine) (event : Event) (out : List Output) 
     → (is_refused x event ≡ true → ⊥) → out ≡ outputs_of f event → Shows y (flat_after f event)
     → Takes f event (Some out) y
 takes_it x y f event out shows taken puts after = (
-  not_refused (is_refused (shown f) event) (λ h. taken (ap (λ d. is_refused d event) (shown_is x f shows) ∙ h)),
+  not_refused (is_refused (device_showing f) event)
+      (λ h. taken (ap (λ d. is_refused d event) (shown_is x f shows) ∙ h)),
   puts,
   after,
 )
@@ -135,10 +136,10 @@ pub aside_passes : (s : Scenario) (spot : Spot) (event : Event) (walk : Walk) (x
     → Passes s spot (parts.Aside event) r
     (record { begun = walk.begun; steps = walk.steps; machine = walk.machine; copy = Some y })
 aside_passes s spot event walk x copy y None at asks same takes = λ outputs h.
-    let refused : is_refused (shown asks.0) event ≡ true =
+    let refused : is_refused (device_showing asks.0) event ≡ true =
     takes asks.0 (subst (λ d. Shows d asks.0) (sym same) asks.2) in
     let state : h.state ≡ asks.0 = asked_same s spot h.state asks.0 h.asked asks.1 in
-    let e : false ≡ true = sym h.taken ∙ (ap (λ f. is_refused (shown f) event) state ∙ refused) in cc
+    let e : false ≡ true = sym h.taken ∙ (ap (λ f. is_refused (device_showing f) event) state ∙ refused) in cc
 aside_passes s spot event walk x copy y (Some outputs) at asks same takes =
     let t = takes asks.0 (subst (λ d. Shows d asks.0) (sym same) asks.2) in (
       record { state = asks.0; asked = asks.1; taken = t.0; put_out = t.1 },

@@ -3,7 +3,7 @@ use Rattle.std.specs.Prelude.{◌≡◌, ℕ, Bool, true, false, List, [], ◌�
 use Rattle.std.specs.List.{sum_by}
 use Rattle.scenario_image.specs.Scenario.{Scenario}
 use Rattle.scenario_words.specs.Words.{ended_line}
-use Rattle.scenario_asm.specs.Canonical.{printed}
+use Rattle.scenario_asm.specs.Canonical.{text_of_scenario}
 use Rattle.trace_file.specs.declared.entry.Entry.{Entry}
 use Rattle.case_text.specs.declared.file_answer.FileAnswer.{FileAnswer}
 use Rattle.case_text.specs.declared.file_stated.FileStated.{FileStated}
@@ -43,7 +43,7 @@ StatesScenario (states.Ok classes devices steps) below s =
     (length s.classes ≡ classes) × (length s.rows ≡ devices) × (count_steps s ≡ steps)
 StatesScenario states.FaultOrOk below s = Unit {0}
 StatesScenario (states.Image digits) below s = IsImageOf s digits
-StatesScenario states.Text below s = printed s ≡ lines_below below
+StatesScenario states.Text below s = text_of_scenario s ≡ lines_below below
 StatesScenario stated below s = ⊥
 
 -- of entries: there are that many; their trace file, or the entries in words, are this

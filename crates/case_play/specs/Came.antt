@@ -10,8 +10,8 @@ use Rattle.trace_file.specs.declared.entry.Entry.{Entry}
 use Rattle.trace_file.specs.Layout.{trace_file, IsTraceFile}
 use Rattle.fleet_core.specs.Run.{IsRun}
 use Rattle.fleet_core.specs.Verdict.{BreaksAt}
-use Rattle.fleet_core.specs.Waiting.{waiting}
-use Rattle.scenario_asm.specs.Canonical.{printed}
+use Rattle.fleet_core.specs.Waiting.{waiting_devices}
+use Rattle.scenario_asm.specs.Canonical.{text_of_scenario}
 use Rattle.case_text.specs.declared.item.Part.{Part}
 use Rattle.case_text.specs.declared.item.Part.TheVariants as parts
 use Rattle.case_text.specs.declared.question.Question.{Question}
@@ -74,12 +74,12 @@ TraceCame es x = ⊥
 
 -- it is the canonical text
 abbrev pub TextCame : Scenario → Came → Type 0
-TextCame s (came.Text text) = text ≡ printed s
+TextCame s (came.Text text) = text ≡ text_of_scenario s
 TextCame s x = ⊥
 
 -- it is how many entries there are, and which devices wait after them
 abbrev pub EndCame : Scenario → List Entry → Came → Type 0
-EndCame s es (came.Run entries devices) = (entries ≡ length es) × (devices ≡ waiting s es)
+EndCame s es (came.Run entries devices) = (entries ≡ length es) × (devices ≡ waiting_devices s es)
 EndCame s es x = ⊥
 
 -- what a scenario and its run have of the kind that is stated: an image, a trace file, a text; and else how the run

@@ -3,7 +3,7 @@ use Rattle.std.specs.Prelude.{◌≡◌, ℕ, ◌⊎◌, List, Option, None, Som
 use Rattle.scenario_image.specs.Scenario.{Scenario}
 use Rattle.trace_file.specs.declared.entry.Entry.{Entry}
 use Rattle.fleet_core.specs.Run.{IsSerial}
-use Rattle.scenario_asm.specs.Text.{assembled}
+use Rattle.scenario_asm.specs.Text.{scenario_of_text}
 use Rattle.scenario_asm.specs.declared.fault.AsmFault.{AsmFault}
 use Rattle.case_text.specs.declared.item.Item.{Item}
 use Rattle.case_text.specs.declared.scenario_case.ScenarioCase.{ScenarioCase}
@@ -69,4 +69,4 @@ IsVerdictBy (Err fault) case verdict = IsVerdictOn fault case verdict
 -- the verdict on a case. It passes exactly if all that it states holds of the scenario of its text; or if the text is
 -- refused, and the case states just that. Else this is the first line that does not hold, and what came of it
 abbrev pub IsVerdict : ScenarioCase → Verdict → Type 0
-IsVerdict case verdict = IsVerdictBy (assembled case.text) case verdict
+IsVerdict case verdict = IsVerdictBy (scenario_of_text case.text) case verdict

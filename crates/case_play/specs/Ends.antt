@@ -10,9 +10,9 @@ use Rattle.trace_file.specs.declared.entry.Entry.{Entry}
 use Rattle.trace_file.specs.Layout.{trace_file, IsTraceFile}
 use Rattle.fleet_core.specs.Run.{IsRun}
 use Rattle.fleet_core.specs.Verdict.{BreaksAt}
-use Rattle.fleet_core.specs.Waiting.{waiting}
+use Rattle.fleet_core.specs.Waiting.{waiting_devices}
 use Rattle.scenario_words.specs.Words.{ended_line}
-use Rattle.scenario_asm.specs.Canonical.{printed}
+use Rattle.scenario_asm.specs.Canonical.{text_of_scenario}
 use Rattle.case_text.specs.declared.digit.Digit.{Digit}
 use Rattle.case_text.specs.declared.answer.Answer.{Answer}
 use Rattle.case_text.specs.declared.item.Item.{Item}
@@ -47,11 +47,11 @@ text_in answers = flat_map (λ a. line_in a.stated) answers
 -- text is part of what `text` states, and answers on outputs are judged at their item. A text that was read has no
 -- fault, and the verdict on a recorded trace stands below one
 abbrev pub IsEnd : Scenario → List Entry → List Answer → Stated → Type 0
-IsEnd s es answers (Done count) = (length es ≡ count) × (waiting s es ≡ [])
-IsEnd s es answers (Stalled count devices) = (length es ≡ count) × (waiting s es ≡ devices)
+IsEnd s es answers (Done count) = (length es ≡ count) × (waiting_devices s es ≡ [])
+IsEnd s es answers (Stalled count devices) = (length es ≡ count) × (waiting_devices s es ≡ devices)
 IsEnd s es answers (Image digits) = IsImageOf s digits
 IsEnd s es answers (Trace digits) = IsTraceOf es digits
-IsEnd s es answers Text = printed s ≡ text_in answers
+IsEnd s es answers Text = text_of_scenario s ≡ text_in answers
 IsEnd s es answers (Fault line cause) = ⊥
 IsEnd s es answers Run = ⊥
 IsEnd s es answers (NotARun place) = ⊥

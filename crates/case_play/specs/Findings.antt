@@ -5,7 +5,7 @@ use Rattle.byte_layout.specs.declared.fault.LayoutFault.{LayoutFault}
 use Rattle.byte_layout.specs.Whole.{HasFault}
 use Rattle.scenario_image.specs.Image.{IsImage, HasImageFault}
 use Rattle.scenario_asm.specs.declared.fault.AsmFault.{AsmFault}
-use Rattle.scenario_asm.specs.Text.{assembled}
+use Rattle.scenario_asm.specs.Text.{scenario_of_text}
 use Rattle.trace_file.specs.Layout.{trace_file, IsTraceFile}
 use Rattle.case_text.specs.declared.file_case.FileKind.{FileKind}
 use Rattle.case_text.specs.declared.file_case.FileKind.TheVariants.{Image, Trace, Text}
@@ -30,11 +30,11 @@ IsInTrace bytes (Fault words) = (f : LayoutFault) × HasFault trace_file bytes f
 abbrev pub IsNoText : List ℕ → List ℕ → Type 0
 IsNoText bytes words =
     ((IsUtf8 bytes → ⊥) × (words ≡ unreadable_words))
-    ⊎ ((f : AsmFault) × IsUtf8 bytes × (assembled bytes ≡ Err f) × (words ≡ text_fault_words f))
+    ⊎ ((f : AsmFault) × IsUtf8 bytes × (scenario_of_text bytes ≡ Err f) × (words ≡ text_fault_words f))
 
 -- a text is that of a scenario, or is refused
 abbrev pub IsInText : List ℕ → Finding → Type 0
-IsInText bytes (Scenario s) = IsUtf8 bytes × (assembled bytes ≡ Ok s)
+IsInText bytes (Scenario s) = IsUtf8 bytes × (scenario_of_text bytes ≡ Ok s)
 IsInText bytes (Entries es) = ⊥
 IsInText bytes (Fault words) = IsNoText bytes words
 

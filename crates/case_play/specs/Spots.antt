@@ -7,7 +7,7 @@ use Rattle.device_machine.specs.State.{Machine}
 use Rattle.device_machine.specs.Reactions.{outputs_of, flat_after, is_refused}
 use Rattle.scenario_image.specs.declared.step.Step.{Step}
 use Rattle.scenario_image.specs.Scenario.{Scenario}
-use Rattle.scenario_image.specs.Play.{state_at, shown, IsRowOf}
+use Rattle.scenario_image.specs.Play.{state_at, device_showing, IsRowOf}
 use Rattle.fleet_core.specs.Run.{step_at, out_at}
 use Rattle.case_text.specs.declared.item.Item.{Item}
 use Rattle.case_text.specs.declared.item.Part.{Part}
@@ -70,7 +70,7 @@ pub record HasStepped (s : Scenario) (spot : Spot) (times : ℕ) (outputs : List
 pub record HasTaken (s : Scenario) (spot : Spot) (event : Event) (outputs : List Output) : Type 0 where
   pub state : Machine
   pub asked : IsAsked s spot state
-  pub taken : is_refused (shown state) event ≡ false
+  pub taken : is_refused (device_showing state) event ≡ false
   pub put_out : outputs ≡ outputs_of state event
 
 -- `times` devices begin: the scenario has a row for each

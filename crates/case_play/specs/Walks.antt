@@ -6,7 +6,7 @@ use Rattle.device_machine.specs.State.{Machine, Device, Shows}
 use Rattle.device_machine.specs.Reactions.{outputs_of, flat_after, is_refused}
 use Rattle.scenario_image.specs.declared.step.Step.{Step}
 use Rattle.scenario_image.specs.Scenario.{Scenario}
-use Rattle.scenario_image.specs.Play.{shown}
+use Rattle.scenario_image.specs.Play.{device_showing}
 use Rattle.fleet_core.specs.Run.{step_at, out_at}
 use Rattle.fleet_core.specs.Board.{ShowsAfter}
 use Rattle.case_text.specs.declared.answer.Answer.{Answer}
@@ -49,9 +49,9 @@ Asks s spot (Some x) = (f : Machine) × IsAsked s spot f × Shows x f
 
 -- an event was taken, or refused
 abbrev pub Takes : Machine → Event → Option (List Output) → Device → Type 0
-Takes f event None x = is_refused (shown f) event ≡ true
+Takes f event None x = is_refused (device_showing f) event ≡ true
 Takes f event (Some outputs) x =
-    (is_refused (shown f) event ≡ false) × (outputs ≡ outputs_of f event) × Shows x (flat_after f event)
+    (is_refused (device_showing f) event ≡ false) × (outputs ≡ outputs_of f event) × Shows x (flat_after f event)
 
 -- the last of a row's first steps, which are this many, outputs this
 pub record IsMadeLast (s : Scenario) (device to : ℕ) (outputs : List Output) : Type 0 where

@@ -1,8 +1,8 @@
 //! What is stated of a whole scenario.
 
 ghost use Rattle.std.specs.Prelude.{◌≡◌, ◌↔◌, ◌++◌, length, IsTrue, IfOk};
-ghost use Rattle.fleet_core.specs.Waiting.{waiting};
-ghost use Rattle.scenario_asm.specs.Canonical.{printed};
+ghost use Rattle.fleet_core.specs.Waiting.{waiting_devices};
+ghost use Rattle.scenario_asm.specs.Canonical.{text_of_scenario};
 ghost use Rattle.case_play.specs.Ends.{IsImageOf, IsTraceOf, IsEnd, line_in, text_in};
 
 use crate::digits::matches;
@@ -21,7 +21,7 @@ fn is_run(
     devices: &[u16],
 ) -> Result<bool, AllocError>
     ensures { IfOk result (λ b. IsTrue b
-        ↔ ((length entries.now ≡ count) × (waiting scenario.now entries.now ≡ devices.now))) }
+        ↔ ((length entries.now ≡ count) × (waiting_devices scenario.now entries.now ≡ devices.now))) }
 {
     let left = unfinished(alloc, scenario, entries)?;
     Ok(entries.len() as u64 == count && left.as_slice() == devices)
@@ -95,7 +95,7 @@ fn text_in(alloc: Global, answers: &[Answer]) -> Result<Vec<u8>, AllocError>
 
 /// Whether the lines that are stated are the canonical text of the scenario.
 fn is_text(alloc: Global, scenario: &Scenario, answers: &[Answer]) -> Result<bool, AllocError>
-    ensures { IfOk result (λ b. IsTrue b ↔ (printed scenario.now ≡ text_in answers.now)) }
+    ensures { IfOk result (λ b. IsTrue b ↔ (text_of_scenario scenario.now ≡ text_in answers.now)) }
 {
     let stated = text_in(alloc, answers)?;
     let text = disassemble(alloc, scenario)?;

@@ -1,7 +1,7 @@
 //! Whether an answer states what is found in a file.
 
 ghost use Rattle.std.specs.Prelude.{◌≡◌, ◌↔◌, length, IsTrue, IfOk};
-ghost use Rattle.scenario_asm.specs.Canonical.{printed};
+ghost use Rattle.scenario_asm.specs.Canonical.{text_of_scenario};
 ghost use Rattle.case_play.specs.Answers.{count_steps, is_line, lines_below, StatesEntries, StatesFault};
 ghost use Rattle.case_play.specs.Answers.{StatesFinding, StatesScenario};
 ghost use Rattle.case_play.specs.EntryWords.{entries_in_words};
@@ -76,7 +76,7 @@ fn has_counts(scenario: &Scenario, classes: u64, devices: u64, steps: u64) -> bo
 
 /// Whether the lines below an answer are the canonical text of the scenario.
 fn is_text(alloc: Global, below: &[FileAnswer], scenario: &Scenario) -> Result<bool, AllocError>
-    ensures { IfOk result (λ b. IsTrue b ↔ (printed scenario.now ≡ lines_below below.now)) }
+    ensures { IfOk result (λ b. IsTrue b ↔ (text_of_scenario scenario.now ≡ lines_below below.now)) }
 {
     let text = disassemble(alloc, scenario)?;
     are_lines(alloc, below, text.as_str())

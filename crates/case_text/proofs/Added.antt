@@ -12,7 +12,7 @@ use Rattle.case_text.specs.declared.line.Line.{Line}
 use Rattle.case_text.specs.declared.line.Line.TheVariants as is
 use Rattle.case_text.specs.declared.trial.Made.{Made}
 use Rattle.case_text.specs.declared.trial.Made.TheVariants as makes
-use Rattle.case_text.specs.Added.{whole, whole_in_file, whole_made, whole_part, whole_stated}
+use Rattle.case_text.specs.Added.{whole_in_file, whole_line, whole_made, whole_part, whole_stated}
 
 part_more : (p : Part) (b m : List ℕ) → whole_part (whole_part p b) m ≡ whole_part p (b ++ m)
 part_more (part.Recorded x) b m = ap part.Recorded (append_assoc x b m)
@@ -49,7 +49,7 @@ in_file_more (in_file.Answer n s) b m c d = ap (in_file.Answer n) (stated_more s
 
 -- something, and then something more
 pub whole_more : (l : Line) (b m : List ℕ) (c d : List Digit)
-    → whole (whole l b c) m d ≡ whole l (b ++ m) (c ++ d)
+    → whole_line (whole_line l b c) m d ≡ whole_line l (b ++ m) (c ++ d)
 whole_more (is.Part p t n) b m c d = ap (λ x. is.Part x t n) (part_more p b m)
 whole_more (is.File l) b m c d = ap is.File (in_file_more l b m c d)
 whole_more is.Remark b m c d = refl
@@ -91,7 +91,7 @@ in_file_as_it_is (in_file.Makes x) = ap in_file.Makes (made_as_it_is x)
 in_file_as_it_is (in_file.Answer n s) = ap (in_file.Answer n) (stated_as_it_is s)
 
 -- nothing
-pub whole_as_it_is : (l : Line) → whole l [] [] ≡ l
+pub whole_as_it_is : (l : Line) → whole_line l [] [] ≡ l
 whole_as_it_is (is.Part p t n) = ap (λ x. is.Part x t n) (part_as_it_is p)
 whole_as_it_is (is.File l) = ap is.File (in_file_as_it_is l)
 whole_as_it_is is.Remark = refl

@@ -15,7 +15,7 @@ use Rattle.case_text.specs.declared.trial.Trial.{Trial}
 use Rattle.scenario_words.specs.Words.{lines}
 use Rattle.case_text.specs.Above.{after}
 use Rattle.case_text.specs.AnyLine.{line_of}
-use Rattle.case_text.specs.Cases.{before, numbered, onto_line}
+use Rattle.case_text.specs.Cases.{line_before_others, numbered_lines, onto_line}
 
 abbrev pub item : ℕ → Part → List Answer → Item
 item n p answers = record { line = n; part = p; answers = answers }
@@ -46,20 +46,20 @@ ahead_more xs n l (Err f) = refl
 -- a line is read
 pub goes_on : (text first : List ℕ) (more : List (List ℕ)) (n : ℕ) (a : Above) (all : List Numbered) (l : Line)
     (total : Result (List Numbered) CaseFault) → lines text ≡ first ∷ more → line_of a first ≡ Ok l
-    → ahead all (numbered (lines text) n a) ≡ total
-    → ahead (all ++ numbered_line (n + 1) l ∷ []) (numbered more (n + 1) (after a l)) ≡ total
+    → ahead all (numbered_lines (lines text) n a) ≡ total
+    → ahead (all ++ numbered_line (n + 1) l ∷ []) (numbered_lines more (n + 1) (after a l)) ≡ total
 goes_on text first more n a all l total cut read so_far =
-    sym (ahead_more all (n + 1) l (numbered more (n + 1) (after a l)))
-    ∙ sym (ap (λ ls. ahead all (numbered ls n a)) cut
-    ∙ ap (λ r. ahead all (before (n + 1) a r (numbered more (n + 1)))) read)
+    sym (ahead_more all (n + 1) l (numbered_lines more (n + 1) (after a l)))
+    ∙ sym (ap (λ ls. ahead all (numbered_lines ls n a)) cut
+    ∙ ap (λ r. ahead all (line_before_others (n + 1) a r (numbered_lines more (n + 1)))) read)
     ∙ so_far
 
 -- a line cannot be read
 pub stops : (text first : List ℕ) (more : List (List ℕ)) (n : ℕ) (a : Above) (all : List Numbered) (w : Why)
     (total : Result (List Numbered) CaseFault) → lines text ≡ first ∷ more → line_of a first ≡ Err w
-    → ahead all (numbered (lines text) n a) ≡ total → total ≡ Err (record { line = n + 1; why = w })
+    → ahead all (numbered_lines (lines text) n a) ≡ total → total ≡ Err (record { line = n + 1; why = w })
 stops text first more n a all w total cut refused so_far =
-    sym so_far ∙ (ap (λ ls. ahead all (numbered ls n a)) cut
-    ∙ ap (λ r. ahead all (before (n + 1) a r (numbered more (n + 1)))) refused)
+    sym so_far ∙ (ap (λ ls. ahead all (numbered_lines ls n a)) cut
+    ∙ ap (λ r. ahead all (line_before_others (n + 1) a r (numbered_lines more (n + 1)))) refused)
 
 pub ruleset line_by_line = (goes_on, stops)

@@ -56,14 +56,14 @@ whole_in_file (in_file.Gives k b) more digits = in_file.Gives k (b ++ more)
 whole_in_file (in_file.Makes m) more digits = in_file.Makes (whole_made m more)
 whole_in_file (in_file.Answer m s) more digits = in_file.Answer m (whole_stated s digits)
 
-abbrev pub whole : Line → List ℕ → List Digit → Line
-whole (is.Part p t n) more digits = is.Part (whole_part p more) t n
-whole (is.File l) more digits = is.File (whole_in_file l more digits)
-whole l more digits = l
+abbrev pub whole_line : Line → List ℕ → List Digit → Line
+whole_line (is.Part p t n) more digits = is.Part (whole_part p more) t n
+whole_line (is.File l) more digits = is.File (whole_in_file l more digits)
+whole_line l more digits = l
 
 -- the lines that add to no other one, each with what is added to it
 abbrev pub whole_lines : List Numbered → List Numbered
 whole_lines [] = []
 whole_lines (x ∷ xs) =
     if is_added x.line then whole_lines xs
-    else (record { number = x.number; line = whole x.line (more_at xs) (digits_at xs) } ∷ whole_lines xs)
+    else (record { number = x.number; line = whole_line x.line (more_at xs) (digits_at xs) } ∷ whole_lines xs)

@@ -3,7 +3,7 @@ use Rattle.std.specs.Prelude.{ℕ, Bool, List, Option, None, Some, Result, Ok, E
 use Rattle.std.specs.Str.{bytes_eq}
 use Rattle.lwm2m_values.specs.declared.value.Value.{Value}
 use Rattle.scenario_words.specs.declared.cause.Cause.{Cause}
-use Rattle.scenario_words.specs.Reading.{◌>>=◌, first_of, word_by, ended}
+use Rattle.scenario_words.specs.Reading.{◌>>=◌, first_of, word_by, check_of_end}
 use Rattle.scenario_words.specs.PathWord.{path_of}
 use Rattle.scenario_words.specs.ValueWords.{name_fault, value_at}
 use Rattle.scenario_statements.specs.Grammar.{one_of, only_number}
@@ -18,19 +18,19 @@ arrow_of w = one_of (codes "=/>") (codes "=>") w
 abbrev pub only_value : List (List ℕ) → Result Value Cause
 only_value ws = do
   v ← value_at ws
-  e ← ended v.1
+  e ← check_of_end v.1
   Ok v.0
 
 -- a value, or none
 abbrev pub value_or_none : List (List ℕ) → Result (Option Value) Cause
 value_or_none ws =
-    first_of ws >>= (λ w. if bytes_eq w.0 (codes "none") then (ended w.1 >>= (λ e. Ok None))
+    first_of ws >>= (λ w. if bytes_eq w.0 (codes "none") then (check_of_end w.1 >>= (λ e. Ok None))
     else (only_value ws >>= (λ v. Ok (Some v))))
 
 -- a second, or none
 abbrev pub second_or_none : List (List ℕ) → Result (Option ℕ) Cause
 second_or_none ws =
-    first_of ws >>= (λ w. if bytes_eq w.0 (codes "none") then (ended w.1 >>= (λ e. Ok None))
+    first_of ws >>= (λ w. if bytes_eq w.0 (codes "none") then (check_of_end w.1 >>= (λ e. Ok None))
     else (only_number 0 18446744073709551615 ws >>= (λ n. Ok (Some n))))
 
 -- value PATH => KIND VALUE, value PATH => none

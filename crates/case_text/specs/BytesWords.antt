@@ -7,7 +7,7 @@ use Rattle.hex.specs.Hex.{decode_of, encode_lower}
 use Rattle.hex.specs.declared.error.FromHexError.{FromHexError}
 use Rattle.scenario_words.specs.declared.cause.Cause.{Cause}
 use Rattle.scenario_words.specs.declared.cause.Cause.TheVariants.{Token}
-use Rattle.scenario_words.specs.Reading.{◌>>=◌, first_of, ended}
+use Rattle.scenario_words.specs.Reading.{◌>>=◌, first_of, check_of_end}
 use Rattle.scenario_words.specs.Words.{parts, words}
 use Rattle.case_text.specs.declared.digit.Digit.{Digit}
 use Rattle.case_text.specs.Digits.{digit_of, pieces_of, times_of}
@@ -54,7 +54,7 @@ hex_at ws = do
 abbrev pub hex_of : List (List ℕ) → Result (List ℕ) Cause
 hex_of ws = do
   h ← hex_at ws
-  e ← ended h.1
+  e ← check_of_end h.1
   Ok h.0
 
 -- the bytes of hex

@@ -20,7 +20,7 @@ use Rattle.case_text.specs.declared.scenario_case.ScenarioCase.{ScenarioCase}
 use Rattle.case_text.specs.Above.{above_none, after}
 use Rattle.case_text.specs.Added.{whole_lines}
 use Rattle.case_text.specs.AnyLine.{line_of}
-use Rattle.case_text.specs.Checks.{begun, checked}
+use Rattle.case_text.specs.Checks.{check_of_cases, check_of_start}
 use Rattle.case_text.specs.FileCases.{file_of, gives_file}
 
 -- ---- the lines
@@ -30,15 +30,15 @@ abbrev pub onto_line : Numbered → Result (List Numbered) CaseFault → Result 
 onto_line x (Ok xs) = Ok (x ∷ xs)
 onto_line x (Err f) = Err f
 
-abbrev pub before : ℕ → Above → Result Line Why → (Above → Result (List Numbered) CaseFault)
+abbrev pub line_before_others : ℕ → Above → Result Line Why → (Above → Result (List Numbered) CaseFault)
     → Result (List Numbered) CaseFault
-before n a (Ok l) others = onto_line (record { number = n; line = l }) (others (after a l))
-before n a (Err e) others = Err (record { line = n; why = e })
+line_before_others n a (Ok l) others = onto_line (record { number = n; line = l }) (others (after a l))
+line_before_others n a (Err e) others = Err (record { line = n; why = e })
 
 -- what lines are, of which n stand before them, and this above them
-abbrev pub numbered : List (List ℕ) → ℕ → Above → Result (List Numbered) CaseFault
-numbered [] n a = Ok []
-numbered (l ∷ ls) n a = before (n + 1) a (line_of a l) (numbered ls (n + 1))
+abbrev pub numbered_lines : List (List ℕ) → ℕ → Above → Result (List Numbered) CaseFault
+numbered_lines [] n a = Ok []
+numbered_lines (l ∷ ls) n a = line_before_others (n + 1) a (line_of a l) (numbered_lines ls (n + 1))
 
 -- ---- cases of scenarios
 
@@ -128,16 +128,16 @@ if_checked (Ok u) cs = Ok cs
 if_checked (Err f) cs = Err f
 
 abbrev pub if_begun : Result (Unit {0}) CaseFault → List Case → Result (List Case) CaseFault
-if_begun (Ok u) cs = if_checked (checked [] cs) cs
+if_begun (Ok u) cs = if_checked (check_of_cases [] cs) cs
 if_begun (Err f) cs = Err f
 
 abbrev pub cases_from : Result (List Numbered) CaseFault → Result (List Case) CaseFault
-cases_from (Ok ls) = if_begun (begun ls) (cases_of ls)
+cases_from (Ok ls) = if_begun (check_of_start ls) (cases_of ls)
 cases_from (Err f) = Err f
 
 -- the cases of a file
 abbrev pub cases_in : List ℕ → Result (List Case) CaseFault
-cases_in text = cases_from (numbered (lines text) 0 above_none)
+cases_in text = cases_from (numbered_lines (lines text) 0 above_none)
 
 -- what a function answered is what there is, seen through the view, unless memory ran out
 abbrev pub Finds : {X Y : Type 0} → (X → Y) → Result X CaseFault → Result Y CaseFault → Type 0

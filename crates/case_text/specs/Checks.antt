@@ -38,9 +38,9 @@ begun_by is.Remark n more = more
 begun_by (is.Title t) n more = Ok tt
 begun_by l n more = Err (record { line = n; why = why.BeforeFirstCase })
 
-abbrev pub begun : List Numbered → Result (Unit {0}) CaseFault
-begun [] = Err (record { line = 1; why = why.NoCase })
-begun (x ∷ xs) = begun_by x.line x.number (begun xs)
+abbrev pub check_of_start : List Numbered → Result (Unit {0}) CaseFault
+check_of_start [] = Err (record { line = 1; why = why.NoCase })
+check_of_start (x ∷ xs) = begun_by x.line x.number (check_of_start xs)
 
 -- the line of the first `=| LINE` without `=> text` above it
 abbrev pub stray_by : Bool → Stated → ℕ → (Bool → Option ℕ) → Option ℕ
@@ -131,6 +131,6 @@ unless (Some f) more = Err f
 unless None more = more
 
 -- the first case that is refused, if any
-abbrev pub checked : List Case → List Case → Result (Unit {0}) CaseFault
-checked above [] = Ok tt
-checked above (c ∷ cs) = unless (fault_of above c) (checked (above ++ c ∷ []) cs)
+abbrev pub check_of_cases : List Case → List Case → Result (Unit {0}) CaseFault
+check_of_cases above [] = Ok tt
+check_of_cases above (c ∷ cs) = unless (fault_of above c) (check_of_cases (above ++ c ∷ []) cs)

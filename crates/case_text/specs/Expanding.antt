@@ -18,5 +18,5 @@ abbrev pub expanded_word : List ℕ → List ℕ
 expanded_word w = if has_star w then or_word w (pieces_of (parts 43 w)) else w
 
 -- the line of these words, with a space after each
-abbrev pub expanded : List (List ℕ) → List ℕ
-expanded ws = flat_map (λ w. expanded_word w ++ 32 ∷ []) ws
+abbrev pub expanded_line : List (List ℕ) → List ℕ
+expanded_line ws = flat_map (λ w. expanded_word w ++ 32 ∷ []) ws

@@ -4,7 +4,7 @@ use Rattle.std.specs.Str.{bytes_eq}
 use Rattle.scenario_words.specs.declared.cause.Cause.{Cause}
 use Rattle.scenario_words.specs.Reading.{◌>>=◌, word_by}
 use Rattle.scenario_words.specs.Words.{words}
-use Rattle.scenario_statements.specs.Grammar.{named, only_number}
+use Rattle.scenario_statements.specs.Grammar.{check_of_name, only_number}
 use Rattle.case_text.specs.declared.above.Adding.{Adding}
 use Rattle.case_text.specs.declared.above.Adding.TheVariants as adds_to
 use Rattle.case_text.specs.declared.fault.Why.{Why}
@@ -19,7 +19,7 @@ use Rattle.case_text.specs.declared.trial.Made.{Made}
 use Rattle.case_text.specs.declared.trial.Made.TheVariants as file_made
 use Rattle.case_text.specs.BytesWords.{all_digits, bytes_at, bytes_of}
 use Rattle.case_text.specs.FileStating.{file_stated_of}
-use Rattle.case_text.specs.Marks.{begins, behind, made, of_text, text_from}
+use Rattle.case_text.specs.Marks.{begins, behind, line_or_refusal, of_text, text_from}
 
 -- ---- the file
 
@@ -28,7 +28,7 @@ gives k bytes = is.File (in_file.Gives k bytes)
 
 -- image BYTES, trace BYTES, by what stands behind the name
 abbrev pub given_of : FileKind → List ℕ → Result Line Why
-given_of k line = made why.NotBytes (gives k) (bytes_of (words line))
+given_of k line = line_or_refusal why.NotBytes (gives k) (bytes_of (words line))
 
 -- text, and no further word
 abbrev pub text_file_of : List (List ℕ) → Result Line Why
@@ -44,14 +44,14 @@ makes m = is.File (in_file.Makes m)
 abbrev pub with_of : List (List ℕ) → Result Made Cause
 with_of ws = do
   b ← bytes_at ws
-  a ← word_by (named (codes "at")) b.1
+  a ← word_by (check_of_name (codes "at")) b.1
   n ← only_number 0 18446744073709551615 a.1
   Ok (file_made.With b.0 n)
 
 -- and LINE in a text, and BYTES in another file
 abbrev pub and_of : FileKind → List ℕ → Result Line Why
 and_of files.Text line = of_text (λ t. makes (file_made.And t)) (text_from line)
-and_of k line = made why.NotBytes (λ b. makes (file_made.And b)) (bytes_of (words line))
+and_of k line = line_or_refusal why.NotBytes (λ b. makes (file_made.And b)) (bytes_of (words line))
 
 -- each front, each change
 abbrev pub each_of : List (List ℕ) → Result Line Why
@@ -62,7 +62,8 @@ each_of _ = Err why.NoSuchLine
 
 abbrev pub making_of : FileKind → List ℕ → Result Line Why
 making_of k line =
-    if begins (codes "with ") line then made why.NotBytes makes (with_of (words (behind (codes "with ") line)))
+    if begins (codes "with ") line then line_or_refusal why.NotBytes makes
+    (with_of (words (behind (codes "with ") line)))
     else (if begins (codes "and ") line then and_of k (behind (codes "and ") line)
     else (if begins (codes "each ") line then each_of (words (behind (codes "each ") line)) else Err why.NoSuchLine))
 
@@ -71,8 +72,8 @@ making_of k line =
 -- + BYTES
 abbrev pub more_of : Adding → List ℕ → Result Line Why
 more_of adds_to.Nothing line = Err why.AddsToNothing
-more_of adds_to.Bytes line = made why.NotBytes is.More (bytes_of (words line))
-more_of adds_to.Digits line = made why.NotBytes is.MoreDigits (all_digits (words line))
+more_of adds_to.Bytes line = line_or_refusal why.NotBytes is.More (bytes_of (words line))
+more_of adds_to.Digits line = line_or_refusal why.NotBytes is.MoreDigits (all_digits (words line))
 
 -- | LINE, which only a text has
 abbrev pub text_more_of : FileKind → Adding → List ℕ → Result Line Why
@@ -90,7 +91,7 @@ adding_of k a line =
 
 abbrev pub file_answer_of : Bool → List ℕ → Result Line Why
 file_answer_of must_not line =
-    made why.NotAnAnswer (λ s. is.File (in_file.Answer must_not s)) (file_stated_of (words line))
+    line_or_refusal why.NotAnAnswer (λ s. is.File (in_file.Answer must_not s)) (file_stated_of (words line))
 
 abbrev pub file_text_line_of : List ℕ → Result Line Why
 file_text_line_of line = of_text (λ t. is.File (in_file.Answer false (states.TextLine t))) (text_from line)

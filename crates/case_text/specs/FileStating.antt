@@ -6,9 +6,9 @@ use Rattle.std.specs.Str.{bytes_eq}
 use Rattle.scenario_words.specs.declared.cause.Cause.{Cause}
 use Rattle.scenario_words.specs.Number.{number_of}
 use Rattle.scenario_words.specs.Quoted.{utf8_or_token}
-use Rattle.scenario_words.specs.Reading.{◌>>=◌, first_of, word_by, ended}
+use Rattle.scenario_words.specs.Reading.{◌>>=◌, first_of, word_by, check_of_end}
 use Rattle.scenario_words.specs.ValueWords.{name_fault}
-use Rattle.scenario_statements.specs.Grammar.{named, only_number}
+use Rattle.scenario_statements.specs.Grammar.{check_of_name, only_number}
 use Rattle.case_text.specs.declared.file_stated.FileStated.{FileStated}
 use Rattle.case_text.specs.declared.file_stated.FileStated.TheVariants as states
 use Rattle.case_text.specs.declared.stated.Stated.{Stated}
@@ -33,7 +33,7 @@ fault_words ws = first_of ws >>= (λ w. utf8_or_token (Some (phrase w.0 w.1)))
 abbrev pub ok_scenario : ℕ → List (List ℕ) → Result FileStated Cause
 ok_scenario classes ws = do
   d ← word_by any_number ws
-  a ← word_by (named (codes "devices")) d.1
+  a ← word_by (check_of_name (codes "devices")) d.1
   s ← word_by any_number a.1
   b ← only_name (codes "steps") s.1
   Ok (states.Ok classes d.0 s.0)
@@ -42,7 +42,8 @@ ok_scenario classes ws = do
 abbrev pub ok_by : ℕ → List ℕ → List (List ℕ) → Result FileStated Cause
 ok_by n w ws =
     if bytes_eq w (codes "classes") then ok_scenario n ws
-    else (if bytes_eq w (codes "entries") then (ended ws >>= (λ e. Ok (states.OkEntries n))) else Err (name_fault w))
+    else (if bytes_eq w (codes "entries") then (check_of_end ws >>= (λ e. Ok (states.OkEntries n)))
+    else Err (name_fault w))
 
 abbrev pub ok_at : List (List ℕ) → Result FileStated Cause
 ok_at ws = do
@@ -61,8 +62,9 @@ file_stated_by w ws =
     else (if bytes_eq w (codes "fault") then (fault_words ws >>= (λ t. Ok (file_fault_by t)))
     else (if bytes_eq w (codes "image") then (all_digits ws >>= (λ d. Ok (states.Image d)))
     else (if bytes_eq w (codes "trace") then (all_digits ws >>= (λ d. Ok (states.Trace d)))
-    else (if bytes_eq w (codes "text") then (ended ws >>= (λ e. Ok states.Text))
-    else (if bytes_eq w (codes "entries") then (ended ws >>= (λ e. Ok states.Entries)) else Err (name_fault w))))))
+    else (if bytes_eq w (codes "text") then (check_of_end ws >>= (λ e. Ok states.Text))
+    else (if bytes_eq w (codes "entries") then (check_of_end ws >>= (λ e. Ok states.Entries))
+    else Err (name_fault w))))))
 
 -- what is stated
 abbrev pub file_stated_of : List (List ℕ) → Result FileStated Cause
@@ -73,9 +75,9 @@ file_stated_of ws = first_of ws >>= (λ w. file_stated_by w.0 w.1)
 -- not a run at N
 abbrev pub not_a_run : List (List ℕ) → Result Stated Cause
 not_a_run ws = do
-  a ← word_by (named (codes "a")) ws
-  r ← word_by (named (codes "run")) a.1
-  p ← word_by (named (codes "at")) r.1
+  a ← word_by (check_of_name (codes "a")) ws
+  r ← word_by (check_of_name (codes "run")) a.1
+  p ← word_by (check_of_name (codes "at")) r.1
   n ← only_number 0 18446744073709551615 p.1
   Ok (states_of_run.NotARun n)
 
@@ -88,7 +90,7 @@ recorded_fault ws = do
 -- what is stated, by its first word and those after it
 abbrev pub recorded_stated_by : List ℕ → List (List ℕ) → Result Stated Cause
 recorded_stated_by w ws =
-    if bytes_eq w (codes "run") then (ended ws >>= (λ e. Ok states_of_run.Run))
+    if bytes_eq w (codes "run") then (check_of_end ws >>= (λ e. Ok states_of_run.Run))
     else (if bytes_eq w (codes "not") then not_a_run ws
     else (if bytes_eq w (codes "fault") then recorded_fault ws
     else (if bytes_eq w (codes "done") then

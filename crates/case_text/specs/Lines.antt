@@ -30,9 +30,9 @@ use Rattle.case_text.specs.declared.stated.Stated.TheVariants as states
 use Rattle.case_text.specs.Asking.{question_of}
 use Rattle.case_text.specs.BytesWords.{bytes_of}
 use Rattle.case_text.specs.Digits.{times_of}
-use Rattle.case_text.specs.Expanding.{expanded}
+use Rattle.case_text.specs.Expanding.{expanded_line}
 use Rattle.case_text.specs.FileStating.{recorded_stated_of}
-use Rattle.case_text.specs.Marks.{begins, behind, is_headed, made, of_text, text_from}
+use Rattle.case_text.specs.Marks.{begins, behind, is_headed, line_or_refusal, of_text, text_from}
 use Rattle.case_text.specs.Stating.{stated_of}
 
 -- a line that adds only an empty line to the scenario's text
@@ -45,7 +45,7 @@ stated_in kinds.Recorded ws = recorded_stated_of ws
 stated_in k ws = stated_of ws
 
 abbrev pub answer_of : CaseKind → Bool → List ℕ → Result Line Why
-answer_of k must_not line = made why.NotAnAnswer (is.Answer must_not) (stated_in k (words line))
+answer_of k must_not line = line_or_refusal why.NotAnAnswer (is.Answer must_not) (stated_in k (words line))
 
 abbrev pub text_line_of : List ℕ → Result Line Why
 text_line_of line = of_text (λ t. is.Answer false (states.TextLine t)) (text_from line)
@@ -54,7 +54,7 @@ abbrev pub ask : Bool × Question → Line
 ask q = beside (part.Ask q.0 q.1)
 
 abbrev pub question_line_of : List ℕ → Result Line Why
-question_line_of line = made why.NotAQuestion ask (question_of (words line))
+question_line_of line = line_or_refusal why.NotAQuestion ask (question_of (words line))
 
 -- the event that a statement is, of any server that it names
 abbrev pub event_by : Statement → Result Event Cause
@@ -82,7 +82,7 @@ abbrev pub event_of : List ℕ → Result Event Cause
 event_of line = event_or line (said_ack (words line))
 
 abbrev pub aside_of : List ℕ → Result Line Why
-aside_of line = made why.NotAnEvent (λ e. beside (part.Aside e)) (event_of (expanded (parts 32 line)))
+aside_of line = line_or_refusal why.NotAnEvent (λ e. beside (part.Aside e)) (event_of (expanded_line (parts 32 line)))
 
 -- a line as scenario text has it, by what it says that is `ack S MID`: the Empty ACK as `recv`, any other as it is
 abbrev pub line_by : List ℕ → Option Ack → List ℕ
@@ -127,11 +127,11 @@ counted_by (Err cause) line = Err why.NotACount
 abbrev pub counted_of : List (List ℕ) → Result Line Why
 counted_of [] = Err why.NotACount
 counted_of (count ∷ []) = Err why.NotACount
-counted_of (count ∷ w ∷ ws) = counted_by (times_of count) (expanded (w ∷ ws))
+counted_of (count ∷ w ∷ ws) = counted_by (times_of count) (expanded_line (w ∷ ws))
 
 -- the trace file of a recorded run
 abbrev pub recorded_of : List ℕ → Result Line Why
-recorded_of line = made why.NotBytes (λ b. beside (part.Recorded b)) (bytes_of (words line))
+recorded_of line = line_or_refusal why.NotBytes (λ b. beside (part.Recorded b)) (bytes_of (words line))
 
 -- a line that begins as no line of a text does; `<=` is kept for later
 abbrev pub is_marked : List ℕ → Bool

@@ -23,9 +23,9 @@ abbrev pub is_headed : List ℕ → List ℕ → List ℕ → Bool
 is_headed name w line = bytes_eq w name && begins name line
 
 -- what was read, and what is made of it, or why it could not be read
-abbrev pub made : {A : Type 0} → (Cause → Why) → (A → Line) → Result A Cause → Result Line Why
-made refused make (Ok x) = Ok (make x)
-made refused make (Err cause) = Err (refused cause)
+abbrev pub line_or_refusal : {A : Type 0} → (Cause → Why) → (A → Line) → Result A Cause → Result Line Why
+line_or_refusal refused make (Ok x) = Ok (make x)
+line_or_refusal refused make (Err cause) = Err (refused cause)
 
 -- bytes that have to be UTF-8, and what is made of such a text
 abbrev pub text_from : List ℕ → Result (List ℕ) Why

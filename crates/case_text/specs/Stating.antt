@@ -7,11 +7,11 @@ use Rattle.device_requests.specs.declared.answer.Act.{Act}
 use Rattle.device_requests.specs.declared.answer.Act.TheVariants as act
 use Rattle.scenario_words.specs.declared.cause.Cause.{Cause}
 use Rattle.scenario_words.specs.declared.cause.Cause.TheVariants.{Missing, Token, UnknownWord, Range, Duplicate, Limit}
-use Rattle.scenario_words.specs.Reading.{◌>>=◌, first_of, word_by, ended}
+use Rattle.scenario_words.specs.Reading.{◌>>=◌, first_of, word_by, check_of_end}
 use Rattle.scenario_words.specs.Number.{number_of}
 use Rattle.scenario_words.specs.Quoted.{text_of}
 use Rattle.scenario_words.specs.ValueWords.{name_fault}
-use Rattle.scenario_statements.specs.Grammar.{named, only_number}
+use Rattle.scenario_statements.specs.Grammar.{check_of_name, only_number}
 use Rattle.case_text.specs.declared.digit.Digit.{Digit}
 use Rattle.case_text.specs.declared.stated.Stated.{Stated}
 use Rattle.case_text.specs.declared.stated.Stated.TheVariants as states
@@ -19,20 +19,20 @@ use Rattle.case_text.specs.Digits.{digits_of}
 
 -- this name, and no further word
 abbrev pub only_name : List ℕ → List (List ℕ) → Result (Unit {0}) Cause
-only_name name ws = word_by (named name) ws >>= (λ n. ended n.1)
+only_name name ws = word_by (check_of_name name) ws >>= (λ n. check_of_end n.1)
 
 -- digits, and no further word
 abbrev pub only_digits : List (List ℕ) → Result (List Digit) Cause
 only_digits ws = do
   d ← word_by digits_of ws
-  e ← ended d.1
+  e ← check_of_end d.1
   Ok d.0
 
 -- a text in quotes, and no further word
 abbrev pub only_text : List (List ℕ) → Result (List ℕ) Cause
 only_text ws = do
   t ← word_by text_of ws
-  e ← ended t.1
+  e ← check_of_end t.1
   Ok t.0
 
 -- the same, or no word
@@ -75,11 +75,11 @@ notification ws = do
 -- what a device does, by its name
 abbrev pub act_by : List ℕ → List (List ℕ) → Result Act Cause
 act_by w ws =
-    if bytes_eq w (codes "reboot") then (ended ws >>= (λ e. Ok act.Reboot))
+    if bytes_eq w (codes "reboot") then (check_of_end ws >>= (λ e. Ok act.Reboot))
     else (if bytes_eq w (codes "factory") then (only_name (codes "reset") ws >>= (λ e. Ok act.FactoryReset))
     else (if bytes_eq w (codes "reg") then (only_name (codes "update") ws >>= (λ e. Ok act.RegUpdate))
-    else (if bytes_eq w (codes "disable") then (ended ws >>= (λ e. Ok act.Disable))
-    else (if bytes_eq w (codes "missed") then (ended ws >>= (λ e. Ok act.Missed)) else Err (name_fault w)))))
+    else (if bytes_eq w (codes "disable") then (check_of_end ws >>= (λ e. Ok act.Disable))
+    else (if bytes_eq w (codes "missed") then (check_of_end ws >>= (λ e. Ok act.Missed)) else Err (name_fault w)))))
 
 -- act NAME
 abbrev pub act_at : List (List ℕ) → Result Stated Cause
@@ -111,24 +111,24 @@ some_devices ws = first_of ws >>= (λ w. devices_of ws)
 abbrev pub stalled : List (List ℕ) → Result Stated Cause
 stalled ws = do
   n ← word_by (number_of 0 18446744073709551615) ws
-  w ← word_by (named (codes "waiting")) n.1
+  w ← word_by (check_of_name (codes "waiting")) n.1
   ds ← some_devices w.1
   Ok (states.Stalled n.0 ds)
 
 -- why a text is refused, as it is printed
 abbrev pub cause_by : List ℕ → List (List ℕ) → Result Cause Cause
 cause_by w ws =
-    if bytes_eq w (codes "missing") then (ended ws >>= (λ e. Ok Missing))
-    else (if bytes_eq w (codes "token") then (ended ws >>= (λ e. Ok Token))
+    if bytes_eq w (codes "missing") then (check_of_end ws >>= (λ e. Ok Missing))
+    else (if bytes_eq w (codes "token") then (check_of_end ws >>= (λ e. Ok Token))
     else (if bytes_eq w (codes "unknown") then (only_name (codes "word") ws >>= (λ e. Ok UnknownWord))
-    else (if bytes_eq w (codes "range") then (ended ws >>= (λ e. Ok Range))
-    else (if bytes_eq w (codes "duplicate") then (ended ws >>= (λ e. Ok Duplicate))
-    else (if bytes_eq w (codes "limit") then (ended ws >>= (λ e. Ok Limit)) else Err (name_fault w))))))
+    else (if bytes_eq w (codes "range") then (check_of_end ws >>= (λ e. Ok Range))
+    else (if bytes_eq w (codes "duplicate") then (check_of_end ws >>= (λ e. Ok Duplicate))
+    else (if bytes_eq w (codes "limit") then (check_of_end ws >>= (λ e. Ok Limit)) else Err (name_fault w))))))
 
 -- fault line N CAUSE
 abbrev pub fault : List (List ℕ) → Result Stated Cause
 fault ws = do
-  l ← word_by (named (codes "line")) ws
+  l ← word_by (check_of_name (codes "line")) ws
   n ← word_by (number_of 1 18446744073709551615) l.1
   w ← first_of n.1
   c ← cause_by w.0 w.1
@@ -141,13 +141,13 @@ whole_by w ws =
     else (if bytes_eq w (codes "stalled") then stalled ws
     else (if bytes_eq w (codes "image") then (only_digits ws >>= (λ d. Ok (states.Image d)))
     else (if bytes_eq w (codes "trace") then (only_digits ws >>= (λ d. Ok (states.Trace d)))
-    else (if bytes_eq w (codes "text") then (ended ws >>= (λ e. Ok states.Text))
+    else (if bytes_eq w (codes "text") then (check_of_end ws >>= (λ e. Ok states.Text))
     else (if bytes_eq w (codes "fault") then fault ws else Err (name_fault w))))))
 
 -- what is stated, by its first word and those after it
 abbrev pub stated_by : List ℕ → List (List ℕ) → Result Stated Cause
 stated_by w ws =
-    if bytes_eq w (codes "nothing") then (ended ws >>= (λ e. Ok states.Nothing))
+    if bytes_eq w (codes "nothing") then (check_of_end ws >>= (λ e. Ok states.Nothing))
     else (if bytes_eq w (codes "send") then send ws
     else (if bytes_eq w (codes "code") then code ws
     else (if bytes_eq w (codes "notification") then notification ws

@@ -1,7 +1,7 @@
 //! What lines add to the line above them.
 
 ghost use Rattle.std.specs.Prelude.{◌≡◌, ◌++◌, ◌∷◌, IfOk, OnOk};
-ghost use Rattle.case_text.specs.Added.{bytes_in, digits_in, is_added, whole, whole_in_file, whole_lines};
+ghost use Rattle.case_text.specs.Added.{bytes_in, digits_in, is_added, whole_in_file, whole_line, whole_lines};
 ghost use Rattle.case_text.specs.declared.line.Line.TheVariants.{Remark};
 
 use crate::digit::Digit;
@@ -81,7 +81,7 @@ fn put_in_file(
 
 /// Adds to a line, where it gives bytes or states digits.
 fn put_more(alloc: Global, line: &mut Line, more: &[u8], digits: &[Digit]) -> Result<(), AllocError>
-    ensures { OnOk result (line.new ≡ whole line.old more.now digits.now) }
+    ensures { OnOk result (line.new ≡ whole_line line.old more.now digits.now) }
 {
     match line {
         Line::Part { part, .. } => match part {

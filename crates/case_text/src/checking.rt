@@ -1,9 +1,10 @@
 //! What is refused of cases that were read.
 
 ghost use Rattle.std.specs.Prelude.{◌≡◌, [], false};
-ghost use Rattle.case_text.specs.Checks.{asks, begun, checked, fault_in, fault_of, file_fault, file_stray, has_title};
-ghost use Rattle.case_text.specs.Checks.{is_recorded, line_fault, scenario_fault, stray, stray_in, stray_in_trials};
-ghost use Rattle.case_text.specs.Checks.{states_something, unanswered_item, unanswered_trial};
+ghost use Rattle.case_text.specs.Checks.{asks, check_of_cases, check_of_start, fault_in, fault_of, file_fault};
+ghost use Rattle.case_text.specs.Checks.{file_stray, has_title, is_recorded, line_fault, scenario_fault, stray};
+ghost use Rattle.case_text.specs.Checks.{stray_in, stray_in_trials, states_something, unanswered_item};
+ghost use Rattle.case_text.specs.Checks.{unanswered_trial};
 
 use crate::answer::Answer;
 use crate::case::Case;
@@ -20,7 +21,7 @@ use crate::trial::Trial;
 
 /// Refuses lines of which none begins a case, or where something but remarks stands before the first.
 pub(crate) fn begun(lines: &[Numbered]) -> Result<(), CaseFault>
-    ensures { result ≡ begun lines.now }
+    ensures { result ≡ check_of_start lines.now }
 {
     for next in lines {
         match &next.line {
@@ -221,7 +222,7 @@ fn fault_of(above: &[Case], case: &Case) -> Option<CaseFault>
 /// Refuses the first case that has the title of one above it, or states nothing of the whole or of a file, or states a
 /// line that is not announced.
 pub(crate) fn checked(cases: &[Case]) -> Result<(), CaseFault>
-    ensures { result ≡ checked [] cases.now }
+    ensures { result ≡ check_of_cases [] cases.now }
 {
     for (place, case) in cases.iter().enumerate() {
         if let Some(fault) = fault_of(&cases[..place], case) {

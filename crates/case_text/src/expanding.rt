@@ -3,7 +3,7 @@
 ghost use Rattle.std.specs.Prelude.{◌≡◌, ◌==◌, ◌++◌, ◌∷◌, [], IfOk, OnOk};
 ghost use Rattle.std.specs.List.{list_any};
 ghost use Rattle.scenario_words.specs.Words.{parts};
-ghost use Rattle.case_text.specs.Expanding.{expanded, expanded_word, has_star};
+ghost use Rattle.case_text.specs.Expanding.{expanded_line, expanded_word, has_star};
 
 use crate::pieces::pieces_of;
 use scenario_words::{Cause, cut};
@@ -31,7 +31,7 @@ fn put_word(alloc: Global, out: &mut Vec<u8>, word: &[u8]) -> Result<(), AllocEr
 
 /// A line in which each word with a `*` that is in pieces stands for its hex, and a space after each word.
 pub(crate) fn expanded(alloc: Global, line: &[u8]) -> Result<Vec<u8>, AllocError>
-    ensures { IfOk result (λ v. v.items ≡ expanded (parts 32 line.now)) }
+    ensures { IfOk result (λ v. v.items ≡ expanded_line (parts 32 line.now)) }
 {
     let mut out = Vec::new(alloc);
     let mut left = Some(line);

@@ -2,7 +2,7 @@
 
 ghost use Rattle.scenario_words.specs.Words.{lines};
 ghost use Rattle.case_text.specs.Above.{above_none};
-ghost use Rattle.case_text.specs.Cases.{Finds, cases_in, numbered};
+ghost use Rattle.case_text.specs.Cases.{Finds, cases_in, numbered_lines};
 
 use crate::above::Above;
 use crate::any_line::read_line;
@@ -17,7 +17,7 @@ use std::alloc::Global;
 /// The lines of a text, or the first that cannot be read.
 #[tactic(auto, using(crate::proofs::Grouped::line_by_line))]
 fn numbered(alloc: Global, text: &[u8]) -> Result<Vec<Numbered>, CaseFault>
-    ensures { Finds (λ v. v.items) result (numbered (lines text.now) 0 above_none) }
+    ensures { Finds (λ v. v.items) result (numbered_lines (lines text.now) 0 above_none) }
 {
     let mut all = Vec::new(alloc);
     let mut number = 0;

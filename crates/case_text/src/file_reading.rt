@@ -3,9 +3,10 @@
 ghost use Rattle.std.specs.Prelude.{◌≡◌, ◌++◌, ◌∷◌, [], IfOk};
 ghost use Rattle.scenario_words.specs.Words.{words};
 ghost use Rattle.scenario_words.specs.Reading.{Gives};
-ghost use Rattle.case_text.specs.FileLines.{adding_of, and_of, each_of, file_answer_of, file_line_of, file_text_line_of};
+ghost use Rattle.case_text.specs.FileLines.{adding_of, and_of, each_of, file_answer_of, file_line_of};
+ghost use Rattle.case_text.specs.FileLines.{file_text_line_of};
 ghost use Rattle.case_text.specs.FileLines.{given_of, making_of, makes, more_of, text_file_of, text_more_of, with_of};
-ghost use Rattle.case_text.specs.Marks.{Finds, made, of_text, text_from};
+ghost use Rattle.case_text.specs.Marks.{Finds, line_or_refusal, of_text, text_from};
 ghost use Rattle.case_text.specs.declared.fault.Why.TheVariants as why;
 ghost use Rattle.case_text.specs.declared.line.Line.TheVariants as is;
 ghost use Rattle.case_text.specs.BytesWords.{all_digits, bytes_of};
@@ -58,7 +59,7 @@ fn with_of(alloc: Global, line: &[u8]) -> Result<Made, Cause>
 }
 
 fn with_line_of(alloc: Global, line: &[u8]) -> Result<Line, Why>
-    ensures { Finds (λ l. l) result (made why.NotBytes makes (with_of (words line.now))) }
+    ensures { Finds (λ l. l) result (line_or_refusal why.NotBytes makes (with_of (words line.now))) }
 {
     match with_of(alloc, line) {
         Ok(other) => Ok(Line::File(FileLine::Makes(other))),
@@ -77,7 +78,8 @@ fn and_line_of(alloc: Global, line: &[u8]) -> Result<Line, Why>
 }
 
 fn and_bytes_of(alloc: Global, line: &[u8]) -> Result<Line, Why>
-    ensures { Finds (λ l. l) result (made why.NotBytes (λ b. makes (file_made.And b)) (bytes_of (words line.now))) }
+    ensures { Finds (λ l. l) result (line_or_refusal why.NotBytes (λ b. makes (file_made.And b))
+        (bytes_of (words line.now))) }
 {
     match bytes_of(alloc, line) {
         Ok(bytes) => Ok(Line::File(FileLine::Makes(Made::And(bytes)))),
@@ -128,7 +130,7 @@ fn making_of(alloc: Global, kind: FileKind, line: &[u8]) -> Result<Line, Why>
 }
 
 fn more_bytes_of(alloc: Global, line: &[u8]) -> Result<Line, Why>
-    ensures { Finds (λ l. l) result (made why.NotBytes is.More (bytes_of (words line.now))) }
+    ensures { Finds (λ l. l) result (line_or_refusal why.NotBytes is.More (bytes_of (words line.now))) }
 {
     match bytes_of(alloc, line) {
         Ok(bytes) => Ok(Line::More(bytes)),
@@ -137,7 +139,7 @@ fn more_bytes_of(alloc: Global, line: &[u8]) -> Result<Line, Why>
 }
 
 fn more_digits_of(alloc: Global, line: &[u8]) -> Result<Line, Why>
-    ensures { Finds (λ l. l) result (made why.NotBytes is.MoreDigits (all_digits (words line.now))) }
+    ensures { Finds (λ l. l) result (line_or_refusal why.NotBytes is.MoreDigits (all_digits (words line.now))) }
 {
     match digits_of_line(alloc, line) {
         Ok(digits) => Ok(Line::MoreDigits(digits)),

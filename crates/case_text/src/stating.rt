@@ -3,7 +3,7 @@
 ghost use Rattle.std.specs.Prelude.{◌≡◌, ◌≤◌, IfOk};
 ghost use Rattle.scenario_words.specs.Words.{words};
 ghost use Rattle.scenario_words.specs.Reading.{Gives, Reads, word_by};
-ghost use Rattle.scenario_statements.specs.Grammar.{named, only_number};
+ghost use Rattle.scenario_statements.specs.Grammar.{check_of_name, only_number};
 ghost use Rattle.case_text.specs.Stating.{act_at, act_by, cause_by, code, code_of, devices_of, fault, is_count, more};
 ghost use Rattle.case_text.specs.Stating.{notification, only_digits, only_name, only_text, send, some_devices, stalled};
 ghost use Rattle.case_text.specs.Stating.{stated_by, stated_of, text_or_none, whole_by};
@@ -28,7 +28,7 @@ pub(crate) fn only_number(line: &[u8], low: u64, high: u64) -> Result<u64, Cause
 }
 
 pub(crate) fn named(alloc: Global, name: &str, word: &[u8]) -> Result<(), Cause>
-    ensures { Gives (λ u. u) result (named name.now word.now) }
+    ensures { Gives (λ u. u) result (check_of_name name.now word.now) }
 {
     if is_name(word, name) {
         Ok(())
@@ -39,7 +39,7 @@ pub(crate) fn named(alloc: Global, name: &str, word: &[u8]) -> Result<(), Cause>
 
 /// The line after its first word, which has to be this name.
 pub(crate) fn after_name<'a>(alloc: Global, name: &str, line: &'a [u8]) -> Result<&'a [u8], Cause>
-    ensures { Gives (λ rest. (tt, words rest.now)) result (word_by (named name.now) (words line.now)) }
+    ensures { Gives (λ rest. (tt, words rest.now)) result (word_by (check_of_name name.now) (words line.now)) }
 {
     let (word, line) = first_word(line)?;
     named(alloc, name, word)?;

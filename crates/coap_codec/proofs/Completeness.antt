@@ -8,7 +8,8 @@ use Rattle.coap_codec.specs.declared.option.Opt.{Opt}
 use Rattle.coap_codec.specs.declared.fault.CoapFault.{CoapFault}
 use Rattle.coap_codec.specs.Message.{IsOptionList, nibble_of, extension_of, options_bytes, payload_bytes}
 use Rattle.coap_codec.specs.Fault.{width, amount, option_fault, place_fault, last_number}
-use Rattle.coap_codec.specs.Reading.{Found, option_here, behind_option, with_option, read_place, read_options}
+use Rattle.coap_codec.specs.Reading.{OptionsAndPayload, option_here, behind_option, with_option, read_place}
+use Rattle.coap_codec.specs.Reading.{read_options}
 use Rattle.coap_codec.proofs.Amounts.{nibble_below, width_length, amount_again, rest_again}
 
 -- the option of this first byte fits each case
@@ -129,7 +130,7 @@ read_step steps number first rest o behind a =
     ∙ ap (λ r. with_option o (read_options steps o.number r)) a.behind_is)
 
 -- options before what was found after them
-abbrev pub with_all : List Opt → Result Found CoapFault → Result Found CoapFault
+abbrev pub with_all : List Opt → Result OptionsAndPayload CoapFault → Result OptionsAndPayload CoapFault
 with_all [] found = found
 with_all (o ∷ os) found = with_option o (with_all os found)
 
@@ -143,7 +144,8 @@ with_all-err [] fault = refl
 with_all-err (o ∷ os) fault = ap (with_option o) (with_all-err os fault)
 
 -- whole options are read one after another, and then what stands after them
-pub read_all : (os : List Opt) (number : ℕ) (tail : List ℕ) (found : Result Found CoapFault) → IsOptionList number os
+pub read_all : (os : List Opt) (number : ℕ) (tail : List ℕ) (found : Result OptionsAndPayload CoapFault)
+    → IsOptionList number os
     → ((steps : ℕ) → length tail ≤ steps → read_options steps (last_number number os) tail ≡ found) → (steps : ℕ)
     → length (options_bytes number os ++ tail) ≤ steps
     → read_options steps number (options_bytes number os ++ tail) ≡ with_all os found

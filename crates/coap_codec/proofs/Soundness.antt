@@ -14,8 +14,8 @@ use Rattle.coap_codec.specs.Message.{Message, MayFollow, IsOptionList, Spells, k
 use Rattle.coap_codec.specs.Message.{option_bytes, options_bytes, payload_bytes}
 use Rattle.coap_codec.specs.Fault.{width, amount, option_fault, place_fault, token_length, header_fault, BreaksOff}
 use Rattle.coap_codec.specs.Fault.{HasFault}
-use Rattle.coap_codec.specs.Reading.{Found, kind_of, option_here, behind_option, with_option, read_place, read_options}
-use Rattle.coap_codec.specs.Reading.{message_of, read_behind, reading_of}
+use Rattle.coap_codec.specs.Reading.{OptionsAndPayload, kind_of, option_here, behind_option, with_option, read_place}
+use Rattle.coap_codec.specs.Reading.{read_options, message_of, read_behind, reading_of}
 use Rattle.coap_codec.proofs.Amounts.{by_size}
 use Rattle.coap_codec.proofs.Completeness.{Stands}
 use Rattle.coap_codec.proofs.OneReading.{drop_four}
@@ -174,12 +174,13 @@ option_sound number first rest below all s =
     }
 
 -- what was found after an option of this number is there, or else that is where the bytes break off
-abbrev pub IsThere : ℕ → List ℕ → Result Found CoapFault → Type 0
+abbrev pub IsThere : ℕ → List ℕ → Result OptionsAndPayload CoapFault → Type 0
 IsThere number bytes r =
     MatchResult r (λ x. IsOptionList number x.options
     × (bytes ≡ options_bytes number x.options ++ payload_bytes x.payload)) (λ f. BreaksOff number bytes f)
 
-with_option_there : (number : ℕ) (o : Opt) (bytes behind : List ℕ) (r : Result Found CoapFault) → MayFollow number o
+with_option_there : (number : ℕ) (o : Opt) (bytes behind : List ℕ) (r : Result OptionsAndPayload CoapFault)
+    → MayFollow number o
     → bytes ≡ option_bytes number o ++ behind → IsThere o.number behind r → IsThere number bytes (with_option o r)
 with_option_there number o bytes behind (Ok x) follows parts there = (
   (follows, there.0),
@@ -207,7 +208,7 @@ at_marker number first rest is_marker e =
     let e2 : place_fault number (255 ∷ rest) ≡ None = rw is_marker at e in
     rw (is_marker) (marker_there number rest e2)
 
-at_option : (behind : ℕ → List ℕ → Result Found CoapFault) (number first : ℕ) (rest : List ℕ)
+at_option : (behind : ℕ → List ℕ → Result OptionsAndPayload CoapFault) (number first : ℕ) (rest : List ℕ)
     → option_fault number first rest ≡ None → AreBytes (first ∷ rest)
     → ((n : ℕ) (r : List ℕ) → AreBytes r → length r < length (first ∷ rest) → IsThere n r (behind n r))
     → IsThere number (first ∷ rest) (with_option (option_here number first rest)
@@ -234,7 +235,8 @@ at_option behind number first rest e all later =
     with_option_there number o (first ∷ rest) left (behind o.number left) s.follows s.parts
     (later o.number left below shorter)
 
-read_place_there : (behind : ℕ → List ℕ → Result Found CoapFault) (number : ℕ) (bytes : List ℕ) (o : Option CoapFault)
+read_place_there : (behind : ℕ → List ℕ → Result OptionsAndPayload CoapFault) (number : ℕ) (bytes : List ℕ)
+    (o : Option CoapFault)
     → place_fault number bytes ≡ o → AreBytes bytes
     → ((n : ℕ) (r : List ℕ) → AreBytes r → length r < length bytes → IsThere n r (behind n r))
     → IsThere number bytes (read_place behind number bytes o)
@@ -311,7 +313,7 @@ nothing_long (o ∷ os) p e = absurd (omega arith)
 same_bytes : (a b c d x y z : ℕ) (r s : List ℕ) → a ≡ x → c ≡ y → d ≡ z → r ≡ s → a ∷ b ∷ c ∷ d ∷ r ≡ x ∷ b ∷ y ∷ z ∷ s
 same_bytes a b c d x y z r s p q u v = cc
 
-message_spelled : (first code high low : ℕ) (rest : List ℕ) (x : Found) → HeaderStands first code rest
+message_spelled : (first code high low : ℕ) (rest : List ℕ) (x : OptionsAndPayload) → HeaderStands first code rest
     → AreBytes (first ∷ code ∷ high ∷ low ∷ rest) → IsOptionList 0 x.options
     → drop (first % 16) rest ≡ options_bytes 0 x.options ++ payload_bytes x.payload
     → Spells (first ∷ code ∷ high ∷ low ∷ rest)
@@ -355,7 +357,7 @@ message_spelled first code high low rest x h all list tail =
           (omega arith) (sym (take-append-drop t rest) ∙ ap (λ r. take t rest ++ r) tail);
     }
 
-read_spelled : (bytes : List ℕ) (x : Found) → header_fault bytes ≡ None → AreBytes bytes
+read_spelled : (bytes : List ℕ) (x : OptionsAndPayload) → header_fault bytes ≡ None → AreBytes bytes
     → IsThere 0 (drop (4 + token_length bytes) bytes) (Ok x)
     → MatchResult (message_of bytes (Ok x)) (λ m. Spells bytes m) (λ f. ⊥)
 read_spelled [] x e all there = absurd (cc)
@@ -366,7 +368,7 @@ read_spelled (first ∷ code ∷ high ∷ low ∷ rest) x e all there =
     message_spelled first code high low rest x (header_stands first code high low rest e) all there.0
     (sym (drop_four first code high low (first % 16) rest) ∙ there.1)
 
-read_message : (bytes : List ℕ) (r : Result Found CoapFault) → header_fault bytes ≡ None → AreBytes bytes
+read_message : (bytes : List ℕ) (r : Result OptionsAndPayload CoapFault) → header_fault bytes ≡ None → AreBytes bytes
     → IsThere 0 (drop (4 + token_length bytes) bytes) r
     → MatchResult (message_of bytes r) (λ m. Spells bytes m)
     (λ f. BreaksOff 0 (drop (4 + token_length bytes) bytes) f)

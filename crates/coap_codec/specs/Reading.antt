@@ -12,7 +12,7 @@ abbrev pub kind_of : ℕ → Kind
 kind_of n = if n == 0 then Con else (if n == 1 then Non else (if n == 2 then Ack else Rst))
 
 -- options that were found, and the payload after them
-pub record Found : Type 0 where
+pub record OptionsAndPayload : Type 0 where
   pub options : List Opt
   pub payload : List ℕ
 
@@ -33,12 +33,13 @@ behind_option first rest =
     drop (amount (first % 16) behind) (drop (width (first % 16)) behind)
 
 -- an option before what was found after it
-abbrev pub with_option : Opt → Result Found CoapFault → Result Found CoapFault
+abbrev pub with_option : Opt → Result OptionsAndPayload CoapFault → Result OptionsAndPayload CoapFault
 with_option o (Ok found) = Ok (record found { options = o ∷ found.options })
 with_option o (Err fault) = Err fault
 
 -- options and payload at a place: what is wrong there, and how the bytes after an option are read
-abbrev pub read_place : (ℕ → List ℕ → Result Found CoapFault) → ℕ → List ℕ → Option CoapFault → Result Found CoapFault
+abbrev pub read_place : (ℕ → List ℕ → Result OptionsAndPayload CoapFault) → ℕ → List ℕ → Option CoapFault
+    → Result OptionsAndPayload CoapFault
 read_place behind number bytes (Some fault) = Err fault
 read_place behind number [] None = Ok (record { options = []; payload = [] })
 read_place behind number (first ∷ rest) None =
@@ -47,12 +48,12 @@ read_place behind number (first ∷ rest) None =
 
 -- options and payload after an option of the second number; the first bounds the steps, of which
 -- there is at most one a byte (RFC 7252 section 3.1)
-unfoldable pub read_options : ℕ → ℕ → List ℕ → Result Found CoapFault
+unfoldable pub read_options : ℕ → ℕ → List ℕ → Result OptionsAndPayload CoapFault
 read_options zero number bytes = Ok (record { options = []; payload = [] })
 read_options (suc steps) number bytes = read_place (read_options steps) number bytes (place_fault number bytes)
 
 -- the message of a header, its token and what was found after them (RFC 7252 section 3)
-abbrev pub message_of : List ℕ → Result Found CoapFault → Result Message CoapFault
+abbrev pub message_of : List ℕ → Result OptionsAndPayload CoapFault → Result Message CoapFault
 message_of bytes (Ok found) =
     Ok (record {
       kind = kind_of (slice_index bytes 0 / 16 % 4);

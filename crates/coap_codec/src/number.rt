@@ -1,5 +1,5 @@
 ghost use Rattle.std.specs.Prelude.{◌≡◌, ◌≢◌, ◌≤◌, ◌<◌, length, slice_index, IfOk, IsOk};
-ghost use Rattle.coap_codec.specs.Number.{big_endian, shortest};
+ghost use Rattle.coap_codec.specs.Number.{big_endian, shortest_big_endian};
 
 use octets::Bytes;
 use std::alloc::{AllocError, Global};
@@ -23,7 +23,7 @@ pub fn uint(bytes: &[u8]) -> u32
 
 /// The fewest bytes of a number, zero in none (RFC 7252 section 3.2). They take no memory.
 pub fn uint_bytes(alloc: Global, n: u32) -> Result<Bytes, AllocError>
-    ensures shortest { IfOk result (λ b. b ≡ shortest n) }
+    ensures shortest { IfOk result (λ b. b ≡ shortest_big_endian n) }
     ensures value { IfOk result (λ b. big_endian b ≡ n) }
     ensures fewest { IfOk result (λ b. 0 < length b → slice_index b 0 ≢ 0) }
     ensures len { IfOk result (λ b. length b ≤ 4) }

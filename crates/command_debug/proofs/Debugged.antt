@@ -3,7 +3,7 @@ use Rattle.std.proofs.Common.{ℕ, ◌≡◌, ◌⊎◌, List, [], inl, inr, ref
 use Rattle.scenario_image.specs.Scenario.{Scenario}
 use Rattle.trace_file.specs.declared.entry.Entry.{Entry}
 use Rattle.fleet_core.specs.Run.{IsRun}
-use Rattle.debugger.specs.Session.{opened}
+use Rattle.debugger.specs.Session.{new_session}
 use Rattle.command_files.proofs.Built.{check_image, check_trace}
 use Rattle.command_files.proofs.Faults.{file_memory}
 use Rattle.scenario_image.specs.Image.{HasImageFault}
@@ -20,7 +20,7 @@ use Rattle.command_files.specs.declared.status.Status.TheVariants.{NotRun}
 
 opened_at : (holds : List ℕ → List ℕ → Type 0) (paths : RunPaths) (s : Scenario) (es : List Entry)
     → IsScenarioAt holds paths.image s → IsTraceAt holds paths.trace es → IsRun s es
-    → IsOpenedAt holds paths (opened s es)
+    → IsOpenedAt holds paths (new_session s es)
 opened_at holds paths s es found read run =
     record { scenario = s; found = found; entries = es; read = read; run = run; start = refl }
 
@@ -35,10 +35,10 @@ debug_refused holds paths s es answer found read judged no_run none =
 
 pub debugged_at : (holds : List ℕ → List ℕ → Type 0) (faults : StreamFaults) (paths : RunPaths) (s : Scenario)
     (es : List Entry) (before after : Streams) → IsScenarioAt holds paths.image s → IsTraceAt holds paths.trace es
-    → IsRun s es → IsConversation faults before after (opened s es) → IsDebuggedAt holds faults paths before after
+    → IsRun s es → IsConversation faults before after (new_session s es) → IsDebuggedAt holds faults paths before after
 debugged_at holds faults paths s es before after found read run conversation =
     record {
-      session = opened s es;
+      session = new_session s es;
       opened = opened_at holds paths s es found read run;
       conversation = conversation;
     }
@@ -66,13 +66,13 @@ pub run_refused : (holds : List ℕ → List ℕ → Type 0) (fails : List ℕ �
     (paths : RunPaths) (before after : Streams) (s : Scenario) (es : List Entry) (fault : Fault)
     → IsScenarioAt holds paths.image s → IsTraceAt holds paths.trace es
     → ((fault ≡ Memory) × IsIdle before after)
-    ⊎ (IsRun s es × IsCutShort faults before after (opened s es) fault)
+    ⊎ (IsRun s es × IsCutShort faults before after (new_session s es) fault)
     → IsDebugFault holds fails faults paths before after fault
 run_refused holds fails faults paths before after s es fault found read (inl (memory, idle)) =
     inl (check_image holds fails paths fault (file_memory holds fails HasImageFault paths.image fault memory), idle)
 run_refused holds fails faults paths before after s es fault found read (inr (run, cut)) =
     inr (record {
-      session = opened s es;
+      session = new_session s es;
       opened = opened_at holds paths s es found read run;
       cut = cut;
     })

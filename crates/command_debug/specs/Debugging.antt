@@ -3,7 +3,7 @@ use Rattle.std.specs.Prelude.{ℕ, ◌≡◌, List}
 use Rattle.scenario_image.specs.Scenario.{Scenario}
 use Rattle.trace_file.specs.declared.entry.Entry.{Entry}
 use Rattle.fleet_core.specs.Run.{IsRun}
-use Rattle.debugger.specs.Session.{Session, opened}
+use Rattle.debugger.specs.Session.{Session, new_session}
 use Rattle.command_debug.specs.Conversation.{IsConversation, IsCutShort}
 use Rattle.command_files.specs.Loading.{IsScenarioAt, IsTraceAt, RunPaths}
 use Rattle.command_files.specs.Verdicts.{IsCheckDone}
@@ -19,7 +19,7 @@ pub record IsOpenedAt (holds : List ℕ → List ℕ → Type 0) (paths : RunPat
   pub entries : List Entry
   pub read : IsTraceAt holds paths.trace entries
   pub run : IsRun scenario entries
-  pub start : session ≡ opened scenario entries
+  pub start : session ≡ new_session scenario entries
 
 -- the conversation came to its end
 pub record IsDebuggedAt (holds : List ℕ → List ℕ → Type 0) (faults : StreamFaults) (paths : RunPaths)

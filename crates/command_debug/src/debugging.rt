@@ -1,7 +1,7 @@
 //! `debug IMAGE TRACE`: a conversation with a debugger over a run.
 ghost use Rattle.std.specs.Prelude.{◌≡◌, ◌⊎◌, [], IfErr, IfNone, IfOk, IfSome};
 ghost use Rattle.fleet_core.specs.Run.{IsRun};
-ghost use Rattle.debugger.specs.Session.{opened};
+ghost use Rattle.debugger.specs.Session.{new_session};
 ghost use Rattle.command_files.specs.Answers.{files_of};
 ghost use Rattle.command_debug.specs.Conversation.{IsConversation, IsCutShort};
 ghost use Rattle.command_debug.specs.Debugging.{IsDebugCutAt, IsDebuggedAt, IsDebugRefused};
@@ -79,7 +79,7 @@ fn debug_run<'a, I: Input, O: Output, E: Output>(
         (record { input_fails = I.fails; output_refuses = O.refuses; errors_refuse = E.refuses })
         (record { input = I.rest input.old; output = O.taken output.old; errors = E.taken errors.old })
         (record { input = I.rest input.new; output = O.taken output.new; errors = E.taken errors.new })
-        (opened scenario.now entries))) }
+        (new_session scenario.now entries))) }
     ensures refused { IfErr result (λ r. ((r.fault ≡ Fault.Memory) × IsIdle
         (record { input = I.rest input.old; output = O.taken output.old; errors = E.taken errors.old })
         (record { input = I.rest input.new; output = O.taken output.new; errors = E.taken errors.new }))
@@ -87,7 +87,7 @@ fn debug_run<'a, I: Input, O: Output, E: Output>(
         (record { input_fails = I.fails; output_refuses = O.refuses; errors_refuse = E.refuses })
         (record { input = I.rest input.old; output = O.taken output.old; errors = E.taken errors.old })
         (record { input = I.rest input.new; output = O.taken output.new; errors = E.taken errors.new })
-        (opened scenario.now entries) r.fault)) }
+        (new_session scenario.now entries) r.fault)) }
 {
     match Debugger::open(alloc, scenario, entries) {
         Ok(mut debugger) => {

@@ -6,7 +6,7 @@ use Rattle.scenario_image.specs.Scenario.{Scenario}
 use Rattle.test_reports.specs.declared.form.ReportForm.{ReportForm}
 use Rattle.command_files.specs.Answers.{files_of}
 use Rattle.command_files.specs.declared.answer.Answer.{Answer}
-use Rattle.command_expect.specs.Answers.{IsReportOn, are_several, junit_files, printed}
+use Rattle.command_expect.specs.Answers.{IsReportOn, are_several, junit_files, printed_report}
 use Rattle.command_expect.specs.Choice.{AreChosen, HasDevice, case_of_file, cases_of_devices, choice, devices_of}
 use Rattle.command_expect.specs.Expect.{IsExpectDone, IsSource}
 use Rattle.command_expect.specs.Judging.{AreRight, case_of_device}
@@ -29,7 +29,7 @@ pub reported : (only : Option (List ℕ)) (form : ReportForm) (junit_path : Opti
     (device : Option ℕ) (s : Scenario) (cases : List ChosenCase) (all : List JudgedCase) (answer : Answer)
     → AreChosen only files cases
     → map case_of_device all ≡ cases_of_devices (map case_of_file cases) (devices_of device s) → AreRight s all
-    → string_bytes answer.text ≡ printed form (are_several files) all
+    → string_bytes answer.text ≡ printed_report form (are_several files) all
     → answer.status ≡ status_of (count_missed all)
     → files_of answer.file ≡ junit_files junit_path files all
     → IsReportOn only form junit_path files device s answer

@@ -5,17 +5,17 @@ use Rattle.trace_json.specs.Answers.{counts_json}
 use Rattle.trace_json.specs.Lines.{json_lines}
 use Rattle.trace_json.specs.Writing.{json_line}
 use Rattle.command_expect.specs.Objects.{met_json, missed_json}
-use Rattle.command_expect.specs.Report.{count_missed, missed, stated}
+use Rattle.command_expect.specs.Report.{count_missed, missed_line, stated_line}
 use Rattle.command_expect.specs.declared.judged_case.JudgedCase.{JudgedCase}
 
 -- the object of a case that is not met in this line, or is met
 abbrev pub json_at : JudgedCase → Option ℕ → Data
 json_at judged None = met_json judged.chosen.case.now.title judged.chosen.path.now judged.device
 json_at judged (Some line) =
-    missed_json judged.chosen.case.now.title judged.chosen.path.now judged.device line (stated judged line)
+    missed_json judged.chosen.case.now.title judged.chosen.path.now judged.device line (stated_line judged line)
 
 abbrev pub judged_json : JudgedCase → Data
-judged_json judged = json_at judged (missed judged)
+judged_json judged = json_at judged (missed_line judged)
 
 -- a line for each case, and one of how many there are and how many are not met
 abbrev pub json_report : List JudgedCase → List ℕ

@@ -3,7 +3,7 @@ use Rattle.std.specs.Prelude.{ℕ, ◌+◌, ◌==◌, ◌&&◌, Bool, List, [], 
 use Rattle.std.specs.Fmt.{decimal}
 use Rattle.std.specs.List.{flat_map}
 use Rattle.test_reports.specs.Junit.{FailureTexts, report_end, report_head, suite_end, suite_head, testcase}
-use Rattle.command_expect.specs.Report.{difference, is_missed, missed, title_of}
+use Rattle.command_expect.specs.Report.{difference, is_missed, missed_line, title_of}
 use Rattle.command_expect.specs.declared.expected_file.ExpectedFile.{ExpectedFile}
 use Rattle.command_expect.specs.declared.judged_case.JudgedCase.{JudgedCase}
 
@@ -16,7 +16,7 @@ failure_at several judged (Some line) =
 -- a test case, with its file and its title
 abbrev pub judged_testcase : Bool → JudgedCase → List ℕ
 judged_testcase several judged =
-    testcase judged.chosen.path.now (title_of judged) (failure_at several judged (missed judged))
+    testcase judged.chosen.path.now (title_of judged) (failure_at several judged (missed_line judged))
 
 -- a case of the file with this number; and one that is not met
 abbrev pub is_of_file : ℕ → JudgedCase → Bool

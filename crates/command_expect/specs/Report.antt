@@ -9,7 +9,7 @@ use Rattle.expectations.specs.declared.verdict.Verdict.{Verdict}
 use Rattle.expectations.specs.declared.verdict.Verdict.TheVariants.{Met, Missed}
 use Rattle.command_files.specs.declared.status.Status.{Status}
 use Rattle.command_files.specs.declared.status.Status.TheVariants.{Done, NotRun}
-use Rattle.test_reports.specs.Report.{count_line, heading, line_at, placed}
+use Rattle.test_reports.specs.Report.{count_line, heading, line_at, line_with_number}
 use Rattle.command_expect.specs.declared.judged_case.JudgedCase.{JudgedCase}
 
 -- ---- the line that is not met
@@ -24,12 +24,12 @@ abbrev pub line_missed : ExpectedCase → Verdict → Option ℕ
 line_missed case Met = None
 line_missed case (Missed place) = Some (line_or case.line (slice_get case.lines place))
 
-abbrev pub missed : JudgedCase → Option ℕ
-missed judged = line_missed judged.chosen.case.now judged.verdict
+abbrev pub missed_line : JudgedCase → Option ℕ
+missed_line judged = line_missed judged.chosen.case.now judged.verdict
 
 -- what stands in a line of the file of a case
-abbrev pub stated : JudgedCase → ℕ → List ℕ
-stated judged line = line_at judged.chosen.text.now line
+abbrev pub stated_line : JudgedCase → ℕ → List ℕ
+stated_line judged line = line_at judged.chosen.text.now line
 
 -- ---- a case
 
@@ -45,15 +45,15 @@ title_of judged = device_title judged.chosen.case.now.title judged.device
 abbrev pub difference_at : Bool → JudgedCase → Option ℕ → List ℕ
 difference_at several judged None = []
 difference_at several judged (Some line) =
-    heading several judged.chosen.path.now (title_of judged) ++ placed line (stated judged line)
+    heading several judged.chosen.path.now (title_of judged) ++ line_with_number line (stated_line judged line)
 
 abbrev pub difference : Bool → JudgedCase → List ℕ
-difference several judged = difference_at several judged (missed judged)
+difference several judged = difference_at several judged (missed_line judged)
 
 -- ---- all of them
 
 abbrev pub is_missed : JudgedCase → Bool
-is_missed judged = is_some (missed judged)
+is_missed judged = is_some (missed_line judged)
 
 abbrev pub count_missed : List JudgedCase → ℕ
 count_missed all = length (filter is_missed all)

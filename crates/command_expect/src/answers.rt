@@ -3,7 +3,7 @@ ghost use Rattle.std.specs.Prelude.{◌≡◌, ◌≢◌, [], true, false, map, 
 ghost use Rattle.std.specs.String.{string_bytes};
 ghost use Rattle.command_files.specs.Answers.{files_of};
 ghost use Rattle.command_files.specs.declared.fault.Fault.TheVariants.{NoDevice, NoSuchCase};
-ghost use Rattle.command_expect.specs.Answers.{IsReportOn, are_several, junit_files, printed};
+ghost use Rattle.command_expect.specs.Answers.{IsReportOn, are_several, junit_files, printed_report};
 ghost use Rattle.command_expect.specs.Choice.{HasDevice, choice};
 ghost use Rattle.command_expect.specs.Expect.{IsExpectDone, IsExpectFault};
 
@@ -144,7 +144,7 @@ fn printed(
     several: bool,
     all: &[JudgedCase],
 ) -> Result<String, AllocError>
-    ensures { IfOk result (λ text. string_bytes text ≡ printed form several all.now) }
+    ensures { IfOk result (λ text. string_bytes text ≡ printed_report form several all.now) }
 {
     match form {
         ReportForm::Text => report(alloc, several, all),

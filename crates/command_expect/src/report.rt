@@ -3,7 +3,7 @@ ghost use Rattle.std.specs.Prelude.{◌≡◌, ◌++◌, IfOk, OnOk};
 ghost use Rattle.std.specs.List.{flat_map};
 ghost use Rattle.std.specs.String.{string_bytes};
 ghost use Rattle.command_expect.specs.Report.{count_missed, device_title, difference, difference_at, is_missed};
-ghost use Rattle.command_expect.specs.Report.{line_missed, missed, report, stated, status_of, title_of};
+ghost use Rattle.command_expect.specs.Report.{line_missed, missed_line, report, stated_line, status_of, title_of};
 
 use crate::judged_case::JudgedCase;
 use command_files::Status;
@@ -26,7 +26,7 @@ fn line_missed(case: &ExpectedCase, verdict: Verdict) -> Option<usize>
 
 /// The line of its file that is not met, if the case is not met.
 pub(crate) fn missed(judged: &JudgedCase) -> Option<usize>
-    ensures { result ≡ missed judged.now }
+    ensures { result ≡ missed_line judged.now }
 {
     line_missed(judged.chosen.case, judged.verdict)
 }
@@ -46,7 +46,7 @@ pub(crate) fn count_missed(all: &[JudgedCase]) -> usize
 
 /// What stands in a line of the file of a case.
 pub(crate) fn stated<'a>(judged: &JudgedCase<'a>, line: usize) -> &'a str
-    ensures { result.now ≡ stated judged.now line }
+    ensures { result.now ≡ stated_line judged.now line }
 {
     line_at(judged.chosen.text, line as u128)
 }

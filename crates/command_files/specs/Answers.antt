@@ -2,7 +2,7 @@
 use Rattle.std.specs.Prelude.{◌≡◌, ◌⊎◌, List, [], ◌∷◌, Option, None, Some, IfSome}
 use Rattle.std.specs.String.{string_bytes}
 use Rattle.command_files.specs.Fault.{IsWritingFault}
-use Rattle.command_files.specs.Files.{Grows, Made}
+use Rattle.command_files.specs.Files.{Grows, MadeFile}
 use Rattle.command_files.specs.World.{FilesKnown, StreamFaults, World}
 use Rattle.command_files.specs.declared.answer.Answer.{Answer}
 use Rattle.command_files.specs.declared.answer.NewFile.{NewFile}
@@ -12,7 +12,7 @@ use Rattle.command_files.specs.declared.files.FileFault.{FileFault}
 use Rattle.command_files.specs.declared.files.FileFault.TheVariants as file
 
 -- the files that an answer makes: one or none
-abbrev pub files_of : Option NewFile → List Made
+abbrev pub files_of : Option NewFile → List MadeFile
 files_of None = []
 files_of (Some f) = (record { path = f.path.now; bytes = f.bytes }) ∷ []
 

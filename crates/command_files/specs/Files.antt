@@ -10,13 +10,13 @@ abbrev pub most_bytes : ℕ
 most_bytes = 67108864
 
 -- a file that was made
-pub record Made : Type 0 where
+pub record MadeFile : Type 0 where
   pub path : List ℕ
   -- all that it has
   pub bytes : List ℕ
 
 -- these were added to what is known, and nothing else
-abbrev pub Grows : Option (List Made) → Option (List Made) → List Made → Type 0
+abbrev pub Grows : Option (List MadeFile) → Option (List MadeFile) → List MadeFile → Type 0
 Grows None new more = ⊤
 Grows (Some old) None more = ⊥
 Grows (Some old) (Some new) more = new ≡ old ++ more

@@ -1,6 +1,6 @@
 -- What the files and the streams were at one moment, where that is known, and what is known of why one of them failed.
 use Rattle.std.specs.Prelude.{ℕ, ◌≡◌, List, Option}
-use Rattle.command_files.specs.Files.{Made}
+use Rattle.command_files.specs.Files.{MadeFile}
 
 -- the streams at one moment
 pub record Streams : Type 0 where
@@ -23,7 +23,7 @@ pub record StreamFaults : Type 1 where
 -- the files and the streams at one moment
 pub record World : Type 0 where
   -- the files that were made
-  pub made : Option (List Made)
+  pub made : Option (List MadeFile)
   pub streams : Streams
 
 -- what is known of files

@@ -1,6 +1,6 @@
 ghost use Rattle.std.specs.Prelude.{ℕ, ◌≡◌, ◌≤◌, ◌∷◌, [], List, Option, None, IfErr, IfOk, IfSome, OnErr, OnOk};
 ghost use Rattle.std.specs.Prelude.{vec_len};
-ghost use Rattle.command_files.specs.Files.{Grows, IsFailure, IsFileFaultOf, Made, most_bytes};
+ghost use Rattle.command_files.specs.Files.{Grows, IsFailure, IsFileFaultOf, MadeFile, most_bytes};
 
 use std::alloc::{AllocError, Global};
 use std::fs::File;
@@ -69,7 +69,7 @@ pub trait Files {
     ghost fails: { Self → List ℕ → Type 0 };
 
     /// The files that were made or replaced, in this order, each with all its bytes; where that is known.
-    ghost made: { Self → Option (List Made) };
+    ghost made: { Self → Option (List MadeFile) };
 
     /// That a file could not be made at a path.
     ghost refuses: { List ℕ → Type 0 };

@@ -1,21 +1,23 @@
 -- Snapshots of a session, turn by turn.
-use Rattle.std.proofs.Common.{ℕ, ◌≡◌, ◌+◌, ◌≤◌, Bool, false, List, [], ◌∷◌, ◌++◌, length, Option, None, Some, inl, inr, refl, sym, ap}
+use Rattle.std.proofs.Common.{ℕ, ◌≡◌, ◌+◌, ◌≤◌, Bool, false, List, [], ◌∷◌, ◌++◌, length, Option, None, Some, inl, inr}
+use Rattle.std.proofs.Common.{refl, sym, ap}
 use Rattle.std.proofs.Common.{subst, ◌∙◌, append_assoc, append-nil, arith}
 use Rattle.scenario_image.specs.Scenario.{Scenario}
 use Rattle.fleet_link.specs.declared.slot.Slot.{Slot}
 use Rattle.fleet_link.specs.Serving.{AreRepeated, AreSwept, IsFleet}
 use Rattle.fleet_link.specs.Traffic.{Traffic}
-use Rattle.command_files.specs.Files.{Grows, Made}
+use Rattle.command_files.specs.Files.{Grows, MadeFile}
 use Rattle.command_fleet.specs.Inside.{IsKeptUp}
 use Rattle.command_fleet.specs.Snapshots.{AreKeptIf, Snapshot, snapshot_files}
 
 -- what is known of files grows by nothing
-grows_not : (a : Option (List Made)) → Grows a a []
+grows_not : (a : Option (List MadeFile)) → Grows a a []
 grows_not None = tt
 grows_not (Some made) = sym (append-nil made)
 
 -- by these, and then by those
-grows_then : (a b c : Option (List Made)) (xs ys : List Made) → Grows a b xs → Grows b c ys → Grows a c (xs ++ ys)
+grows_then : (a b c : Option (List MadeFile)) (xs ys : List MadeFile) → Grows a b xs → Grows b c ys
+    → Grows a c (xs ++ ys)
 grows_then None b c xs ys first then = tt
 grows_then (Some x) None c xs ys first then = absurd first
 grows_then (Some x) (Some y) None xs ys first then = absurd then
@@ -24,7 +26,7 @@ grows_then (Some x) (Some y) (Some z) xs ys first then =
 
 -- at the start there is no snapshot
 pub kept_first : (path : Option (List ℕ)) (part : Scenario) (played repeat : Bool) (before : ℕ → Option Traffic)
-    (last second : ℕ) (made : Option (List Made)) → last ≡ 0 → second ≡ 0
+    (last second : ℕ) (made : Option (List MadeFile)) → last ≡ 0 → second ≡ 0
     → AreKeptIf path part played repeat before last second made made
 kept_first None part played repeat before last second made first now = refl
 kept_first (Some path) part played repeat before last second made first now = record {
@@ -38,7 +40,7 @@ kept_first (Some path) part played repeat before last second made first now = re
 
 -- a turn more
 pub kept_on : (path : Option (List ℕ)) (part : Scenario) (played repeat : Bool) (before told : ℕ → Option Traffic)
-    (last now began second : ℕ) (slots : List Slot) (a b c : Option (List Made))
+    (last now began second : ℕ) (slots : List Slot) (a b c : Option (List MadeFile))
     → AreKeptIf path part played repeat before last began a b → IsFleet part played before slots second false told
     → AreRepeated slots repeat → AreSwept slots (length slots) began → began ≤ second
     → IsKeptUp b c path part slots last second now → AreKeptIf path part played repeat before now second a c

@@ -1,15 +1,17 @@
 -- Devices on UDP: what their session came to, put together from its parts.
-use Rattle.std.proofs.Common.{ℕ, Bool, Bor, ◌==◌, ◌&&◌, ◌≡◌, ◌⊎◌, arith, List, [], ◌∷◌, length, map, Option, None, Some, inl}
-use Rattle.std.proofs.Common.{inr, IfErr, IfOk, OnErr, Result, Ok, Err, option_map, false, true, refl, sym, subst, ap, ◌∙◌}
+use Rattle.std.proofs.Common.{ℕ, Bool, Bor, ◌==◌, ◌&&◌, ◌≡◌, ◌⊎◌, arith, List, [], ◌∷◌, length, map, Option, None, Some}
+use Rattle.std.proofs.Common.{inl}
+use Rattle.std.proofs.Common.{inr, IfErr, IfOk, OnErr, Result, Ok, Err, option_map, false, true, refl, sym, subst, ap}
+use Rattle.std.proofs.Common.{◌∙◌}
 use Rattle.std.specs.Io.KnownBytes.{Appends}
 use Rattle.std.specs.declared.net.socket_addr.SocketAddr.{SocketAddr}
 use Rattle.command_line.specs.declared.fleet_words.AskedFleet.{AskedFleet}
 use Rattle.command_line.specs.declared.wire_words.AskedWire.{AskedWire}
 use Rattle.fleet_wire.specs.declared.note.Note.{Note}
 use Rattle.fleet_wire.specs.declared.plan.Plan.{Plan}
-use Rattle.fleet_wire.specs.Over.{Fixed}
+use Rattle.fleet_wire.specs.Over.{FixedWire}
 use Rattle.fleet_lines.specs.declared.shown.Shown.{Shown}
-use Rattle.fleet_lines.specs.Counting.{AreAllShown, IsAccount, Wired}
+use Rattle.fleet_lines.specs.Counting.{AreAllShown, IsAccount, PlannedWire}
 use Rattle.fleet_lines.specs.Shown.{AreShownOf}
 use Rattle.live_link.specs.Wire.{WhereTold}
 use Rattle.std.proofs.Math.Logic.{∥∥₁_map}
@@ -25,7 +27,7 @@ use Rattle.fleet_link.specs.Serving.{AreAt, AreRepeated, IsFleet}
 use Rattle.fleet_link.specs.Timing.{AreAsked}
 use Rattle.fleet_link.specs.Traffic.{Traffic, no_traffic}
 use Rattle.command_files.specs.Fault.{session_fault, IsReadingFault, IsWritingFault}
-use Rattle.command_files.specs.Files.{Grows, Made}
+use Rattle.command_files.specs.Files.{Grows, MadeFile}
 use Rattle.command_files.specs.Loading.{IsHeld}
 use Rattle.command_files.specs.World.{FilesKnown, StreamFaults, Streams, World}
 use Rattle.command_files.specs.declared.fault.Fault.{Fault}
@@ -42,7 +44,8 @@ use Rattle.command_fleet.specs.Servers.{AreServers, IsServersFault}
 use Rattle.command_fleet.specs.Snapshots.{AreKept}
 use Rattle.command_fleet.specs.Fleet.{AreMissing, AreReady, IsBrokenOff, IsConcluded, IsEndless, IsFleetDone}
 use Rattle.command_fleet.specs.Fleet.{IsFleetFault, IsOpened, IsPlace, IsReadyTold, IsSaveFault, IsSavedAt, IsSavedIf}
-use Rattle.command_fleet.specs.Fleet.{IsScenarioIf, IsServed, IsSessionCut, IsSessionDone, IsSessionFault, IsUnconcluded, IsUnfit}
+use Rattle.command_fleet.specs.Fleet.{IsScenarioIf, IsServed, IsSessionCut, IsSessionDone, IsSessionFault}
+use Rattle.command_fleet.specs.Fleet.{IsUnconcluded, IsUnfit}
 use Rattle.command_fleet.specs.declared.shortfall.Shortfall.{Shortfall}
 use Rattle.command_fleet.specs.Fleet.{IsHeldDone, IsHeldFault, IsShownIf, IsUnsaved, IsUnstarted, Session, shortfall_of}
 use Rattle.command_fleet.specs.Fleet.{free_ports, has_passed, line_of, opening_text, ready_line, status_of, telling_for}
@@ -53,7 +56,7 @@ use Rattle.command_fleet.specs.Wires.{IsNoPlan, IsPlanBy, IsPlanned, IsWireBy}
 
 -- ---- the scenario of a session
 
-pub saved_at : (before after : Option (List Made)) (path at bytes : List ℕ) (part s : Scenario) (slots : List Slot)
+pub saved_at : (before after : Option (List MadeFile)) (path at bytes : List ℕ) (part s : Scenario) (slots : List Slot)
     → at ≡ path → IsSaved part slots s → IsImageIn 2 bytes s
     → Grows before after ((record { path = at; bytes = bytes }) ∷ []) → IsSavedAt before after path part slots
 saved_at before after path at bytes part s slots same saved image grows = record {
@@ -282,7 +285,7 @@ shown_if true (Some began) told shown from all =
     ∥∥₁_map all (λ h e. subst (λ t. WhereTold (AreShownOf e shown) t (told e)) (from e) (h e))
 
 unfoldable pub served : (s : Scenario) (played repeat show : Bool) (seconds : Option ℕ) (quit : Bool)
-    (wire : Option Wired) (began : Option (ℕ → Option Traffic)) (notes : List Note) (shown : List Shown)
+    (wire : Option PlannedWire) (began : Option (ℕ → Option Traffic)) (notes : List Note) (shown : List Shown)
     (session : Session) (before after : ℕ → Option Traffic)
     → IsFleet s played before session.slots session.second false after
     → AreAt session.slots (length session.slots) session.second
@@ -380,7 +383,8 @@ abbrev pub without_errors : Streams → Streams
 without_errors streams = record { input = None; output = streams.output; errors = None }
 
 pub done_if : (before after : World) (asked : AskedFleet) (terminal : Bool) (part : Scenario) (place : SocketAddr)
-    (ports : List ℕ) (quit : Bool) (wire : Option Wired) (notes : List Note) (shown : List Shown) (session : Session)
+    (ports : List ℕ) (quit : Bool) (wire : Option PlannedWire) (notes : List Note) (shown : List Shown)
+    (session : Session)
     (telling : Telling) (first last : World) (r : Result Held Refusal) → IsOpened asked part place ports before first
     → IsWireBy asked.wire (length part.rows) wire
     → (were : IsServed part asked.play asked.repeat asked.show asked.seconds quit wire notes shown session)
@@ -432,7 +436,7 @@ cut_if files streams before after asked terminal part place ports telling first 
 }
 
 pub lost_if : (files : FilesKnown) (streams : StreamFaults) (before after : World) (asked : AskedFleet)
-    (terminal : Bool) (part : Scenario) (place : SocketAddr) (ports : List ℕ) (quit : Bool) (wire : Option Wired)
+    (terminal : Bool) (part : Scenario) (place : SocketAddr) (ports : List ℕ) (quit : Bool) (wire : Option PlannedWire)
     (notes : List Note) (shown : List Shown) (session : Session) (telling : Telling) (first last : World)
     (r : Result Held Refusal) → IsOpened asked part place ports before first
     → IsWireBy asked.wire (length part.rows) wire
@@ -490,7 +494,7 @@ broken_at_start telling files streams asked part told world fault memory =
 -- by a snapshot
 pub snapshot_lost : (telling : Telling) (files : FilesKnown) (streams : StreamFaults) (asked : AskedFleet)
     (part : Scenario) (told : ℕ → Option Traffic) (notes : List Note) (shown : List Shown) (second began last : ℕ)
-    (before after : World) (made : Option (List Made)) (fault : Fault)
+    (before after : World) (made : Option (List MadeFile)) (fault : Fault)
     → AreTold telling notes shown second before.streams after.streams
     → AreKept asked part told last began before.made made → after.made ≡ made
     → IsNotKeptUp files.refuses (option_map (λ p. p.now) asked.save) last second fault
@@ -512,12 +516,12 @@ snapshot_lost telling files streams asked part told notes shown second began las
 -- ---- a wire on it
 
 -- a wire of this plan is the one that the words ask for
-pub wire_on : (wire : AskedWire) (rows devices : ℕ) (plan : Plan) (fixed made : Fixed) → fixed ≡ made
+pub wire_on : (wire : AskedWire) (rows devices : ℕ) (plan : Plan) (fixed made : FixedWire) → fixed ≡ made
     → made.plan ≡ plan → made.devices ≡ devices → devices ≡ rows → IsPlanned wire (Some plan)
     → IsWireBy wire rows (Some (record { plan = fixed.plan; devices = fixed.devices }))
 wire_on wire rows devices plan fixed made is as_planned as_many same planned =
-    let plan_is : fixed.plan ≡ plan = ap (λ (f : Fixed). f.plan) is ∙ as_planned in
-    let count : fixed.devices ≡ rows = ap (λ (f : Fixed). f.devices) is ∙ as_many ∙ same in
+    let plan_is : fixed.plan ≡ plan = ap (λ (f : FixedWire). f.plan) is ∙ as_planned in
+    let count : fixed.devices ≡ rows = ap (λ (f : FixedWire). f.devices) is ∙ as_many ∙ same in
     (planned.0, subst (IsPlanBy wire) (sym plan_is) planned.1, count)
 
 pub held_done : (before after : World) (asked : AskedFleet) (terminal : Bool) (part : Scenario) (place : SocketAddr)

@@ -8,7 +8,7 @@ use Rattle.fleet_link.specs.Timing.{AreAsked}
 use Rattle.fleet_link.specs.Traffic.{Traffic}
 use Rattle.fleet_wire.specs.declared.note.Note.{Note}
 use Rattle.fleet_lines.specs.declared.counted.Account.{Account}
-use Rattle.fleet_lines.specs.Counting.{IsAccount, Wired}
+use Rattle.fleet_lines.specs.Counting.{IsAccount, PlannedWire}
 
 pub fleet_as : (s : Scenario) (played : Bool) (before : ℕ → Option Traffic) (slots : List Slot) (now : ℕ)
     (broken : Bool) (told same : ℕ → Option Traffic) → ((e : ℕ) → same e ≡ told e)
@@ -35,6 +35,6 @@ pub asked_as : (rb ra ab told same : Option (List ℕ)) (first : Option ℕ) (no
     → AreAsked rb ra ab told first now calls → AreAsked rb ra ab same first now calls
 asked_as rb ra ab told same first now calls is h = subst (λ a. AreAsked rb ra ab a first now calls) (sym is) h
 
-pub account_as : (was wire : Option Wired) (told : ℕ → Option Traffic) (notes : List Note) (account : Account)
+pub account_as : (was wire : Option PlannedWire) (told : ℕ → Option Traffic) (notes : List Note) (account : Account)
     → wire ≡ was → IsAccount wire told notes account → IsAccount was told notes account
 account_as was wire told notes account same h = subst (λ w. IsAccount w told notes account) same h

@@ -14,9 +14,9 @@ use Rattle.command_files.specs.declared.fault.Fault.{Fault}
 use Rattle.command_files.specs.declared.fault.Fault.TheVariants as faults
 use Rattle.command_files.specs.declared.refusal.Refusal.{Refusal}
 use Rattle.command_fleet.specs.declared.telling.Telling.{Telling}
-use Rattle.command_fleet.specs.Telling.{AreSeconds, AreTold, Event, IsCut, IsRefused, IsSecondRefused, MayCome, Passed}
-use Rattle.command_fleet.specs.Telling.{came, errors_of, is_json, notes_in, output_of, passed_in, second_errors}
-use Rattle.command_fleet.specs.Telling.{second_output, shown_in, went}
+use Rattle.command_fleet.specs.Telling.{AreSeconds, AreTold, Event, IsCut, IsRefused, IsSecondRefused, MayCome}
+use Rattle.command_fleet.specs.Telling.{SecondCounts, came, errors_of, is_json, notes_in, output_of, passed_in}
+use Rattle.command_fleet.specs.Telling.{second_errors, second_output, shown_in, went}
 
 pub nothing_told : (t : Option (List ℕ)) → Appends t t []
 nothing_told t = Appends-nil t
@@ -30,12 +30,13 @@ nothing_went json notes shown t no_notes none_shown =
 
 -- ---- one event more
 
-later : (before : ℕ) (passed : List Passed) (last : ℕ) (p : Passed) → AreSeconds before passed last → last < p.second
+later : (before : ℕ) (passed : List SecondCounts) (last : ℕ) (p : SecondCounts) → AreSeconds before passed last
+    → last < p.second
     → AreSeconds before (passed ++ p ∷ []) p.second
 later before [] last p are below = (subst (λ n. n < p.second) (sym are) below, refl)
 later before (q ∷ qs) last p are below = (are.0, later q.second qs last p are.1 below)
 
-passed_then : (es : List Event) (p : Passed) → passed_in (es ++ came p ∷ []) ≡ passed_in es ++ p ∷ []
+passed_then : (es : List Event) (p : SecondCounts) → passed_in (es ++ came p ∷ []) ≡ passed_in es ++ p ∷ []
 passed_then [] p = refl
 passed_then (came q ∷ es) p = ap (λ l. q ∷ l) (passed_then es p)
 passed_then (went notes shown ∷ es) p = passed_then es p
@@ -45,7 +46,7 @@ passed_still [] ns xs = refl
 passed_still (came q ∷ es) ns xs = ap (λ l. q ∷ l) (passed_still es ns xs)
 passed_still (went notes shown ∷ es) ns xs = passed_still es ns xs
 
-notes_still : (es : List Event) (p : Passed) → notes_in (es ++ came p ∷ []) ≡ notes_in es
+notes_still : (es : List Event) (p : SecondCounts) → notes_in (es ++ came p ∷ []) ≡ notes_in es
 notes_still [] p = refl
 notes_still (came q ∷ es) p = notes_still es p
 notes_still (went notes shown ∷ es) p = ap (λ l. notes ++ l) (notes_still es p)
@@ -56,7 +57,7 @@ notes_then (came q ∷ es) ns xs = notes_then es ns xs
 notes_then (went notes shown ∷ es) ns xs =
     ap (λ l. notes ++ l) (notes_then es ns xs) ∙ sym (append_assoc notes (notes_in es) ns)
 
-shown_still : (es : List Event) (p : Passed) → shown_in (es ++ came p ∷ []) ≡ shown_in es
+shown_still : (es : List Event) (p : SecondCounts) → shown_in (es ++ came p ∷ []) ≡ shown_in es
 shown_still [] p = refl
 shown_still (came q ∷ es) p = shown_still es p
 shown_still (went notes shown ∷ es) p = ap (λ l. shown ++ l) (shown_still es p)
@@ -88,7 +89,7 @@ none_told telling notes shown second t no_notes none_shown zero = record {
 }
 
 -- a second more
-pub told_more : (telling : Telling) (notes : List Note) (shown : List Shown) (old new : ℕ) (p : Passed)
+pub told_more : (telling : Telling) (notes : List Note) (shown : List Shown) (old new : ℕ) (p : SecondCounts)
     (a b c : Streams) → AreTold telling notes shown old a b → old ≤ new → (new ≡ old → ⊥) → p.second ≡ new
     → Appends b.output c.output (second_output telling p) → Appends b.errors c.errors (second_errors telling p)
     → AreTold telling notes shown new a c
@@ -177,7 +178,7 @@ cut_before telling streams notes shown second e a b c fault told may refused = r
 
 -- a later second was not taken
 cut_untold : (telling : Telling) (streams : StreamFaults) (notes : List Note) (shown : List Shown) (old new : ℕ)
-    (p : Passed) (a b c : Streams) (fault : Fault) → AreTold telling notes shown old a b → old ≤ new
+    (p : SecondCounts) (a b c : Streams) (fault : Fault) → AreTold telling notes shown old a b → old ≤ new
     → (new ≡ old → ⊥) → p.second ≡ new → IsSecondRefused telling streams p b c fault
     → IsCut telling streams old a c fault
 cut_untold telling streams notes shown old new p a b c fault told below other same refused =
@@ -185,7 +186,8 @@ cut_untold telling streams notes shown old new p a b c fault told below other sa
 
 -- the same of a call
 pub untold_if : {T : Type 0} (r : Result T Refusal) (telling : Telling) (streams : StreamFaults) (notes : List Note)
-    (shown : List Shown) (old new : ℕ) (p : Passed) (a b c : Streams) → AreTold telling notes shown old a b → old ≤ new
+    (shown : List Shown) (old new : ℕ) (p : SecondCounts) (a b c : Streams) → AreTold telling notes shown old a b
+    → old ≤ new
     → (new ≡ old → ⊥) → p.second ≡ new → IfErr r (λ e. IsSecondRefused telling streams p b c e.fault)
     → IfErr r (λ e. IsCut telling streams old a c e.fault)
 untold_if (Ok x) telling streams notes shown old new p a b c told below other same refused = tt

@@ -22,12 +22,12 @@ use Rattle.fleet_wire.specs.declared.note.Note.{Note}
 use Rattle.fleet_wire.specs.Over.{new_ports}
 use Rattle.fleet_lines.specs.declared.counted.Account.{Account}
 use Rattle.fleet_lines.specs.declared.shown.Shown.{Shown}
-use Rattle.fleet_lines.specs.Counting.{IsAccount, Wired}
+use Rattle.fleet_lines.specs.Counting.{IsAccount, PlannedWire}
 use Rattle.fleet_lines.specs.Shown.{AreShown}
 use Rattle.fleet_wire.specs.declared.happened.Happened.{Happened}
 use Rattle.scenario_words.specs.Words.{ended_line}
 use Rattle.command_files.specs.Fault.{IsReadingFault, IsWritingFault}
-use Rattle.command_files.specs.Files.{Grows, Made}
+use Rattle.command_files.specs.Files.{Grows, MadeFile}
 use Rattle.command_files.specs.Loading.{IsHeld}
 use Rattle.command_files.specs.World.{FilesKnown, IsSilent, StreamFaults, Streams, World}
 use Rattle.command_files.specs.declared.fault.Fault.{Fault}
@@ -77,7 +77,7 @@ IsShownIf true told shown = AreShown new_ports told shown
 -- datagrams that are shown. The devices' rows were played, once or over and over, or were not. The session has at least
 -- these seconds, unless it was asked to end.
 pub record IsServed (s : Scenario) (played repeat show : Bool) (seconds : Option ℕ) (quit : Bool)
-    (wire : Option Wired) (notes : List Note) (shown : List Shown) (session : Session) : Type 0 where
+    (wire : Option PlannedWire) (notes : List Note) (shown : List Shown) (session : Session) : Type 0 where
   pub before : ℕ → Option Traffic
   pub new : (e : ℕ) → before e ≡ Some no_traffic
   pub after : ℕ → Option Traffic
@@ -239,7 +239,7 @@ status_of strict counts =
 -- ---- its scenario
 
 -- the image, in version 2, of the scenario of the devices' steps was made at the path, and no other file
-pub record IsSavedAt (before after : Option (List Made)) (path : List ℕ) (part : Scenario) (slots : List Slot)
+pub record IsSavedAt (before after : Option (List MadeFile)) (path : List ℕ) (part : Scenario) (slots : List Slot)
     : Type 0 where
   pub scenario : Scenario
   pub saved : IsSaved part slots scenario
@@ -248,7 +248,7 @@ pub record IsSavedAt (before after : Option (List Made)) (path : List ℕ) (part
   pub made : Grows before after ((record { path = path; bytes = bytes }) ∷ [])
 
 -- the same where there is a path; else no file was made
-abbrev pub IsSavedIf : Option (List Made) → Option (List Made) → Option (List ℕ) → Scenario → List Slot → Type 0
+abbrev pub IsSavedIf : Option (List MadeFile) → Option (List MadeFile) → Option (List ℕ) → Scenario → List Slot → Type 0
 IsSavedIf before after None part slots = after ≡ before
 IsSavedIf before after (Some path) part slots = IsSavedAt before after path part slots
 
@@ -306,7 +306,7 @@ pub record IsSessionDone (before after : World) (asked : AskedFleet) (terminal :
     (place : SocketAddr) (ports : List ℕ) (quit : Bool) (held : Held) : Type 0 where
   pub first : World
   pub opened : IsOpened asked part place ports before first
-  pub wire : Option Wired
+  pub wire : Option PlannedWire
   pub wire_is : IsWireBy asked.wire (length part.rows) wire
   pub session : Session
   pub notes : List Note
@@ -384,7 +384,7 @@ pub record IsSessionLost (files : FilesKnown) (streams : StreamFaults) (before a
   where
     pub first : World
     pub opened : IsOpened asked part place ports before first
-    pub wire : Option Wired
+    pub wire : Option PlannedWire
     pub wire_is : IsWireBy asked.wire (length part.rows) wire
     pub session : Session
     pub notes : List Note

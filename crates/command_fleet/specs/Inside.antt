@@ -3,7 +3,7 @@ use Rattle.std.specs.Prelude.{ℕ, ◌≡◌, ◌+◌, ◌⊎◌, ◌≤◌, ◌
 use Rattle.scenario_image.specs.Scenario.{Scenario}
 use Rattle.fleet_link.specs.declared.slot.Slot.{Slot}
 use Rattle.fleet_link.specs.Traffic.{Traffic, no_traffic}
-use Rattle.command_files.specs.Files.{Made}
+use Rattle.command_files.specs.Files.{MadeFile}
 use Rattle.command_files.specs.declared.fault.Fault.{Fault}
 use Rattle.command_fleet.specs.Fleet.{IsSavedAt, IsUnkept}
 use Rattle.command_fleet.specs.Snapshots.{snapshot_path}
@@ -16,13 +16,15 @@ IsShownFrom true (Some began) = (e : ℕ) → began e ≡ Some no_traffic
 
 -- Of a session that was kept last at a second, at a later one: it was kept then, if 60 seconds or more have passed, and
 -- is kept last at this one.
-abbrev pub IsKeptUpAt : Option (List Made) → Option (List Made) → List ℕ → Scenario → List Slot → ℕ → ℕ → ℕ → Type 0
+abbrev pub IsKeptUpAt : Option (List MadeFile) → Option (List MadeFile) → List ℕ → Scenario → List Slot → ℕ → ℕ → ℕ
+    → Type 0
 IsKeptUpAt before after path part slots last second now =
     ((second < last + 60) × (now ≡ last) × (after ≡ before))
     ⊎ ((last + 60 ≤ second) × (now ≡ second) × IsSavedAt before after (snapshot_path path) part slots)
 
 -- the same where there is a path; else no file was made
-abbrev pub IsKeptUp : Option (List Made) → Option (List Made) → Option (List ℕ) → Scenario → List Slot → ℕ → ℕ → ℕ
+abbrev pub IsKeptUp : Option (List MadeFile) → Option (List MadeFile) → Option (List ℕ) → Scenario → List Slot → ℕ → ℕ
+    → ℕ
     → Type 0
 IsKeptUp before after None part slots last second now = after ≡ before
 IsKeptUp before after (Some path) part slots last second now =

@@ -3,7 +3,7 @@ use Rattle.std.specs.Prelude.{ℕ, ◌≡◌, ◌+◌, List, [], ◌∷◌, ◌+
 use Rattle.std.specs.Fmt.{decimal}
 use Rattle.scenario_words.specs.Words.{ended_line}
 use Rattle.command_files.specs.Fault.{IsWritingFault}
-use Rattle.command_files.specs.Files.{Grows, Made}
+use Rattle.command_files.specs.Files.{Grows, MadeFile}
 use Rattle.command_files.specs.declared.fault.Fault.{Fault}
 
 -- `D PORT`
@@ -16,7 +16,7 @@ listed_text device [] = []
 listed_text device (port ∷ ports) = listed_line device port ++ listed_text (device + 1) ports
 
 -- a file that has the line of each device was made at the path, if there is one; no other file
-abbrev pub AreListedIf : Option (List Made) → Option (List Made) → Option (List ℕ) → List ℕ → Type 0
+abbrev pub AreListedIf : Option (List MadeFile) → Option (List MadeFile) → Option (List ℕ) → List ℕ → Type 0
 AreListedIf before after None ports = after ≡ before
 AreListedIf before after (Some path) ports =
     Grows before after ((record { path = path; bytes = listed_text 0 ports }) ∷ [])

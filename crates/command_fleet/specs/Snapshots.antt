@@ -1,5 +1,6 @@
 -- What is saved of a session while it goes on.
-use Rattle.std.specs.Prelude.{⊤, ℕ, ◌≡◌, ◌+◌, ◌≤◌, ◌<◌, ◌&&◌, Bool, false, List, [], ◌∷◌, ◌++◌, length, Option, None, Some}
+use Rattle.std.specs.Prelude.{⊤, ℕ, ◌≡◌, ◌+◌, ◌≤◌, ◌<◌, ◌&&◌, Bool, false, List, [], ◌∷◌, ◌++◌, length, Option, None}
+use Rattle.std.specs.Prelude.{Some}
 use Rattle.std.specs.Prelude.{codes, option_map}
 use Rattle.command_line.specs.declared.fleet_words.AskedFleet.{AskedFleet}
 use Rattle.scenario_image.specs.Image.{IsImageIn}
@@ -8,7 +9,7 @@ use Rattle.fleet_link.specs.declared.slot.Slot.{Slot}
 use Rattle.fleet_link.specs.Saved.{IsSaved}
 use Rattle.fleet_link.specs.Serving.{AreRepeated, AreSwept, IsFleet}
 use Rattle.fleet_link.specs.Traffic.{Traffic}
-use Rattle.command_files.specs.Files.{Grows, Made}
+use Rattle.command_files.specs.Files.{Grows, MadeFile}
 
 -- the place of the snapshots of a session that is to be saved at this path: `PATH.snapshot`
 abbrev pub snapshot_path : List ℕ → List ℕ
@@ -51,7 +52,7 @@ AreSnapshots part played repeat before (s ∷ earlier) =
     IsSnapshot part played repeat before (last_of earlier) s × AreSnapshots part played repeat before earlier
 
 -- their files, the first one first; each replaces the one before it
-abbrev pub snapshot_files : List ℕ → List Snapshot → List Made
+abbrev pub snapshot_files : List ℕ → List Snapshot → List MadeFile
 snapshot_files path [] = []
 snapshot_files path (s ∷ earlier) =
     snapshot_files path earlier ++ (record { path = snapshot_path path; bytes = s.bytes }) ∷ []
@@ -59,7 +60,7 @@ snapshot_files path (s ∷ earlier) =
 -- Up to this second of a session its snapshots were made beside the path, the last one at that second, and no other
 -- file. Fewer than 60 seconds have passed since, so none is left out.
 pub record AreKeptAt (path : List ℕ) (part : Scenario) (played repeat : Bool) (before : ℕ → Option Traffic)
-    (last second : ℕ) (old new : Option (List Made)) : Type 0 where
+    (last second : ℕ) (old new : Option (List MadeFile)) : Type 0 where
   pub snapshots : List Snapshot
   pub each : AreSnapshots part played repeat before snapshots
   pub last_is : last ≡ last_of snapshots
@@ -68,14 +69,15 @@ pub record AreKeptAt (path : List ℕ) (part : Scenario) (played repeat : Bool) 
   pub made : Grows old new (snapshot_files path snapshots)
 
 -- the same where there is a path; else no file was made
-abbrev pub AreKeptIf : Option (List ℕ) → Scenario → Bool → Bool → (ℕ → Option Traffic) → ℕ → ℕ → Option (List Made)
-    → Option (List Made) → Type 0
+abbrev pub AreKeptIf : Option (List ℕ) → Scenario → Bool → Bool → (ℕ → Option Traffic) → ℕ → ℕ → Option (List MadeFile)
+    → Option (List MadeFile) → Type 0
 AreKeptIf None part played repeat before last second old new = new ≡ old
 AreKeptIf (Some path) part played repeat before last second old new =
     AreKeptAt path part played repeat before last second old new
 
 -- the same of the session that is asked for
-abbrev pub AreKept : AskedFleet → Scenario → (ℕ → Option Traffic) → ℕ → ℕ → Option (List Made) → Option (List Made)
+abbrev pub AreKept : AskedFleet → Scenario → (ℕ → Option Traffic) → ℕ → ℕ → Option (List MadeFile)
+    → Option (List MadeFile)
     → Type 0
 AreKept asked part before last second old new =
     AreKeptIf (option_map (λ p. p.now) asked.save) part asked.play (asked.play && asked.repeat) before last second old

@@ -27,7 +27,7 @@ telling_of false true devices = Progress devices
 telling_of false false devices = Nothing
 
 -- a second of a session, and what had gone through the ports when it came
-pub record Passed : Type 0 where
+pub record SecondCounts : Type 0 where
   pub second : ℕ
   pub counts : Counts
 
@@ -42,23 +42,23 @@ shown_line second devices counted =
     ended_line (decimal second ++ codes " s  " ++ decimal devices ++ codes " devices  " ++ counted)
 
 -- `S s  N devices  N received  N sent  N dropped  N lost`
-abbrev pub progress_line : ℕ → Passed → List ℕ
+abbrev pub progress_line : ℕ → SecondCounts → List ℕ
 progress_line devices passed = shown_line passed.second devices (counts_shown passed.counts)
 
 -- what standard output gets of a second
-abbrev pub second_output : Telling → Passed → List ℕ
+abbrev pub second_output : Telling → SecondCounts → List ℕ
 second_output Nothing passed = []
 second_output (Progress devices) passed = []
 second_output Objects passed = json_line (second_json passed.second passed.counts)
 
 -- what standard error gets of it
-abbrev pub second_errors : Telling → Passed → List ℕ
+abbrev pub second_errors : Telling → SecondCounts → List ℕ
 second_errors Nothing passed = []
 second_errors (Progress devices) passed = progress_line devices passed
 second_errors Objects passed = []
 
 -- the stream that gets a second did not take it, and the other one has what it had
-abbrev pub IsSecondRefused : Telling → StreamFaults → Passed → Streams → Streams → Fault → Type 0
+abbrev pub IsSecondRefused : Telling → StreamFaults → SecondCounts → Streams → Streams → Fault → Type 0
 IsSecondRefused Nothing streams passed before after fault = ⊥
 IsSecondRefused (Progress devices) streams passed before after fault =
     IsWritingFault (streams.errors_refuse (progress_line devices passed)) fault × (after.output ≡ before.output)
@@ -67,7 +67,7 @@ IsSecondRefused Objects streams passed before after fault =
     × (after.errors ≡ before.errors)
 
 -- each second is later than the one before it, the first than this one; this is the last
-abbrev pub AreSeconds : ℕ → List Passed → ℕ → Type 0
+abbrev pub AreSeconds : ℕ → List SecondCounts → ℕ → Type 0
 AreSeconds before [] last = before ≡ last
 AreSeconds before (p ∷ ps) last = (before < p.second) × AreSeconds p.second ps last
 
@@ -75,11 +75,11 @@ AreSeconds before (p ∷ ps) last = (before < p.second) × AreSeconds p.second p
 
 -- what is told: a second that came; or, of a turn, what devices received and sent, and what the wire did
 pub data Event : Type 0 where
-  came : (passed : Passed) → Event
+  came : (passed : SecondCounts) → Event
   went : (notes : List Note) (shown : List Shown) → Event
 
 -- the seconds among events; what the wire did; and the datagrams that devices received and sent
-abbrev pub passed_in : List Event → List Passed
+abbrev pub passed_in : List Event → List SecondCounts
 passed_in [] = []
 passed_in (came p ∷ es) = p ∷ passed_in es
 passed_in (went notes shown ∷ es) = passed_in es

@@ -6,7 +6,7 @@ use Rattle.fleet_wire.specs.declared.choice.Choice.TheVariants.{Never}
 use Rattle.fleet_wire.specs.declared.plan.Plan.{Plan}
 use Rattle.fleet_wire.specs.declared.reading.ChoiceFault.{ChoiceFault}
 use Rattle.fleet_wire.specs.Reading.{IsRefused, IsSaid}
-use Rattle.fleet_lines.specs.Counting.{Wired}
+use Rattle.fleet_lines.specs.Counting.{PlannedWire}
 
 -- ---- what words ask for
 
@@ -51,7 +51,7 @@ IsNoPlan wire =
 -- ---- the wire of a session
 
 -- the words ask for this wire between n devices and their ports, or for none
-abbrev pub IsWireBy : AskedWire → ℕ → Option Wired → Type 0
+abbrev pub IsWireBy : AskedWire → ℕ → Option PlannedWire → Type 0
 IsWireBy wire devices None = is_wired wire ≡ false
 IsWireBy wire devices (Some wired) =
     (is_wired wire ≡ true) × IsPlanBy wire wired.plan × (wired.devices ≡ devices)

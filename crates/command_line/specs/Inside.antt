@@ -4,9 +4,10 @@ use Rattle.clap.specs.Words.{App, Row, Rule, Text as Word, all_of, first_of, new
 use Rattle.clap.specs.Words.{with_subcommand}
 use Rattle.command_line.specs.declared.words.Asked.{Asked}
 use Rattle.command_line.specs.declared.words.Asked.TheVariants as asked
-use Rattle.command_line.specs.Words.{AsksFor, AsksForFleet, AsksForLog, AsksToLive, IsNoNumber, IsNumber, MayAskFor, flag, is_set}
-use Rattle.command_line.specs.Words.{may_stand, needed, needed_number, number, number_from, optional_from}
-use Rattle.command_line.specs.Words.{optional_number, several, text_option, text_options, text_or, with_settings}
+use Rattle.command_line.specs.Words.{AsksFor, AsksForFleet, AsksForLog, AsksToLive, IsNoNumber, IsNumber, MayAskFor}
+use Rattle.command_line.specs.Words.{flag, is_set, may_stand, needed_number, number, number_from, optional_from}
+use Rattle.command_line.specs.Words.{optional_number, required_word, several, text_option, text_options, text_or}
+use Rattle.command_line.specs.Words.{with_settings}
 
 -- `[--json] [--why]`
 abbrev pub with_trace_forms : App → App
@@ -14,7 +15,7 @@ with_trace_forms a = with_rule (with_rule a (flag (codes "json"))) (flag (codes 
 
 -- `one HEX [--json] [--why]`
 abbrev pub one_app : App
-one_app = with_trace_forms (with_rule (new_app (codes "one")) (needed (codes "HEX")))
+one_app = with_trace_forms (with_rule (new_app (codes "one")) (required_word (codes "HEX")))
 
 -- `--server S`
 abbrev pub server : Rule
@@ -22,7 +23,7 @@ server = number_from (codes "server") 1 65534 (codes "1")
 
 -- `say HEX [--server S]`
 abbrev pub say_app : App
-say_app = with_rule (with_rule (new_app (codes "say")) (needed (codes "HEX"))) server
+say_app = with_rule (with_rule (new_app (codes "say")) (required_word (codes "HEX"))) server
 
 -- `spell STATEMENT ..`
 abbrev pub spell_app : App
@@ -30,11 +31,11 @@ spell_app = with_rule (new_app (codes "spell")) (several (codes "STATEMENT"))
 
 -- `asm IN OUT`
 abbrev pub asm_app : App
-asm_app = with_rule (with_rule (new_app (codes "asm")) (needed (codes "IN"))) (needed (codes "OUT"))
+asm_app = with_rule (with_rule (new_app (codes "asm")) (required_word (codes "IN"))) (required_word (codes "OUT"))
 
 -- `dis IN`
 abbrev pub dis_app : App
-dis_app = with_rule (new_app (codes "dis")) (needed (codes "IN"))
+dis_app = with_rule (new_app (codes "dis")) (required_word (codes "IN"))
 
 -- `--workers N`
 abbrev pub workers : Rule
@@ -47,18 +48,19 @@ batch = number (codes "batch") 4294967295 (codes "16")
 -- `run IMAGE [--workers N] [--batch N] [--trace FILE]`
 abbrev pub run_app : App
 run_app =
-    with_rule (with_rule (with_rule (with_rule (new_app (codes "run")) (needed (codes "IMAGE"))) workers) batch)
+    with_rule (with_rule (with_rule (with_rule (new_app (codes "run")) (required_word (codes "IMAGE"))) workers) batch)
     (text_option (codes "trace"))
 
 -- `check IMAGE TRACE [--json]`
 abbrev pub check_app : App
 check_app =
-    with_rule (with_rule (with_rule (new_app (codes "check")) (needed (codes "IMAGE"))) (needed (codes "TRACE")))
+    with_rule (with_rule (with_rule (new_app (codes "check")) (required_word (codes "IMAGE")))
+    (required_word (codes "TRACE")))
     (flag (codes "json"))
 
 -- `IMAGE TRACE`
 abbrev pub with_trace : App → App
-with_trace a = with_rule (with_rule a (needed (codes "IMAGE"))) (needed (codes "TRACE"))
+with_trace a = with_rule (with_rule a (required_word (codes "IMAGE"))) (required_word (codes "TRACE"))
 
 -- `[--from N] [--to N]`
 abbrev pub with_range : App → App
@@ -75,11 +77,11 @@ show_app = with_trace_forms (with_selection (with_trace (new_app (codes "show"))
 
 -- `play FILE [--device N] [--from N] [--to N] [--json] [--why]`
 abbrev pub play_app : App
-play_app = with_trace_forms (with_selection (with_rule (new_app (codes "play")) (needed (codes "FILE"))))
+play_app = with_trace_forms (with_selection (with_rule (new_app (codes "play")) (required_word (codes "FILE"))))
 
 -- `pcap IMAGE TRACE OUT`
 abbrev pub pcap_app : App
-pcap_app = with_rule (with_trace (new_app (codes "pcap"))) (needed (codes "OUT"))
+pcap_app = with_rule (with_trace (new_app (codes "pcap"))) (required_word (codes "OUT"))
 
 -- `debug IMAGE TRACE`
 abbrev pub debug_app : App
@@ -88,7 +90,7 @@ debug_app = with_trace (new_app (codes "debug"))
 -- `IMAGE DEVICE PORT`
 abbrev pub with_port : App → App
 with_port a =
-    with_rule (with_rule (with_rule a (needed (codes "IMAGE"))) (needed_number (codes "DEVICE") 0 65535))
+    with_rule (with_rule (with_rule a (required_word (codes "IMAGE"))) (needed_number (codes "DEVICE") 0 65535))
     (needed_number (codes "PORT") 0 65535)
 
 -- `TURNS [--save FILE]`
@@ -110,7 +112,7 @@ bind = text_or (codes "bind") (codes "127.0.0.1")
 -- `FILE PORT [--seconds N]`
 abbrev pub with_service : App → App
 with_service a =
-    with_rule (with_rule (with_rule a (needed (codes "FILE"))) (needed_number (codes "PORT") 0 65535)) seconds
+    with_rule (with_rule (with_rule a (required_word (codes "FILE"))) (needed_number (codes "PORT") 0 65535)) seconds
 
 -- `--copies N`
 abbrev pub copies : Rule
@@ -172,7 +174,7 @@ fleet_app =
 
 -- `join OUT IMAGE ..`
 abbrev pub join_app : App
-join_app = with_rule (with_rule (new_app (codes "join")) (needed (codes "OUT"))) (several (codes "IMAGE"))
+join_app = with_rule (with_rule (new_app (codes "join")) (required_word (codes "OUT"))) (several (codes "IMAGE"))
 
 -- `[--only RULE] .. [--not RULE] ..`
 abbrev pub with_rules : App → App

@@ -25,12 +25,12 @@ use Rattle.command_line.specs.declared.words.CaseForm.TheVariants as case_forms
 -- ---- what is taken
 
 -- a word that has to be there
-abbrev pub needed : Word → Rule
-needed name = record (new_rule name) { required = true }
+abbrev pub required_word : Word → Rule
+required_word name = record (new_rule name) { required = true }
 
 -- a word that has to be there, and may be there several times
 abbrev pub several : Word → Rule
-several name = record (needed name) { action = Some Append }
+several name = record (required_word name) { action = Some Append }
 
 -- a word that may be there
 abbrev pub may_stand : Word → Rule
@@ -46,7 +46,7 @@ text_options name = record (text_option name) { action = Some Append }
 
 -- a number from `least` to `most` that has to be there
 abbrev pub needed_number : Word → ℕ → ℕ → Rule
-needed_number name least most = record (needed name) { parser = Some (parsers.Signed (pos least) (pos most)) }
+needed_number name least most = record (required_word name) { parser = Some (parsers.Signed (pos least) (pos most)) }
 
 -- `--NAME N`, a number from `least` to `most`
 abbrev pub optional_from : Word → ℕ → ℕ → Rule
@@ -85,41 +85,43 @@ command name rules = fold with_rule (new_app name) rules
 abbrev pub commands : List App
 commands =
     -- `one HEX [--json] [--why]`
-    command (codes "one") (needed (codes "HEX") ∷ flag (codes "json") ∷ flag (codes "why") ∷ [])
+    command (codes "one") (required_word (codes "HEX") ∷ flag (codes "json") ∷ flag (codes "why") ∷ [])
     -- `say HEX [--server S]`
-    ∷ command (codes "say") (needed (codes "HEX") ∷ number_from (codes "server") 1 65534 (codes "1") ∷ [])
+    ∷ command (codes "say") (required_word (codes "HEX") ∷ number_from (codes "server") 1 65534 (codes "1") ∷ [])
     -- `spell STATEMENT ..`
     ∷ command (codes "spell") (several (codes "STATEMENT") ∷ [])
     -- `play FILE [--device N] [--from N] [--to N] [--json] [--why]`
-    ∷ command (codes "play") (needed (codes "FILE") ∷ optional_number (codes "device") 65535
+    ∷ command (codes "play") (required_word (codes "FILE") ∷ optional_number (codes "device") 65535
     ∷ optional_number (codes "from") 4294967295 ∷ optional_number (codes "to") 4294967295 ∷ flag (codes "json")
     ∷ flag (codes "why") ∷ [])
     -- `asm IN OUT`
-    ∷ command (codes "asm") (needed (codes "IN") ∷ needed (codes "OUT") ∷ [])
+    ∷ command (codes "asm") (required_word (codes "IN") ∷ required_word (codes "OUT") ∷ [])
     -- `dis IN`
-    ∷ command (codes "dis") (needed (codes "IN") ∷ [])
+    ∷ command (codes "dis") (required_word (codes "IN") ∷ [])
     -- `run IMAGE [--workers N] [--batch N] [--trace FILE]`
-    ∷ command (codes "run") (needed (codes "IMAGE") ∷ number (codes "workers") 65535 (codes "2")
+    ∷ command (codes "run") (required_word (codes "IMAGE") ∷ number (codes "workers") 65535 (codes "2")
     ∷ number (codes "batch") 4294967295 (codes "16") ∷ text_option (codes "trace") ∷ [])
     -- `check IMAGE TRACE [--json]`
-    ∷ command (codes "check") (needed (codes "IMAGE") ∷ needed (codes "TRACE") ∷ flag (codes "json") ∷ [])
+    ∷ command (codes "check") (required_word (codes "IMAGE") ∷ required_word (codes "TRACE") ∷ flag (codes "json") ∷ [])
     -- `show IMAGE TRACE [--device N] [--from N] [--to N] [--json] [--why]`
-    ∷ command (codes "show") (needed (codes "IMAGE") ∷ needed (codes "TRACE") ∷ optional_number (codes "device") 65535
+    ∷ command (codes "show") (required_word (codes "IMAGE") ∷ required_word (codes "TRACE") ∷ optional_number
+    (codes "device") 65535
     ∷ optional_number (codes "from") 4294967295 ∷ optional_number (codes "to") 4294967295 ∷ flag (codes "json")
     ∷ flag (codes "why") ∷ [])
     -- `pcap IMAGE TRACE OUT`
-    ∷ command (codes "pcap") (needed (codes "IMAGE") ∷ needed (codes "TRACE") ∷ needed (codes "OUT") ∷ [])
+    ∷ command (codes "pcap") (required_word (codes "IMAGE") ∷ required_word (codes "TRACE") ∷ required_word
+    (codes "OUT") ∷ [])
     -- `debug IMAGE TRACE`
-    ∷ command (codes "debug") (needed (codes "IMAGE") ∷ needed (codes "TRACE") ∷ [])
+    ∷ command (codes "debug") (required_word (codes "IMAGE") ∷ required_word (codes "TRACE") ∷ [])
     -- `live IMAGE DEVICE PORT TURNS [--save FILE] [--show]`
-    ∷ command (codes "live") (needed (codes "IMAGE") ∷ needed_number (codes "DEVICE") 0 65535
+    ∷ command (codes "live") (required_word (codes "IMAGE") ∷ needed_number (codes "DEVICE") 0 65535
     ∷ needed_number (codes "PORT") 0 65535 ∷ needed_number (codes "TURNS") 1 100000 ∷ text_option (codes "save")
     ∷ flag (codes "show") ∷ [])
     -- `fleet FILE PORT [--seconds N] [--devices A-B] [--copies N] [--play] [--loop] [--bind ADDRESS]
     -- [--server S=ADDRESS[:PORT]] .. [--ports FILE] [--lose-in WHICH] [--lose-out WHICH] [--twice WHICH]
     -- [--swap WHICH] [--late WHICH] [--late-by N] [--seed N] [--save FILE] [--expect FILE] [--junit FILE]
     -- [--strict] [--show] [--json]`
-    ∷ command (codes "fleet") (needed (codes "FILE") ∷ needed_number (codes "PORT") 0 65535
+    ∷ command (codes "fleet") (required_word (codes "FILE") ∷ needed_number (codes "PORT") 0 65535
     ∷ optional_from (codes "seconds") 1 4294967295 ∷ text_option (codes "devices")
     ∷ optional_from (codes "copies") 1 16384 ∷ flag (codes "play") ∷ flag (codes "loop")
     ∷ text_or (codes "bind") (codes "127.0.0.1")
@@ -129,7 +131,7 @@ commands =
     ∷ number (codes "seed") 4294967295 (codes "0") ∷ text_option (codes "save") ∷ text_option (codes "expect")
     ∷ text_option (codes "junit") ∷ flag (codes "strict") ∷ flag (codes "show") ∷ flag (codes "json") ∷ [])
     -- `join OUT IMAGE ..`
-    ∷ command (codes "join") (needed (codes "OUT") ∷ several (codes "IMAGE") ∷ [])
+    ∷ command (codes "join") (required_word (codes "OUT") ∷ several (codes "IMAGE") ∷ [])
     -- `lint FILE [--only RULE] .. [--not RULE] .. [--json] [--why]`,
     -- `lint --rules [--only RULE] .. [--not RULE] ..`
     ∷ command (codes "lint") (may_stand (codes "FILE") ∷ text_options (codes "only") ∷ text_options (codes "not")

@@ -1,12 +1,14 @@
 //! The subcommands of the program and their arguments, as `clap` takes them.
 ghost use Rattle.std.specs.Prelude.{◌≡◌, codes, false, true, IfOk};
 ghost use Rattle.clap.specs.Words.{App, app_of, new_app, rule_of, with_rule, with_subcommand};
-ghost use Rattle.command_line.specs.Words.{flag, may_stand, needed, needed_number, optional_number, several};
+ghost use Rattle.command_line.specs.Words.{flag, may_stand, needed_number, optional_number, required_word, several};
 ghost use Rattle.command_line.specs.Words.{text_option, text_options, with_settings};
-ghost use Rattle.command_line.specs.Inside.{asm_app, batch, check_app, debug_app, dis_app, fleet_app, join_app, lint_app};
+ghost use Rattle.command_line.specs.Inside.{asm_app, batch, check_app, debug_app, dis_app, fleet_app, join_app};
+ghost use Rattle.command_line.specs.Inside.{lint_app};
 ghost use Rattle.command_line.specs.Inside.{live_app, one_app, pcap_app, play_app, run_app, say_app, server, show_app};
 ghost use Rattle.command_line.specs.Inside.{spell_app, test_app, whole_app, with_cases, with_forms, with_port};
-ghost use Rattle.command_line.specs.Inside.{with_range, with_record, with_rules, with_selection, with_trace, with_trace_forms};
+ghost use Rattle.command_line.specs.Inside.{with_range, with_record, with_rules, with_selection, with_trace};
+ghost use Rattle.command_line.specs.Inside.{with_trace_forms};
 ghost use Rattle.command_line.specs.Inside.{with_turns, workers};
 
 use crate::fleet_arguments::fleet_command;
@@ -467,7 +469,7 @@ fn may_stand<'a>(alloc: Global, name: &'a str) -> Arg<'a>
 }
 
 pub(crate) fn needed<'a>(alloc: Global, name: &'a str) -> Arg<'a>
-    ensures rule { rule_of result ≡ needed name.entry.now }
+    ensures rule { rule_of result ≡ required_word name.entry.now }
     ensures local { result.global ≡ false }
 {
     Arg::new(alloc, name).required(true)

@@ -15,7 +15,7 @@ use Rattle.live_link.specs.Served.{IsServed}
 use Rattle.live_link.specs.Wire.{Traffic}
 use Rattle.command_files.specs.Answers.{writing_fault}
 use Rattle.command_files.specs.Fault.{session_fault, IsWritingFault}
-use Rattle.command_files.specs.Files.{Grows, Made}
+use Rattle.command_files.specs.Files.{Grows, MadeFile}
 use Rattle.command_files.specs.Loading.{IsImageFault, IsScenarioAt}
 use Rattle.command_live.specs.Live.{line_of, HasNoRow, IsClassOf, IsConcluded, IsLiveDone, IsLiveFault, IsSaveFault}
 use Rattle.command_live.specs.Live.{IsSaved, IsSavedAt, IsShown, IsUnconcluded, IsUnfit, IsUnheld, IsUnsaved}
@@ -79,7 +79,7 @@ unheld_so show fault h k = subst (λ b. IsUnheld b fault) (sym h) k
 
 -- ---- its scenario
 
-pub saved_at : (made : Transition (Option (List Made))) (path at bytes : List ℕ) (class : Template)
+pub saved_at : (made : Transition (Option (List MadeFile))) (path at bytes : List ℕ) (class : Template)
     (steps : List Step) → at ≡ path → IsImageIn 2 bytes (one_row class steps)
     → Grows made.before made.after ((record { path = at; bytes = bytes }) ∷ []) → IsSavedAt made path class steps
 saved_at made path at bytes class steps same image grows =

@@ -17,7 +17,7 @@ use Rattle.live_link.specs.Served.{IsServed}
 use Rattle.live_link.specs.Wire.{Traffic}
 use Rattle.scenario_words.specs.Words.{ended_line}
 use Rattle.command_files.specs.Fault.{IsWritingFault}
-use Rattle.command_files.specs.Files.{Grows, Made}
+use Rattle.command_files.specs.Files.{Grows, MadeFile}
 use Rattle.command_files.specs.Loading.{IsImageFault, IsScenarioAt, IsWorkFault}
 use Rattle.command_files.specs.World.{FilesKnown, StreamFaults, Streams, World}
 use Rattle.command_files.specs.declared.fault.Fault.{Fault}
@@ -80,13 +80,13 @@ line_of session = session_line session.end (length session.steps.items) (length 
 
 -- the image of the scenario that has one device of the class, with these steps, was made at the path, in version 2, and
 -- no other file
-abbrev pub IsSavedAt : Transition (Option (List Made)) → List ℕ → Template → List Step → Type 0
+abbrev pub IsSavedAt : Transition (Option (List MadeFile)) → List ℕ → Template → List Step → Type 0
 IsSavedAt made path class steps =
     (bytes : List ℕ) × IsImageIn 2 bytes (one_row class steps)
     × Grows made.before made.after ((record { path = path; bytes = bytes }) ∷ [])
 
 -- the same where there is a path; else no file was made
-abbrev pub IsSaved : Transition (Option (List Made)) → Option (List ℕ) → Template → List Step → Type 0
+abbrev pub IsSaved : Transition (Option (List MadeFile)) → Option (List ℕ) → Template → List Step → Type 0
 IsSaved made None class steps = made.after ≡ made.before
 IsSaved made (Some path) class steps = IsSavedAt made path class steps
 

@@ -4,7 +4,7 @@ use Rattle.std.specs.String.{string_bytes}
 use Rattle.scenario_image.specs.Scenario.{Scenario}
 use Rattle.trace_file.specs.declared.entry.Entry.{Entry}
 use Rattle.fleet_core.specs.Run.{IsSerial}
-use Rattle.fleet_core.specs.Waiting.{waiting}
+use Rattle.fleet_core.specs.Waiting.{waiting_devices}
 use Rattle.trace_text.specs.declared.selection.Selection.{Selection}
 use Rattle.trace_text.specs.declared.selection.SelectionFault.{SelectionFault}
 use Rattle.trace_text.specs.declared.selection.SelectionFault.TheVariants as selection
@@ -43,7 +43,7 @@ lines_are sel s es text are = are.text_is
 
 pub played : (form : PlayForm) (sel : Selection) (s : Scenario) (es : List Entry) (shown : List ℕ) (answer : Answer)
     → IsSerial s es → IsSelectable s sel es → IsToldAs form s sel es shown
-    → string_bytes answer.text ≡ shown ++ ending form (length es) (waiting s es)
+    → string_bytes answer.text ≡ shown ++ ending form (length es) (waiting_devices s es)
     → answer.status ≡ Done → files_of answer.file ≡ [] → IsPlayed form sel s answer
 played form sel s es shown answer serial selectable told said ended none = record {
   entries = es;

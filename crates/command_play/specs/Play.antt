@@ -4,7 +4,7 @@ use Rattle.std.specs.String.{string_bytes}
 use Rattle.scenario_image.specs.Scenario.{Scenario}
 use Rattle.trace_file.specs.declared.entry.Entry.{Entry}
 use Rattle.fleet_core.specs.Run.{IsSerial}
-use Rattle.fleet_core.specs.Waiting.{waiting}
+use Rattle.fleet_core.specs.Waiting.{waiting_devices}
 use Rattle.trace_text.specs.declared.selection.Selection.{Selection}
 use Rattle.trace_text.specs.declared.selection.SelectionFault.TheVariants as selection
 use Rattle.trace_text.specs.Selection.{IsSelectable, IsSelectionFault, selected_text}
@@ -47,7 +47,7 @@ pub record IsPlayed (form : PlayForm) (sel : Selection) (s : Scenario) (answer :
   pub selectable : IsSelectable s sel entries
   pub shown : List ℕ
   pub told : IsToldAs form s sel entries shown
-  pub text_is : string_bytes answer.text ≡ shown ++ ending form (length entries) (waiting s entries)
+  pub text_is : string_bytes answer.text ≡ shown ++ ending form (length entries) (waiting_devices s entries)
   pub status_is : answer.status ≡ Done
   pub made_is : files_of answer.file ≡ []
 

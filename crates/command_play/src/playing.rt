@@ -2,7 +2,7 @@
 ghost use Rattle.std.specs.Prelude.{◌≡◌, IfErr, IfOk, OnOk, length};
 ghost use Rattle.std.specs.String.{string_bytes};
 ghost use Rattle.fleet_core.specs.Run.{IsRun, IsSerial};
-ghost use Rattle.fleet_core.specs.Waiting.{waiting};
+ghost use Rattle.fleet_core.specs.Waiting.{waiting_devices};
 ghost use Rattle.trace_text.specs.Selection.{IsSelectable, IsSelectionFault};
 ghost use Rattle.command_play.specs.Play.{IsPlayDone, IsPlayFault, IsPlayed, IsToldAs, IsUnplayed, ending};
 
@@ -103,7 +103,7 @@ fn ended(
     form: PlayForm,
 ) -> Result<String, AllocError>
     ensures { IfOk result (λ t.
-        string_bytes t ≡ ending form (length entries.now) (waiting scenario.now entries.now)) }
+        string_bytes t ≡ ending form (length entries.now) (waiting_devices scenario.now entries.now)) }
 {
     let waiting = unfinished(alloc, scenario, entries)?;
     end_of(alloc, form, entries.len(), waiting.as_slice())

@@ -18,7 +18,7 @@ use Rattle.fleet_core.specs.Verdict.{Judges}
 use Rattle.trace_json.specs.Notes.{verdict_json}
 use Rattle.trace_json.specs.Writing.{json_line}
 use Rattle.command_files.specs.Verdicts.{IsJudged, IsCheckDone, verdict_status}
-use Rattle.command_files.specs.Files.{Made}
+use Rattle.command_files.specs.Files.{MadeFile}
 use Rattle.command_scenarios.specs.RunAnswer.{IsSavedAs, IsRunBy, IsRunAnswer, IsRunFault, IsWrongBatch, RunOptions}
 use Rattle.command_files.specs.Loading.{IsScenarioAt, IsTraceAt, IsImageFault, RunPaths}
 use Rattle.command_scenarios.specs.Jobs.{IsAsmDone, IsCheckJsonDone, IsDisDone, IsJudgedInJson, IsRunDone}
@@ -30,10 +30,10 @@ use Rattle.command_files.specs.Answers.{files_of}
 use Rattle.command_files.specs.declared.answer.Answer.{Answer}
 use Rattle.command_files.specs.declared.status.Status.TheVariants.{Done}
 
-pub not_saved : (es : List Entry) (made : List Made) → made ≡ [] → IsSavedAs None es made
+pub not_saved : (es : List Entry) (made : List MadeFile) → made ≡ [] → IsSavedAs None es made
 not_saved es made same = same
 
-pub saved_as : (path bytes : List ℕ) (es : List Entry) (made : List Made) → IsTraceFile bytes es
+pub saved_as : (path bytes : List ℕ) (es : List Entry) (made : List MadeFile) → IsTraceFile bytes es
     → made ≡ (record { path = path; bytes = bytes }) ∷ [] → IsSavedAs (Some path) es made
 saved_as path bytes es made file same = (bytes, file, same)
 
@@ -88,7 +88,7 @@ asm_done holds paths bytes s answer found image said ended one =
     }
 
 pub dis_done : (holds : List ℕ → List ℕ → Type 0) (input : List ℕ) (s : Scenario) (answer : Answer)
-    → IsScenarioAt holds input s → string_bytes answer.text ≡ canonical.printed s → answer.status ≡ Done
+    → IsScenarioAt holds input s → string_bytes answer.text ≡ canonical.text_of_scenario s → answer.status ≡ Done
     → files_of answer.file ≡ [] → IsDisDone holds input answer
 dis_done holds input s answer found said ended none =
     record { scenario = s; found = found; text_is = said; status_is = ended; made_is = none }

@@ -42,7 +42,7 @@ pub record IsAsmDone (holds : List ℕ → List ℕ → Type 0) (paths : TextPat
 pub record IsDisDone (holds : List ℕ → List ℕ → Type 0) (input : List ℕ) (answer : Answer) : Type 0 where
   pub scenario : Scenario
   pub found : IsScenarioAt holds input scenario
-  pub text_is : string_bytes answer.text ≡ canonical.printed scenario
+  pub text_is : string_bytes answer.text ≡ canonical.text_of_scenario scenario
   pub status_is : answer.status ≡ Done
   pub made_is : files_of answer.file ≡ []
 

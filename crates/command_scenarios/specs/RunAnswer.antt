@@ -4,14 +4,14 @@ use Rattle.std.specs.String.{string_bytes}
 use Rattle.scenario_image.specs.Scenario.{Scenario}
 use Rattle.trace_file.specs.declared.entry.Entry.{Entry}
 use Rattle.trace_file.specs.Layout.{IsTraceFile}
-use Rattle.fleet_core.specs.Waiting.{waiting}
+use Rattle.fleet_core.specs.Waiting.{waiting_devices}
 use Rattle.fleet_workers.specs.declared.fleet.FleetRun.{FleetRun}
 use Rattle.fleet_workers.specs.declared.fleet.RunFault.{RunFault}
 use Rattle.fleet_workers.specs.declared.fleet.RunFault.TheVariants as runs
 use Rattle.fleet_workers.specs.Blocks.{anyone}
 use Rattle.fleet_workers.specs.Fleet.{IsFleetRun, AreByBlocks, AreWorkers, IsBatch}
 use Rattle.command_files.specs.Answers.{files_of}
-use Rattle.command_files.specs.Files.{Made}
+use Rattle.command_files.specs.Files.{MadeFile}
 use Rattle.command_files.specs.declared.answer.Answer.{Answer}
 use Rattle.command_scenarios.specs.Runs.{end_status}
 use Rattle.command_texts.specs.Endings.{end_line}
@@ -26,7 +26,7 @@ pub record RunOptions : Type 0 where
   pub batch : ℕ
 
 -- the trace file of these entries is made at the path, if there is one, and no other file
-abbrev pub IsSavedAs : Option (List ℕ) → List Entry → List Made → Type 0
+abbrev pub IsSavedAs : Option (List ℕ) → List Entry → List MadeFile → Type 0
 IsSavedAs None es made = made ≡ []
 IsSavedAs (Some path) es made =
     (bytes : List ℕ) × IsTraceFile bytes es × (made ≡ (record { path = path; bytes = bytes }) ∷ [])
@@ -50,8 +50,8 @@ pub record IsRunAnswer (s : Scenario) (options : RunOptions) (trace : Option (Li
   pub run : FleetRun
   pub right : IsRunBy s options run
   pub saved : IsSavedAs trace run.entries (files_of answer.file)
-  pub text_is : string_bytes answer.text ≡ end_line (length run.entries) (waiting s run.entries)
-  pub status_is : answer.status ≡ end_status (waiting s run.entries)
+  pub text_is : string_bytes answer.text ≡ end_line (length run.entries) (waiting_devices s run.entries)
+  pub status_is : answer.status ≡ end_status (waiting_devices s run.entries)
 
 -- there are 1 to 64 workers, and the batch is not one of 1 to 64 steps
 abbrev pub IsWrongBatch : RunOptions → Type 0

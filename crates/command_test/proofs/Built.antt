@@ -5,7 +5,7 @@ use Rattle.std.specs.String.{string_bytes}
 use Rattle.command_files.specs.Answers.{files_of}
 use Rattle.command_files.specs.declared.answer.Answer.{Answer}
 use Rattle.command_files.specs.declared.status.Status.TheVariants.{Done}
-use Rattle.command_test.specs.Answers.{IsReportOf, are_several, junit_files, printed}
+use Rattle.command_test.specs.Answers.{IsReportOf, are_several, junit_files, printed_report}
 use Rattle.command_test.specs.Jobs.{IsTestDone, IsTitlesDone}
 use Rattle.command_test.specs.Playing.{AreChosen, AreRight, case_of_file, choice}
 use Rattle.command_test.specs.Reading.{AreRead}
@@ -41,7 +41,7 @@ listed holds paths only files tests answer read chosen some said ended none =
 pub reported : (only : Option (List ℕ)) (form : ReportForm) (junit_path : Option (List ℕ)) (files : List CaseFile)
     (tests : List TestCase) (all : List Judged) (answer : Answer) → AreChosen only files tests
     → map (λ judged. judged.test) all ≡ tests → AreRight all
-    → string_bytes answer.text ≡ printed form (are_several files) all
+    → string_bytes answer.text ≡ printed_report form (are_several files) all
     → answer.status ≡ status_of (count_differing all)
     → files_of answer.file ≡ junit_files junit_path files all → IsReportOf only form junit_path files answer
 reported only form junit_path files tests all answer chosen same right said ended made =

@@ -2,7 +2,7 @@
 use Rattle.std.specs.Prelude.{◌≡◌, ℕ, nat_lt, Bool, List, [], ◌∷◌, Option, None, Some, length}
 use Rattle.std.specs.String.{string_bytes}
 use Rattle.command_files.specs.Answers.{files_of}
-use Rattle.command_files.specs.Files.{Made}
+use Rattle.command_files.specs.Files.{MadeFile}
 use Rattle.command_files.specs.declared.answer.Answer.{Answer}
 use Rattle.command_files.specs.declared.status.Status.TheVariants.{Done}
 use Rattle.command_test.specs.InJson.{json_report}
@@ -21,13 +21,13 @@ abbrev pub are_several : List CaseFile → Bool
 are_several files = nat_lt 1 (length files)
 
 -- what is printed: the report, the form of TAP, or JSON Lines
-abbrev pub printed : ReportForm → Bool → List Judged → List ℕ
-printed forms.Text several all = report several all
-printed forms.Tap several all = tap_text all
-printed forms.JsonLines several all = json_report all
+abbrev pub printed_report : ReportForm → Bool → List Judged → List ℕ
+printed_report forms.Text several all = report several all
+printed_report forms.Tap several all = tap_text all
+printed_report forms.JsonLines several all = json_report all
 
 -- the JUnit report at this path, if there is one
-abbrev pub junit_files : Option (List ℕ) → List CaseFile → List Judged → List Made
+abbrev pub junit_files : Option (List ℕ) → List CaseFile → List Judged → List MadeFile
 junit_files None files all = []
 junit_files (Some path) files all = record { path = path; bytes = junit_text (are_several files) files all } ∷ []
 
@@ -44,6 +44,6 @@ pub record IsReportOf (only : Option (List ℕ)) (form : ReportForm) (junit_path
     (files : List CaseFile) (answer : Answer) : Type 0 where
   pub all : List Judged
   pub played : ArePlayed only files all
-  pub text_is : string_bytes answer.text ≡ printed form (are_several files) all
+  pub text_is : string_bytes answer.text ≡ printed_report form (are_several files) all
   pub status_is : answer.status ≡ status_of (count_differing all)
   pub made_is : files_of answer.file ≡ junit_files junit_path files all

@@ -9,7 +9,7 @@ use Rattle.device_machine.specs.declared.output.Output.{Output}
 use Rattle.device_machine.specs.declared.output.Output.TheVariants.{Send, Act}
 use Rattle.scenario_words.specs.CauseWords.{cause_words}
 use Rattle.scenario_words.specs.HexWord.{hex_word}
-use Rattle.scenario_words.specs.ValueWords.{spelled}
+use Rattle.scenario_words.specs.ValueWords.{spelling_of_value}
 use Rattle.scenario_words.specs.Words.{ended_line}
 use Rattle.scenario_words.specs.declared.cause.Cause.{Cause}
 use Rattle.message_words.specs.Text.{reading_text}
@@ -47,7 +47,7 @@ all_output_lines form (output ∷ outputs) = flat_map (output_lines form) (outpu
 
 abbrev pub value_or_none : Option Value → List ℕ
 value_or_none None = codes "none"
-value_or_none (Some v) = spelled v
+value_or_none (Some v) = spelling_of_value v
 
 abbrev pub number_or_none : Option ℕ → List ℕ
 number_or_none None = codes "none"

@@ -12,7 +12,7 @@ use Rattle.case_play.specs.declared.verdict.Verdict.{Verdict}
 use Rattle.case_play.specs.declared.verdict.Verdict.TheVariants.{Passes, Differs, Refused}
 use Rattle.command_files.specs.declared.status.Status.{Status}
 use Rattle.command_files.specs.declared.status.Status.TheVariants.{Done, NotRun}
-use Rattle.test_reports.specs.Report.{count_line, heading, line_at, placed}
+use Rattle.test_reports.specs.Report.{count_line, heading, line_at, line_with_number}
 use Rattle.command_test.specs.Came.{came_lines, said_line}
 use Rattle.command_test.specs.Stated.{sent_at}
 use Rattle.command_test.specs.declared.came.Form.TheVariants.{Lines}
@@ -35,14 +35,14 @@ said_of None = []
 said_of (Some bytes) = said_line bytes
 
 -- `TITLE, line N`, this line of the file, what the datagram says that it states, and what came
-abbrev pub differing : Bool → TestCase → ℕ → Came → List ℕ
-differing several test line came =
-    test_heading several test ++ placed line (line_at test.text.now line)
+abbrev pub difference_lines : Bool → TestCase → ℕ → Came → List ℕ
+difference_lines several test line came =
+    test_heading several test ++ line_with_number line (line_at test.text.now line)
     ++ said_of (sent_at test.case.now line) ++ came_lines Lines came
 
 -- `TITLE, line N: CAUSE`, and this line of the file
-abbrev pub refused : Bool → TestCase → ℕ → Cause → List ℕ
-refused several test line cause =
+abbrev pub refusal_lines : Bool → TestCase → ℕ → Cause → List ℕ
+refusal_lines several test line cause =
     ended_line (test_heading several test ++ codes ", line " ++ decimal line ++ codes ": " ++ cause_words cause)
     ++ ended_line (line_at test.text.now line)
 
@@ -54,8 +54,8 @@ refused_line test line = line_of_case test.case.now + line
 -- hold; where its text is refused, that line
 abbrev pub difference_by : Bool → TestCase → Verdict → List ℕ
 difference_by several test Passes = []
-difference_by several test (Differs line came) = differing several test line came
-difference_by several test (Refused line cause) = refused several test (refused_line test line) cause
+difference_by several test (Differs line came) = difference_lines several test line came
+difference_by several test (Refused line cause) = refusal_lines several test (refused_line test line) cause
 
 abbrev pub difference : Bool → Judged → List ℕ
 difference several judged = difference_by several judged.test judged.verdict

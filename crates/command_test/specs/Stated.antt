@@ -1,7 +1,7 @@
 -- The datagram that a line of a case states.
 use Rattle.std.specs.Prelude.{ℕ, ◌+◌, ◌*◌, ◌==◌, nat_lt, ◌&&◌, List, [], ◌∷◌, Option, None, Some, find, option_map}
 use Rattle.std.specs.Prelude.{if◌then◌else◌, option_and_then}
-use Rattle.scenario_words.specs.HexWord.{before}
+use Rattle.scenario_words.specs.HexWord.{with_first_byte}
 use Rattle.case_text.specs.declared.answer.Answer.{Answer}
 use Rattle.case_text.specs.declared.case.Case.{Case}
 use Rattle.case_text.specs.declared.case.Case.TheVariants as cases
@@ -19,7 +19,7 @@ known_byte (Is high) Any = None
 
 abbrev pub byte_before : Option ℕ → Option (List ℕ) → Option (List ℕ)
 byte_before None others = None
-byte_before (Some byte) others = before byte others
+byte_before (Some byte) others = with_first_byte byte others
 
 -- the bytes of digits, where each digit is stated
 abbrev pub known_bytes : List Digit → Option (List ℕ)

@@ -3,7 +3,7 @@ ghost use Rattle.std.specs.Prelude.{◌≡◌, ℕ, List, Option, map, option_ma
 ghost use Rattle.std.specs.String.{string_bytes};
 ghost use Rattle.command_files.specs.Answers.{files_of};
 ghost use Rattle.command_files.specs.declared.fault.Fault.TheVariants.{NoSuchCase};
-ghost use Rattle.command_test.specs.Answers.{IsReportOf, are_several, junit_files, printed};
+ghost use Rattle.command_test.specs.Answers.{IsReportOf, are_several, junit_files, printed_report};
 ghost use Rattle.command_test.specs.Jobs.{IsTestDone, IsTestFault, IsTitlesDone};
 ghost use Rattle.command_test.specs.Playing.{AreChosen};
 
@@ -121,7 +121,7 @@ fn printed(
     several: bool,
     all: &[Judged],
 ) -> Result<String, AllocError>
-    ensures { IfOk result (λ text. string_bytes text ≡ printed form several all.now) }
+    ensures { IfOk result (λ text. string_bytes text ≡ printed_report form several all.now) }
 {
     match form {
         ReportForm::Text => report(alloc, several, all),

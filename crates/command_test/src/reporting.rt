@@ -4,8 +4,8 @@ ghost use Rattle.std.specs.Fmt.{decimal};
 ghost use Rattle.std.specs.String.{string_bytes};
 ghost use Rattle.scenario_words.specs.CauseWords.{cause_words};
 ghost use Rattle.scenario_words.specs.Words.{ended_line};
-ghost use Rattle.command_test.specs.Report.{count_differing, difference, differences, differing, differs};
-ghost use Rattle.command_test.specs.Report.{refused, refused_line, report, said_of, status_of, test_heading};
+ghost use Rattle.command_test.specs.Report.{count_differing, difference, difference_lines, differences, differs};
+ghost use Rattle.command_test.specs.Report.{refusal_lines, refused_line, report, said_of, status_of, test_heading};
 ghost use Rattle.command_test.specs.Report.{titles_text};
 ghost use Rattle.command_test.specs.Stated.{sent_at};
 
@@ -134,7 +134,8 @@ fn put_differing(
     line: usize,
     came: &Came,
 ) -> Result<(), AllocError>
-    ensures { OnOk result (string_bytes out.new ≡ string_bytes out.old ++ differing several test.now line came.now) }
+    ensures { OnOk result (string_bytes out.new ≡ string_bytes out.old
+        ++ difference_lines several test.now line came.now) }
 {
     put_test_heading(out, several, test)?;
     put_placed(out, line, line_at(test.text, line as u128))?;
@@ -158,7 +159,7 @@ fn put_refused(
     line: u128,
     cause: Cause,
 ) -> Result<(), AllocError>
-    ensures { OnOk result (string_bytes out.new ≡ string_bytes out.old ++ refused several test.now line cause) }
+    ensures { OnOk result (string_bytes out.new ≡ string_bytes out.old ++ refusal_lines several test.now line cause) }
 {
     put_test_heading(out, several, test)?;
     put_cause(out, line, cause, line_at(test.text, line))

@@ -5,7 +5,7 @@ use Rattle.scenario_image.specs.Scenario.{Scenario}
 use Rattle.scenario_words.specs.declared.cause.Cause.{Cause}
 use Rattle.scenario_words.specs.declared.cause.Cause.TheVariants as cause
 use Rattle.scenario_asm.specs.Denotes.{Denotes}
-use Rattle.scenario_asm.specs.Text.{assembled}
+use Rattle.scenario_asm.specs.Text.{scenario_of_text}
 use Rattle.scenario_asm.specs.declared.fault.AsmFault.{AsmFault}
 use Rattle.command_files.specs.Fault.{IsReadingFault}
 use Rattle.command_files.specs.declared.fault.Fault.{Fault}
@@ -32,7 +32,7 @@ no_utf8 bytes broken = broken
 
 -- a text that denotes no scenario
 pub wrong_text : (bytes : List ℕ) (fault : AsmFault) (f : Fault) (why : Why)
-    → (fault.cause ≢ cause.Memory → assembled bytes ≡ Err fault)
+    → (fault.cause ≢ cause.Memory → scenario_of_text bytes ≡ Err fault)
     → IsRefusedText statement_cause bytes fault f why → IsNoText bytes f
 wrong_text bytes fault f why h (inl told) = subst (λ g. IsNoText bytes g) (sym told.1) (h told.0)
 wrong_text bytes fault f why h (inr memory) = subst (λ g. IsNoText bytes g) (sym memory.0) tt

@@ -3,7 +3,7 @@ use Rattle.std.specs.Prelude.{⊤, ℕ, ◌≡◌, ◌⊎◌, List, Err}
 use Rattle.std.specs.Str.{IsUtf8}
 use Rattle.scenario_image.specs.Scenario.{Scenario}
 use Rattle.scenario_asm.specs.Denotes.{Denotes}
-use Rattle.scenario_asm.specs.Text.{assembled}
+use Rattle.scenario_asm.specs.Text.{scenario_of_text}
 use Rattle.command_files.specs.Fault.{IsReadingFault}
 use Rattle.command_files.specs.Loading.{IsHeld}
 use Rattle.command_files.specs.declared.fault.Fault.{Fault}
@@ -15,7 +15,7 @@ use Rattle.command_texts.specs.Blamed.{IsBlamed, statement_cause}
 abbrev pub IsNoText : List ℕ → Fault → Type 0
 IsNoText bytes Memory = ⊤
 IsNoText bytes Read = IsUtf8 bytes → ⊥
-IsNoText bytes (Text fault) = assembled bytes ≡ Err fault
+IsNoText bytes (Text fault) = scenario_of_text bytes ≡ Err fault
 IsNoText bytes _ = ⊥
 
 -- what is said of bytes that are no text of a scenario: of a line that is refused what is to blame
@@ -35,5 +35,5 @@ IsTextFault holds fails path fault =
 -- what is said of it: of a line that is refused what is to blame, in the text that the file was
 abbrev pub IsTextWhyAt : (List ℕ → List ℕ → Type 0) → List ℕ → Fault → Why → Type 0
 IsTextWhyAt holds path (Text fault) why =
-    IsHeld holds path (λ bytes. (assembled bytes ≡ Err fault) × IsBlamed statement_cause bytes fault why)
+    IsHeld holds path (λ bytes. (scenario_of_text bytes ≡ Err fault) × IsBlamed statement_cause bytes fault why)
 IsTextWhyAt holds path _ why = ⊤

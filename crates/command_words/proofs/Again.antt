@@ -20,7 +20,7 @@ use Rattle.scenario_image.specs.Scenario.{is_within_limits}
 use Rattle.scenario_words.specs.declared.cause.Cause.{Cause}
 use Rattle.scenario_words.specs.declared.cause.Cause.TheVariants.{Limit, Range}
 use Rattle.scenario_words.specs.Number.{number_of}
-use Rattle.scenario_words.specs.Reading.{◌>>=◌, ended, word_by}
+use Rattle.scenario_words.specs.Reading.{◌>>=◌, check_of_end, word_by}
 use Rattle.scenario_words.proofs.NumberLaws.{number_of-law}
 use Rattle.scenario_words.proofs.PathLaws.{bind_ok}
 use Rattle.scenario_mnemonics.specs.declared.mnemonic.Mnemonic.{Mnemonic}
@@ -37,7 +37,8 @@ use Rattle.scenario_statements.specs.Acks.{ack_datagram, ack_from, ack_line}
 use Rattle.command_words.specs.Again.{AcksAreFound, AcksAreSaidAgain, IsSaidAgain, MnemonicsAreFound}
 use Rattle.command_words.specs.Again.{MnemonicsAreSaidAgain, OthersAreSaidAgain}
 use Rattle.command_words.specs.Saying.{said_text}
-use Rattle.command_words.specs.Spelling.{IsSpellDone, ack, arrival_of, denoted, denoted_by, said_words, stated}
+use Rattle.command_words.specs.Spelling.{IsSpellDone, ack, arrival_of, arrival_of_statement, arrival_of_statement_words}
+use Rattle.command_words.specs.Spelling.{denoted_by, said_words}
 use Rattle.command_words.proofs.Reading.{ended_same, good, word_here}
 use Rattle.command_words.proofs.Requests.{request_read}
 use Rattle.command_words.proofs.Sayings.{Begins, ack_begins, ack_small, mnemonic_begins, other_begins}
@@ -75,7 +76,7 @@ limited a b true h = cc
 limited a b false h = cc
 
 -- the datagram of a `recv`, and of a mnemonic, which fits
-recv_is : (server : ℕ) (bytes : List ℕ) (a : Arrival) → denoted (says.Recv server bytes) ≡ arrived a
+recv_is : (server : ℕ) (bytes : List ℕ) (a : Arrival) → arrival_of_statement (says.Recv server bytes) ≡ arrived a
     → bytes ≡ a.bytes
 recv_is server bytes a h =
     ap (λ (x : Arrival). x.bytes) (limited (record { server = server; bytes = bytes }) a
@@ -86,7 +87,7 @@ fitting : (a b : Arrival) (fits within : Bool)
 fitting a b true within h = (refl, limited a b within h)
 fitting a b false within h = cc
 
-request_is : (server : ℕ) (m : Mnemonic) (a : Arrival) → denoted (says.Request server m) ≡ arrived a
+request_is : (server : ℕ) (m : Mnemonic) (a : Arrival) → arrival_of_statement (says.Request server m) ≡ arrived a
     → (fits_mnemonic m ≡ true) × (datagram_of m ≡ a.bytes)
 request_is server m a h =
     let f = fitting (record { server = server; bytes = datagram_of m }) a (fits_mnemonic m)
@@ -95,7 +96,7 @@ request_is server m a h =
 
 -- words that say a statement denote what the statement denotes
 denoted_so : (ws : List (List ℕ)) (s : Statement) (a : Arrival) → statement_of ws ≡ Ok (Some s)
-    → arrival_of ws ≡ arrived a → denoted s ≡ arrived a
+    → arrival_of ws ≡ arrived a → arrival_of_statement s ≡ arrived a
 denoted_so [] s a is_said h = cc
 denoted_so (w ∷ ws) s a is_said h = elim (cases_Bool (bytes_eq w (codes "ack"))) [
   | inl same ↦
@@ -104,7 +105,7 @@ denoted_so (w ∷ ws) s a is_said h = elim (cases_Bool (bytes_eq w (codes "ack")
       cc
   | inr other ↦
       ap (λ r. r >>= denoted_by) (sym is_said)
-      ∙ sym (ap (λ b. cond b (ack ws) (stated (w ∷ ws))) other)
+      ∙ sym (ap (λ b. cond b (ack ws) (arrival_of_statement_words (w ∷ ws))) other)
       ∙ h
 ]
 
@@ -119,8 +120,9 @@ ack_from_is : (server mid : ℕ) (x : Ack) → mid < 65536 → ack_from (decimal
     → mid ≡ x.mid
 ack_from_is server mid x small h =
     let s = word_here (number_of 1 65534 (decimal server)) (decimal mid ∷ [])
-    (λ s. word_by (number_of 0 65535) s.1 >>= (λ m. ended m.1 >>= (λ e. Ok (acking s.0 m.0)))) x h in
-    let m = word_here (number_of 0 65535 (decimal mid)) [] (λ m. ended m.1 >>= (λ e. Ok (acking s.0 m.0))) x s.2 in
+    (λ s. word_by (number_of 0 65535) s.1 >>= (λ m. check_of_end m.1 >>= (λ e. Ok (acking s.0 m.0)))) x h in
+    let m = word_here (number_of 0 65535 (decimal mid)) []
+    (λ m. check_of_end m.1 >>= (λ e. Ok (acking s.0 m.0))) x s.2 in
     let same : acking s.0 m.0 ≡ x = ended_same [] (acking s.0 m.0) x m.2 in
     let n = (number_of-law 0 65535 m.0 (decimal mid) (omega arith)).0 m.1 in
     let number : mid ≡ m.0 = decimal_injective mid m.0 (omega arith) (omega (arith, n.2)) n.0 in

@@ -10,7 +10,7 @@ use Rattle.std.proofs.lemmas.List.Elements.{filter-append}
 use Rattle.hex.specs.Hex.{decode_of}
 use Rattle.scenario_words.specs.Words.{lines}
 use Rattle.command_words.specs.Inside.{AreSaid, IsAdded, fault_at}
-use Rattle.command_words.specs.Logs.{AreDatagrams, IsFirstWrong, IsLogFault, hex_lines, read_as, trimmed}
+use Rattle.command_words.specs.Logs.{AreDatagrams, IsFirstWrong, IsLogFault, hex_lines, read_as, trimmed_line}
 use Rattle.command_words.specs.Saying.{said_text}
 use Rattle.command_files.specs.declared.fault.Fault.{Fault}
 use Rattle.command_files.specs.declared.fault.Fault.TheVariants as faults
@@ -20,7 +20,7 @@ use Rattle.command_files.specs.declared.fault.Fault.TheVariants as faults
 hex_lines-append : (xs ys : List (List ℕ)) → hex_lines (xs ++ ys) ≡ hex_lines xs ++ hex_lines ys
 hex_lines-append xs ys =
     let has : List ℕ → Bool = λ l. nat_lt 0 (length l) in
-    ap (filter has) (map-append trimmed xs ys) ∙ filter-append has (map trimmed xs) (map trimmed ys)
+    ap (filter has) (map-append trimmed_line xs ys) ∙ filter-append has (map trimmed_line xs) (map trimmed_line ys)
 
 are_more : (xs ys ds es : List (List ℕ)) → AreDatagrams xs ds → AreDatagrams ys es → AreDatagrams (xs ++ ys) (ds ++ es)
 are_more xs ys ds es first then = record {
@@ -31,24 +31,24 @@ are_more xs ys ds es first then = record {
 }
 
 -- what a line says that is empty, and one that is not
-pub no_datagram : (line : List ℕ) → trimmed line ≡ [] → AreDatagrams (line ∷ []) []
+pub no_datagram : (line : List ℕ) → trimmed_line line ≡ [] → AreDatagrams (line ∷ []) []
 no_datagram line none =
     record { read = ap (λ l. map decode_of (filter (λ m. nat_lt 0 (length m)) (l ∷ []))) none }
 
-pub one_datagram : (line bytes : List ℕ) → 0 < length (trimmed line) → decode_of (trimmed line) ≡ Ok bytes
+pub one_datagram : (line bytes : List ℕ) → 0 < length (trimmed_line line) → decode_of (trimmed_line line) ≡ Ok bytes
     → AreDatagrams (line ∷ []) (bytes ∷ [])
 one_datagram line bytes some is = record {
-  read = ap (λ b. map decode_of (cond b (trimmed line ∷ []) [])) (lt-ltb 0 (length (trimmed line)) some)
+  read = ap (λ b. map decode_of (cond b (trimmed_line line ∷ []) [])) (lt-ltb 0 (length (trimmed_line line)) some)
       ∙ ap (λ r. r ∷ []) is;
 }
 
-pub added_none : (server : ℕ) (line before after : List ℕ) → trimmed line ≡ [] → after ≡ before
+pub added_none : (server : ℕ) (line before after : List ℕ) → trimmed_line line ≡ [] → after ≡ before
     → IsAdded server line before after
 added_none server line before after none same =
     record { datagrams = []; are = no_datagram line none; text_is = same ∙ sym (append-nil before) }
 
-pub added_one : (server : ℕ) (line bytes before after : List ℕ) → 0 < length (trimmed line)
-    → decode_of (trimmed line) ≡ Ok bytes → after ≡ before ++ said_text server bytes
+pub added_one : (server : ℕ) (line bytes before after : List ℕ) → 0 < length (trimmed_line line)
+    → decode_of (trimmed_line line) ≡ Ok bytes → after ≡ before ++ said_text server bytes
     → IsAdded server line before after
 added_one server line bytes before after some is same = record {
   datagrams = bytes ∷ [];
@@ -86,7 +86,7 @@ one_more log server left more n line text new so_far first added = record {
 
 -- a line is wrong, and those before it are not
 pub first_wrong : (log : List ℕ) (server : ℕ) (left more : List (List ℕ)) (n : ℕ) (line text : List ℕ)
-    → IsSoFar log server left n text → left ≡ line ∷ more → IsErr (decode_of (trimmed line))
+    → IsSoFar log server left n text → left ≡ line ∷ more → IsErr (decode_of (trimmed_line line))
     → IsFirstWrong log (n + 1)
 first_wrong log server left more n line text so_far first wrong = record {
   before = so_far.done;
@@ -110,7 +110,8 @@ all_said log server n text so_far = record {
 
 pub log_fault : (log : List ℕ) (server : ℕ) (left more : List (List ℕ)) (n : ℕ) (line text : List ℕ) (f : Fault)
     → IsSoFar log server left n text → left ≡ line ∷ more
-    → (f ≡ faults.Memory) ⊎ ((f ≡ faults.Hex) × IsErr (decode_of (trimmed line))) → IsLogFault log (fault_at (n + 1) f)
+    → (f ≡ faults.Memory) ⊎ ((f ≡ faults.Hex) × IsErr (decode_of (trimmed_line line)))
+    → IsLogFault log (fault_at (n + 1) f)
 log_fault log server left more n line text f so_far first (inl memory) =
     subst (λ g. IsLogFault log (fault_at (n + 1) g)) (sym memory) tt
 log_fault log server left more n line text f so_far first (inr bad) =

@@ -9,7 +9,7 @@ use Rattle.scenario_words.specs.declared.cause.Cause.TheVariants.{Token}
 use Rattle.scenario_words.specs.HexWord.{ArePairs, IsHex, bytes_of}
 use Rattle.scenario_words.specs.Number.{number_of}
 use Rattle.scenario_words.specs.PathWord.{IsPath, path_of}
-use Rattle.scenario_words.specs.Reading.{◌>>=◌, ended, word_by}
+use Rattle.scenario_words.specs.Reading.{◌>>=◌, check_of_end, word_by}
 use Rattle.scenario_words.proofs.NumberLaws.{number_of-law}
 use Rattle.scenario_words.proofs.Pairs.{hex_law}
 use Rattle.scenario_words.proofs.PathLaws.{bind_ok, path_law}
@@ -25,13 +25,13 @@ use Rattle.scenario_mnemonics.specs.declared.verb.Keyword.TheVariants as keyword
 use Rattle.scenario_mnemonics.specs.declared.verb.Verb.{Verb}
 use Rattle.scenario_mnemonics.specs.declared.verb.Verb.TheVariants as verb
 use Rattle.scenario_mnemonics.specs.Messages.{IsGood, fields_of, fits_mnemonic, has_words}
-use Rattle.scenario_mnemonics.specs.MnemonicWords.{action_at, content_at, format_of, head_at, last_by}
-use Rattle.scenario_mnemonics.specs.MnemonicWords.{mnemonic_at, queries_at, said, short_token, token_at, type_of}
+use Rattle.scenario_mnemonics.specs.MnemonicWords.{action_at, content_at, format_of, head_at, last_by, mnemonic_at}
+use Rattle.scenario_mnemonics.specs.MnemonicWords.{queries_at, server_and_request, short_token, token_at, type_of}
 use Rattle.scenario_mnemonics.specs.Queries.{are_queries}
 
 -- ---- words that were read
 
-pub ended_same : {A : Type 0} (ws : List (List ℕ)) (x y : A) → (ended ws >>= (λ e. Ok x)) ≡ Ok y → x ≡ y
+pub ended_same : {A : Type 0} (ws : List (List ℕ)) (x y : A) → (check_of_end ws >>= (λ e. Ok x)) ≡ Ok y → x ≡ y
 ended_same [] x y h = cc
 ended_same (w ∷ ws) x y h = cc
 
@@ -63,7 +63,7 @@ taken read (w ∷ ws) f y h =
 alone : {A : Type 0} (read : List ℕ → Result A Cause) (ws : List (List ℕ)) (x : A) → last_by read ws ≡ Ok x
     → (w : List ℕ) × (read w ≡ Ok x)
 alone read ws x h =
-    let t = taken read ws (λ v. ended v.1 >>= (λ e. Ok v.0)) x h in
+    let t = taken read ws (λ v. check_of_end v.1 >>= (λ e. Ok v.0)) x h in
     (t.word, t.first ∙ ap (λ v. Ok v) (ended_same t.others t.value x t.rest))
 
 -- ---- bytes
@@ -194,10 +194,10 @@ head_sound ws y h =
 -- ---- mnemonics
 
 abbrev acted : Verb → Head × List (List ℕ) → Result (ℕ × Mnemonic) Cause
-acted v h = action_at v h.1 >>= (λ a. Ok (said h.0 a))
+acted v h = action_at v h.1 >>= (λ a. Ok (server_and_request h.0 a))
 
-good_request : (h : Head) (a : Action) → IsSoundHead h → IsSound a → fits_mnemonic (said h a).1 ≡ true
-    → IsGood (said h a).1
+good_request : (h : Head) (a : Action) → IsSoundHead h → IsSound a → fits_mnemonic (server_and_request h a).1 ≡ true
+    → IsGood (server_and_request h a).1
 good_request h a head action fits = record {
   mid = head.mid;
   token = head.short;
@@ -213,16 +213,17 @@ pub good : (k : Keyword) (ws : List (List ℕ)) (y : ℕ × Mnemonic) → mnemon
     → IsGood y.1
 good (keyword.Request v) ws y h fits =
     let b = bind_ok (head_at ws) (acted v) y h in
-    let c = bind_ok (action_at v b.0.1) (λ a. Ok (said b.0.0 a)) y b.2 in
-    let same : said b.0.0 c.0 ≡ y = cc (c.2) in
-    let fit : fits_mnemonic (said b.0.0 c.0).1 ≡ true =
+    let c = bind_ok (action_at v b.0.1) (λ a. Ok (server_and_request b.0.0 a)) y b.2 in
+    let same : server_and_request b.0.0 c.0 ≡ y = cc (c.2) in
+    let fit : fits_mnemonic (server_and_request b.0.0 c.0).1 ≡ true =
     ap (λ (x : ℕ × Mnemonic). fits_mnemonic x.1) same ∙ fits in
     subst (λ (x : ℕ × Mnemonic). IsGood x.1) same
     (good_request b.0.0 c.0 (head_sound ws b.0 b.1) (sound v b.0.1 c.0 c.1) fit)
 good keyword.Reset ws y h fits =
-    let s = taken (number_of 1 65534) ws (λ s. word_by (number_of 0 65535) s.1 >>= (λ m. ended m.1 >>=
+    let s = taken (number_of 1 65534) ws (λ s. word_by (number_of 0 65535) s.1 >>= (λ m. check_of_end m.1 >>=
     (λ e. Ok (s.0, mnemonic.Reset m.0)))) y h in
-    let m = taken (number_of 0 65535) s.others (λ m. ended m.1 >>= (λ e. Ok (s.value, mnemonic.Reset m.0))) y s.rest in
+    let m = taken (number_of 0 65535) s.others
+    (λ m. check_of_end m.1 >>= (λ e. Ok (s.value, mnemonic.Reset m.0))) y s.rest in
     let found : ℕ × Mnemonic = (s.value, mnemonic.Reset m.value) in
     let same : found ≡ y = ended_same m.others found y m.rest in
     let n = (number_of-law 0 65535 m.value m.word (omega arith)).0 m.first in

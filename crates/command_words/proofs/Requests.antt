@@ -8,7 +8,7 @@ use Rattle.scenario_words.specs.declared.cause.Cause.{Cause}
 use Rattle.scenario_words.specs.HexWord.{bytes_of}
 use Rattle.scenario_words.specs.Number.{number_of}
 use Rattle.scenario_words.specs.PathWord.{path_of}
-use Rattle.scenario_words.specs.Reading.{◌>>=◌, ended, word_by}
+use Rattle.scenario_words.specs.Reading.{◌>>=◌, check_of_end, word_by}
 use Rattle.scenario_words.specs.ValueWords.{kind_named, value_at}
 use Rattle.scenario_words.proofs.PathLaws.{bind_ok}
 use Rattle.scenario_mnemonics.specs.declared.mnemonic.Mnemonic.{Mnemonic}
@@ -16,8 +16,8 @@ use Rattle.scenario_mnemonics.specs.declared.verb.Keyword.{Keyword}
 use Rattle.scenario_mnemonics.specs.MnemonicWords.{keyword_named, mnemonic_at}
 use Rattle.scenario_statements.specs.declared.statement.Statement.{Statement}
 use Rattle.scenario_statements.specs.declared.statement.Statement.TheVariants as says
-use Rattle.scenario_statements.specs.Grammar.{definition, instance, named, need, notify, one_of, only_number, ops_named}
-use Rattle.scenario_statements.specs.Grammar.{put, recv, request, some, statement_by, statement_of, value}
+use Rattle.scenario_statements.specs.Grammar.{check_of_name, definition, instance, need, notify, one_of, only_number}
+use Rattle.scenario_statements.specs.Grammar.{ops_named, put, recv, request, some, statement_by, statement_of, value}
 
 -- a reading by a name gave a mnemonic: not by this name, so by the others
 other_name : (w name : List ℕ) (r s : Result Statement Cause) (server : ℕ) (m : Mnemonic) (P : Type 0)
@@ -37,22 +37,22 @@ of_number low high f ws server m other h =
     let same : f b.0 ≡ says.Request server m = cc (b.2) in other b.0 same
 
 of_class : (ws : List (List ℕ)) (server : ℕ) (m : Mnemonic)
-    → (ended ws >>= (λ e. Ok says.Class)) ≡ Ok (says.Request server m) → ⊥
+    → (check_of_end ws >>= (λ e. Ok says.Class)) ≡ Ok (says.Request server m) → ⊥
 of_class ws server m h =
-    let b = bind_ok (ended ws) (λ e. Ok says.Class) (says.Request server m) h in
+    let b = bind_ok (check_of_end ws) (λ e. Ok says.Class) (says.Request server m) h in
     let same : says.Class ≡ says.Request server m = cc (b.2) in cc
 
 of_notify : (ws : List (List ℕ)) (server : ℕ) (m : Mnemonic) → notify ws ≡ Ok (says.Request server m) → ⊥
 of_notify ws server m h =
-    let c = bind_ok (word_by (named (codes "con")) ws) (λ c. only_number 2 3 c.1 >>= (λ n. Ok (says.Notify n)))
+    let c = bind_ok (word_by (check_of_name (codes "con")) ws) (λ c. only_number 2 3 c.1 >>= (λ n. Ok (says.Notify n)))
     (says.Request server m) h in
     of_number 2 3 (λ n. says.Notify n) c.0.1 server m (λ n e. cc (e)) c.2
 
 -- the last word of a statement
 at_end : (ws : List (List ℕ)) (s : Statement) (server : ℕ) (m : Mnemonic) → (s ≡ says.Request server m → ⊥)
-    → (ended ws >>= (λ e. Ok s)) ≡ Ok (says.Request server m) → ⊥
+    → (check_of_end ws >>= (λ e. Ok s)) ≡ Ok (says.Request server m) → ⊥
 at_end ws s server m other h =
-    let b = bind_ok (ended ws) (λ e. Ok s) (says.Request server m) h in
+    let b = bind_ok (check_of_end ws) (λ e. Ok s) (says.Request server m) h in
     let same : s ≡ says.Request server m = cc (b.2) in other same
 
 of_definition : (ws : List (List ℕ)) (server : ℕ) (m : Mnemonic) → definition ws ≡ Ok (says.Request server m) → ⊥
@@ -60,25 +60,25 @@ of_definition ws server m h =
     let a = bind_ok (word_by (number_of 0 65535) ws) (λ id. word_by ops_named id.1 >>=
     (λ ops. word_by (one_of (codes "multiple") (codes "single")) ops.1 >>=
     (λ multiple. word_by (one_of (codes "mandatory") (codes "optional")) multiple.1 >>=
-    (λ mandatory. word_by kind_named mandatory.1 >>= (λ kind. ended kind.1 >>= (λ e. Ok (says.Def (record
+    (λ mandatory. word_by kind_named mandatory.1 >>= (λ kind. check_of_end kind.1 >>= (λ e. Ok (says.Def (record
     { id = id.0; ops = ops.0; multiple = multiple.0; mandatory = mandatory.0; kind = kind.0 }))))))))
     (says.Request server m) h in
     let b = bind_ok (word_by ops_named a.0.1)
     (λ ops. word_by (one_of (codes "multiple") (codes "single")) ops.1 >>=
     (λ multiple. word_by (one_of (codes "mandatory") (codes "optional")) multiple.1 >>=
-    (λ mandatory. word_by kind_named mandatory.1 >>= (λ kind. ended kind.1 >>= (λ e. Ok (says.Def (record
+    (λ mandatory. word_by kind_named mandatory.1 >>= (λ kind. check_of_end kind.1 >>= (λ e. Ok (says.Def (record
     { id = a.0.0; ops = ops.0; multiple = multiple.0; mandatory = mandatory.0; kind = kind.0 })))))))
     (says.Request server m) a.2 in
     let c = bind_ok (word_by (one_of (codes "multiple") (codes "single")) b.0.1)
     (λ multiple. word_by (one_of (codes "mandatory") (codes "optional")) multiple.1 >>=
-    (λ mandatory. word_by kind_named mandatory.1 >>= (λ kind. ended kind.1 >>= (λ e. Ok (says.Def (record
+    (λ mandatory. word_by kind_named mandatory.1 >>= (λ kind. check_of_end kind.1 >>= (λ e. Ok (says.Def (record
     { id = a.0.0; ops = b.0.0; multiple = multiple.0; mandatory = mandatory.0; kind = kind.0 }))))))
     (says.Request server m) b.2 in
     let d = bind_ok (word_by (one_of (codes "mandatory") (codes "optional")) c.0.1)
-    (λ mandatory. word_by kind_named mandatory.1 >>= (λ kind. ended kind.1 >>= (λ e. Ok (says.Def (record
+    (λ mandatory. word_by kind_named mandatory.1 >>= (λ kind. check_of_end kind.1 >>= (λ e. Ok (says.Def (record
     { id = a.0.0; ops = b.0.0; multiple = c.0.0; mandatory = mandatory.0; kind = kind.0 })))))
     (says.Request server m) c.2 in
-    let k = bind_ok (word_by kind_named d.0.1) (λ kind. ended kind.1 >>= (λ e. Ok (says.Def (record
+    let k = bind_ok (word_by kind_named d.0.1) (λ kind. check_of_end kind.1 >>= (λ e. Ok (says.Def (record
     { id = a.0.0; ops = b.0.0; multiple = c.0.0; mandatory = d.0.0; kind = kind.0 }))))
     (says.Request server m) d.2 in
     at_end k.0.1 (says.Def (record { id = a.0.0; ops = b.0.0; multiple = c.0.0; mandatory = d.0.0; kind = k.0.0 }))
@@ -86,40 +86,45 @@ of_definition ws server m h =
 
 of_instance : (ws : List (List ℕ)) (server : ℕ) (m : Mnemonic) → instance ws ≡ Ok (says.Request server m) → ⊥
 of_instance ws server m h =
-    let o = bind_ok (word_by (number_of 0 65535) ws) (λ o. word_by (number_of 0 65534) o.1 >>= (λ i. ended i.1 >>=
+    let o = bind_ok (word_by (number_of 0 65535) ws)
+    (λ o. word_by (number_of 0 65534) o.1 >>= (λ i. check_of_end i.1 >>=
     (λ e. Ok (says.Instance (record { object = o.0; instance = i.0 }))))) (says.Request server m) h in
-    let i = bind_ok (word_by (number_of 0 65534) o.0.1) (λ i. ended i.1 >>=
+    let i = bind_ok (word_by (number_of 0 65534) o.0.1) (λ i. check_of_end i.1 >>=
     (λ e. Ok (says.Instance (record { object = o.0.0; instance = i.0 })))) (says.Request server m) o.2 in
     at_end i.0.1 (says.Instance (record { object = o.0.0; instance = i.0.0 })) server m (λ e. cc (e)) i.2
 
 of_value : (ws : List (List ℕ)) (server : ℕ) (m : Mnemonic) → value ws ≡ Ok (says.Request server m) → ⊥
 of_value ws server m h =
-    let p = bind_ok (word_by path_of ws) (λ p. value_at p.1 >>= (λ v. ended v.1 >>= (λ e. Ok (says.Value p.0 v.0))))
+    let p = bind_ok (word_by path_of ws) (λ p. value_at p.1 >>=
+    (λ v. check_of_end v.1 >>= (λ e. Ok (says.Value p.0 v.0))))
     (says.Request server m) h in
-    let v = bind_ok (value_at p.0.1) (λ v. ended v.1 >>= (λ e. Ok (says.Value p.0.0 v.0)))
+    let v = bind_ok (value_at p.0.1) (λ v. check_of_end v.1 >>= (λ e. Ok (says.Value p.0.0 v.0)))
     (says.Request server m) p.2 in
     at_end v.0.1 (says.Value p.0.0 v.0.0) server m (λ e. cc (e)) v.2
 
 of_put : (ws : List (List ℕ)) (server : ℕ) (m : Mnemonic) → put ws ≡ Ok (says.Request server m) → ⊥
 of_put ws server m h =
-    let p = bind_ok (word_by path_of ws) (λ p. value_at p.1 >>= (λ v. ended v.1 >>= (λ e. Ok (says.Put p.0 v.0))))
+    let p = bind_ok (word_by path_of ws) (λ p. value_at p.1 >>=
+    (λ v. check_of_end v.1 >>= (λ e. Ok (says.Put p.0 v.0))))
     (says.Request server m) h in
-    let v = bind_ok (value_at p.0.1) (λ v. ended v.1 >>= (λ e. Ok (says.Put p.0.0 v.0))) (says.Request server m) p.2 in
+    let v = bind_ok (value_at p.0.1) (λ v. check_of_end v.1 >>= (λ e. Ok (says.Put p.0.0 v.0)))
+    (says.Request server m) p.2 in
     at_end v.0.1 (says.Put p.0.0 v.0.0) server m (λ e. cc (e)) v.2
 
 of_recv : (ws : List (List ℕ)) (server : ℕ) (m : Mnemonic) → recv ws ≡ Ok (says.Request server m) → ⊥
 of_recv ws server m h =
-    let s = bind_ok (word_by (number_of 1 65534) ws) (λ s. word_by bytes_of s.1 >>= (λ b. ended b.1 >>=
+    let s = bind_ok (word_by (number_of 1 65534) ws) (λ s. word_by bytes_of s.1 >>= (λ b. check_of_end b.1 >>=
     (λ e. Ok (says.Recv s.0 b.0)))) (says.Request server m) h in
-    let b = bind_ok (word_by bytes_of s.0.1) (λ b. ended b.1 >>= (λ e. Ok (says.Recv s.0.0 b.0)))
+    let b = bind_ok (word_by bytes_of s.0.1) (λ b. check_of_end b.1 >>= (λ e. Ok (says.Recv s.0.0 b.0)))
     (says.Request server m) s.2 in
     at_end b.0.1 (says.Recv s.0.0 b.0.0) server m (λ e. cc (e)) b.2
 
 of_need : (ws : List (List ℕ)) (server : ℕ) (m : Mnemonic) → need ws ≡ Ok (says.Request server m) → ⊥
 of_need ws server m h =
-    let g = bind_ok (word_by (number_of 0 255) ws) (λ g. word_by (number_of 1 1000000) g.1 >>= (λ n. ended n.1 >>=
+    let g = bind_ok (word_by (number_of 0 255) ws)
+    (λ g. word_by (number_of 1 1000000) g.1 >>= (λ n. check_of_end n.1 >>=
     (λ e. Ok (says.Need g.0 n.0)))) (says.Request server m) h in
-    let n = bind_ok (word_by (number_of 1 1000000) g.0.1) (λ n. ended n.1 >>= (λ e. Ok (says.Need g.0.0 n.0)))
+    let n = bind_ok (word_by (number_of 1 1000000) g.0.1) (λ n. check_of_end n.1 >>= (λ e. Ok (says.Need g.0.0 n.0)))
     (says.Request server m) g.2 in
     at_end n.0.1 (says.Need g.0.0 n.0.0) server m (λ e. cc (e)) n.2
 

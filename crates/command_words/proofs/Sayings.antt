@@ -24,7 +24,7 @@ use Rattle.scenario_statements.specs.declared.statement.Statement.TheVariants as
 use Rattle.scenario_statements.specs.Spelling.{line_of}
 use Rattle.scenario_asm.specs.Canonical.{of_datagram}
 use Rattle.trace_text.specs.Lines.{said_line}
-use Rattle.scenario_statements.specs.Acks.{ack_datagram, ack_line, acknowledged, empty_ack, is_ack}
+use Rattle.scenario_statements.specs.Acks.{ack_datagram, ack_line, acknowledged_id, empty_ack, is_ack}
 use Rattle.command_words.specs.Saying.{said_text, text_as}
 
 -- what is said of a datagram begins with this line
@@ -40,7 +40,7 @@ request_acks : (k : RequestType) (b : Bool) (mid : ℕ) → cond (is_ack (kind_o
 request_acks kind.Con b mid = refl
 request_acks kind.Non b mid = refl
 
-acks_none : (m : Mnemonic) → acknowledged (reading (message_of m)) ≡ None
+acks_none : (m : Mnemonic) → acknowledged_id (reading (message_of m)) ≡ None
 acks_none (mnemonic.Request r) = request_acks r.kind ((message_of (mnemonic.Request r)).code == 0) r.mid
 acks_none (mnemonic.Reset mid) = refl
 
@@ -49,7 +49,7 @@ pub mnemonic_begins : (server : ℕ) (bytes : List ℕ) (m : Mnemonic) → All (
 mnemonic_begins server bytes m octets good same =
     let read : reading_of bytes ≡ reading (message_of m) =
     ap reading_of (sym same) ∙ read_spelling (message_of m) (well_formed m good) in
-    let none : acknowledged (reading_of bytes) ≡ None = ap acknowledged read ∙ acks_none m in
+    let none : acknowledged_id (reading_of bytes) ≡ None = ap acknowledged_id read ∙ acks_none m in
     let found : mnemonic_of bytes ≡ Some m = (denotes bytes m octets).1 (good, same) in
     record {
       text_is = ap (λ a. text_as a server bytes) none
@@ -70,7 +70,7 @@ ack_well_formed mid small = record {
 pub ack_begins : (server mid : ℕ) → mid < 65536 → Begins server (ack_datagram mid) (ack_line server mid)
 ack_begins server mid small =
     let read = read_spelling (empty_ack mid) (ack_well_formed mid small) in
-    record { text_is = ap (λ r. text_as (acknowledged r) server (ack_datagram mid)) read }
+    record { text_is = ap (λ r. text_as (acknowledged_id r) server (ack_datagram mid)) read }
 
 -- ---- any other
 
@@ -91,7 +91,7 @@ abbrev spelled : Kind → ℕ → ℕ → List ℕ → List Opt → List ℕ →
 spelled k c i t o p = spelling (record { kind = k; code = c; mid = i; token = t; options = o; payload = p })
 
 -- a well-formed message that is read as an Empty ACK is spelled as that
-ack_spelled : (m : Message) (ack : ℕ) → IsWellFormed m → acknowledged (reading m) ≡ Some ack
+ack_spelled : (m : Message) (ack : ℕ) → IsWellFormed m → acknowledged_id (reading m) ≡ Some ack
     → spelling m ≡ ack_datagram ack
 ack_spelled m ack formed h =
     let is = acked m.kind m.code m.mid ack (m.code == 0) refl h in
@@ -104,17 +104,17 @@ ack_spelled m ack formed h =
     ∙ ap (λ p. spelled Ack 0 ack [] [] p) (nil_from_length m.payload none.2)
 
 ack_of : (bytes : List ℕ) (ack : ℕ) → All (λ b. b < 256) bytes → (r : Result Message CoapFault) → reading_of bytes ≡ r
-    → acknowledged r ≡ Some ack → ack_datagram ack ≡ bytes
+    → acknowledged_id r ≡ Some ack → ack_datagram ack ≡ bytes
 ack_of bytes ack octets (Ok m) read h =
     let spells = spelled_from_reading bytes m octets read in
     sym (spells.parts ∙ ack_spelled m ack spells.well_formed h)
 ack_of bytes ack octets (Err fault) read h = cc
 
 none_acked : (bytes : List ℕ) → All (λ b. b < 256) bytes → ((mid : ℕ) → ack_datagram mid ≡ bytes → ⊥)
-    → acknowledged (reading_of bytes) ≡ None
-none_acked bytes octets none = by (acknowledged (reading_of bytes)) refl
+    → acknowledged_id (reading_of bytes) ≡ None
+none_acked bytes octets none = by (acknowledged_id (reading_of bytes)) refl
   where
-    by : (o : Option ℕ) → acknowledged (reading_of bytes) ≡ o → o ≡ None
+    by : (o : Option ℕ) → acknowledged_id (reading_of bytes) ≡ o → o ≡ None
     by None is = refl
     by (Some ack) is = absurd (none ack (ack_of bytes ack octets (reading_of bytes) refl is))
 

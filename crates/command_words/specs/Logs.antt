@@ -1,5 +1,6 @@
 -- What `say -` prints of a log: of each line that is not empty, what `say` prints of its datagram.
-use Rattle.std.specs.Prelude.{⊤, ℕ, ◌≡◌, ◌+◌, ◌==◌, nat_lt, List, [], ◌∷◌, ◌++◌, map, reverse, filter, length, Result, Ok, IsErr}
+use Rattle.std.specs.Prelude.{⊤, ℕ, ◌≡◌, ◌+◌, ◌==◌, nat_lt, List, [], ◌∷◌, ◌++◌, map, reverse, filter, length, Result}
+use Rattle.std.specs.Prelude.{Ok, IsErr}
 use Rattle.std.specs.Prelude.{if◌then◌else◌}
 use Rattle.std.specs.List.{flat_map}
 use Rattle.std.specs.String.{string_bytes}
@@ -20,12 +21,12 @@ after_spaces [] = []
 after_spaces (b ∷ bs) = if b == 32 then after_spaces bs else b ∷ bs
 
 -- a line without the spaces around it
-abbrev pub trimmed : List ℕ → List ℕ
-trimmed line = reverse (after_spaces (reverse (after_spaces line)))
+abbrev pub trimmed_line : List ℕ → List ℕ
+trimmed_line line = reverse (after_spaces (reverse (after_spaces line)))
 
 -- the lines that are not empty, without the spaces around them
 abbrev pub hex_lines : List (List ℕ) → List (List ℕ)
-hex_lines ls = filter (λ l. nat_lt 0 (length l)) (map trimmed ls)
+hex_lines ls = filter (λ l. nat_lt 0 (length l)) (map trimmed_line ls)
 
 -- hex that is read as these bytes
 abbrev pub read_as : List ℕ → Result (List ℕ) FromHexError
@@ -52,7 +53,7 @@ pub record IsFirstWrong (log : List ℕ) (line : ℕ) : Type 0 where
   pub count : line ≡ length before + 1
   pub datagrams : List (List ℕ)
   pub are : AreDatagrams before datagrams
-  pub wrong : IsErr (decode_of (trimmed here))
+  pub wrong : IsErr (decode_of (trimmed_line here))
 
 -- a line of the log is not hex; or memory ran out
 abbrev pub IsLogFault : List ℕ → Fault → Type 0

@@ -12,7 +12,7 @@ use Rattle.command_files.specs.declared.answer.Answer.{Answer}
 use Rattle.command_files.specs.declared.fault.Fault.{Fault}
 use Rattle.command_files.specs.declared.fault.Fault.TheVariants as faults
 use Rattle.command_files.specs.declared.status.Status.TheVariants.{Done}
-use Rattle.scenario_statements.specs.Acks.{ack_line, acknowledged}
+use Rattle.scenario_statements.specs.Acks.{ack_line, acknowledged_id}
 
 -- of an Empty ACK of this message ID `ack S MID` and what it says, of any other its words and what it says, as `show`
 -- prints them where it arrives
@@ -22,7 +22,7 @@ text_as (Some mid) server bytes = ended_line (ack_line server mid) ++ said_line 
 
 -- the lines of a datagram that comes from a server: the statement that denotes it, and what it says in words
 abbrev pub said_text : ℕ → List ℕ → List ℕ
-said_text server bytes = text_as (acknowledged (reading_of bytes)) server bytes
+said_text server bytes = text_as (acknowledged_id (reading_of bytes)) server bytes
 
 -- `say HEX [--server S]`
 pub record IsSayDone (hex : List ℕ) (server : ℕ) (answer : Answer) : Type 0 where

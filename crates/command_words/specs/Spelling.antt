@@ -31,11 +31,11 @@ abbrev pub within_limits : Arrival → Result (Option Arrival) Cause
 within_limits a = if is_within_limits (Event (Recv a.server a.bytes)) then Ok (Some a) else Err Limit
 
 -- the datagram that a statement denotes, if it denotes one; the path of a mnemonic has as many numbers as it needs
-abbrev pub denoted : Statement → Result (Option Arrival) Cause
-denoted (says.Recv server bytes) = within_limits (record { server = server; bytes = bytes })
-denoted (says.Request server m) =
+abbrev pub arrival_of_statement : Statement → Result (Option Arrival) Cause
+arrival_of_statement (says.Recv server bytes) = within_limits (record { server = server; bytes = bytes })
+arrival_of_statement (says.Request server m) =
     if fits_mnemonic m then within_limits (record { server = server; bytes = datagram_of m }) else Err Range
-denoted _ = Ok None
+arrival_of_statement _ = Ok None
 
 -- the datagram of the words after `ack`
 abbrev pub ack : List (List ℕ) → Result (Option Arrival) Cause
@@ -44,16 +44,16 @@ ack ws = ack_from ws >>= (λ a. Ok (Some (record { server = a.server; bytes = ac
 -- a line without words states nothing, and is refused as a text that states nothing is
 abbrev pub denoted_by : Option Statement → Result (Option Arrival) Cause
 denoted_by None = Err Missing
-denoted_by (Some s) = denoted s
+denoted_by (Some s) = arrival_of_statement s
 
 -- the datagram of the statement that words say
-abbrev pub stated : List (List ℕ) → Result (Option Arrival) Cause
-stated ws = statement_of ws >>= denoted_by
+abbrev pub arrival_of_statement_words : List (List ℕ) → Result (Option Arrival) Cause
+arrival_of_statement_words ws = statement_of ws >>= denoted_by
 
 -- the datagram that words denote, if they denote one: those of `ack`, or those of a statement
 abbrev pub arrival_of : List (List ℕ) → Result (Option Arrival) Cause
 arrival_of [] = Err Missing
-arrival_of (w ∷ ws) = if bytes_eq w (codes "ack") then ack ws else stated (w ∷ ws)
+arrival_of (w ∷ ws) = if bytes_eq w (codes "ack") then ack ws else arrival_of_statement_words (w ∷ ws)
 
 -- the words of the command line, joined by spaces, as the words of one line
 abbrev pub said_words : List (List ℕ) → List (List ℕ)

@@ -3,7 +3,8 @@ ghost use Rattle.std.specs.Prelude.{◌≡◌, IfOk};
 ghost use Rattle.scenario_words.specs.Reading.{Gives};
 ghost use Rattle.scenario_words.specs.Words.{words};
 ghost use Rattle.command_texts.specs.Blamed.{cause_in};
-ghost use Rattle.command_words.specs.Spelling.{ack, arrival_of, denoted, stated, within_limits, words_cause};
+ghost use Rattle.command_words.specs.Spelling.{ack, arrival_of, arrival_of_statement, arrival_of_statement_words};
+ghost use Rattle.command_words.specs.Spelling.{within_limits, words_cause};
 
 use command_texts::statement_cause;
 use octets::Bytes;
@@ -37,7 +38,7 @@ fn within_limits(arrival: Arrival) -> Result<Option<Arrival>, Cause>
 
 /// The datagram that a statement denotes, if it denotes one.
 fn denoted(alloc: Global, statement: Statement) -> Result<Option<Arrival>, Cause>
-    ensures { Gives (λ a. a) result (denoted statement) }
+    ensures { Gives (λ a. a) result (arrival_of_statement statement) }
 {
     match statement {
         Statement::Recv { server, bytes } => within_limits(Arrival { server, bytes }),
@@ -54,7 +55,7 @@ fn denoted(alloc: Global, statement: Statement) -> Result<Option<Arrival>, Cause
 
 /// The datagram of the statement of a line.
 fn stated(alloc: Global, line: &[u8]) -> Result<Option<Arrival>, Cause>
-    ensures { Gives (λ a. a) result (stated (words line.now)) }
+    ensures { Gives (λ a. a) result (arrival_of_statement_words (words line.now)) }
 {
     match read_statement(alloc, line)? {
         Some(statement) => denoted(alloc, statement),

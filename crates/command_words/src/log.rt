@@ -3,7 +3,7 @@ ghost use Rattle.std.specs.Prelude.{◌≡◌, ◌⊎◌, reverse, IfErr, IfOk, 
 ghost use Rattle.std.specs.String.{string_bytes};
 ghost use Rattle.hex.specs.Hex.{decode_of};
 ghost use Rattle.command_words.specs.Inside.{AreSaid, IsAdded, fault_at};
-ghost use Rattle.command_words.specs.Logs.{IsLogFault, IsLogSaid, after_spaces, trimmed};
+ghost use Rattle.command_words.specs.Logs.{IsLogFault, IsLogSaid, after_spaces, trimmed_line};
 
 use crate::saying::said_text;
 use command_files::{Answer, Fault, Refusal, Status, Why};
@@ -48,7 +48,7 @@ fn datagram_in(alloc: Global, hex: &[u8]) -> Result<Bytes, Fault>
 fn put_line(alloc: Global, out: &mut String, server: u16, line: &[u8]) -> Result<(), Fault>
     ensures said { OnOk result (IsAdded server line.now (string_bytes out.old) (string_bytes out.new)) }
     ensures refused { IfErr result (λ e.
-        (e ≡ Fault.Memory) ⊎ ((e ≡ Fault.Hex) × IsErr (decode_of (trimmed line.now)))) }
+        (e ≡ Fault.Memory) ⊎ ((e ≡ Fault.Hex) × IsErr (decode_of (trimmed_line line.now)))) }
 {
     let hex = before_spaces(after_spaces(line));
     if hex.is_empty() {

@@ -8,7 +8,7 @@ use Rattle.std.proofs.lemmas.Slice.Eq.{bytes_eq-Decides}
 use Rattle.hex.specs.Hex.{hex_digit_value}
 use Rattle.object_defs.specs.declared.path.Path.{Path}
 use Rattle.scenario_words.specs.declared.cause.Cause.{Cause}
-use Rattle.scenario_words.specs.Reading.{◌>>=◌, word_by, ended}
+use Rattle.scenario_words.specs.Reading.{◌>>=◌, word_by, check_of_end}
 use Rattle.scenario_words.specs.Number.{number_of}
 use Rattle.scenario_words.specs.HexWord.{IsByte}
 use Rattle.scenario_words.specs.PathWord.{IsPath, path_of}
@@ -26,7 +26,8 @@ by_name w name r s x P named other h = elim (cases_Bool (bytes_eq w name)) [
   | inr differs ↦ other (sym (ap (λ t. cond t r s) differs) ∙ h)
 ]
 
-pub ended_read : {A : Type 0} (ws : List (List ℕ)) (x y : A) → (ended ws >>= (λ e. Ok x)) ≡ Ok y → (ws ≡ []) × (x ≡ y)
+pub ended_read : {A : Type 0} (ws : List (List ℕ)) (x y : A) → (check_of_end ws >>= (λ e. Ok x)) ≡ Ok y → (ws ≡ [])
+    × (x ≡ y)
 ended_read [] x y h = (refl, cc)
 ended_read (w ∷ ws) x y h = cc
 
@@ -62,7 +63,7 @@ number_read high n w small h = let l = (number_of-law 0 high n w small).0 h in (
 pub only_read : (high n : ℕ) (ws : List (List ℕ)) → high < 2 ^ 64 → only_number high ws ≡ Ok n
     → (ws ≡ decimal n ∷ []) × (n ≤ high)
 only_read high n ws small h =
-    let t = taken (number_of 0 high) ws (λ m. ended m.1 >>= (λ e. Ok m.0)) n h in
+    let t = taken (number_of 0 high) ws (λ m. check_of_end m.1 >>= (λ e. Ok m.0)) n h in
     let end = ended_read t.others t.value n t.rest in
     let number = number_read high t.value t.word small t.first in
     (cc (t.all, number.0, end.0, end.1), subst (λ m. m ≤ high) end.1 number.1)
@@ -77,8 +78,8 @@ pub pair_read : (x : ℕ × Path) (ws : List (List ℕ)) → device_and_path ws 
     → (ws ≡ decimal x.0 ∷ path_text x.1 ∷ []) × (x.0 < 2 ^ 16) × IsPath x.1
 pair_read x ws h =
     let first = taken (number_of 0 65535) ws
-    (λ m. word_by path_of m.1 >>= (λ q. ended q.1 >>= (λ e. Ok (m.0, q.0)))) x h in
-    let second = taken path_of first.others (λ q. ended q.1 >>= (λ e. Ok (first.value, q.0))) x first.rest in
+    (λ m. word_by path_of m.1 >>= (λ q. check_of_end q.1 >>= (λ e. Ok (m.0, q.0)))) x h in
+    let second = taken path_of first.others (λ q. check_of_end q.1 >>= (λ e. Ok (first.value, q.0))) x first.rest in
     let pair : ℕ × Path = (first.value, second.value) in
     let end = ended_read second.others pair x second.rest in
     let number = number_read 65535 first.value first.word (omega arith) first.first in

@@ -3,7 +3,7 @@ use Rattle.std.proofs.Common.{◌≡◌, ℕ, ◌<◌, ◌≤◌, ◌^◌, List,
 use Rattle.std.specs.Prelude.{codes}
 use Rattle.std.specs.Fmt.{decimal}
 use Rattle.object_defs.specs.declared.path.Path.{Path}
-use Rattle.scenario_words.specs.Reading.{◌>>=◌, word_by, ended}
+use Rattle.scenario_words.specs.Reading.{◌>>=◌, word_by, check_of_end}
 use Rattle.scenario_words.specs.Number.{number_of}
 use Rattle.scenario_words.specs.PathWord.{IsPath}
 use Rattle.object_defs.specs.Path.{path_text}
@@ -19,7 +19,7 @@ use Rattle.debug_answers.proofs.Arguments.{by_name, ended_read, taken, number_re
 
 -- what may follow a name: nothing, a number, a device and a path
 alone : {A : Type 0} (Said : A → List (List ℕ) → Type 0) (x y : A) (w name : List ℕ) (ws : List (List ℕ))
-    → Said x (name ∷ []) → w ≡ name → (ended ws >>= (λ e. Ok x)) ≡ Ok y → Said y (w ∷ ws)
+    → Said x (name ∷ []) → w ≡ name → (check_of_end ws >>= (λ e. Ok x)) ≡ Ok y → Said y (w ∷ ws)
 alone Said x y w name ws said same h =
     let end = ended_read ws x y h in
     let all : name ∷ [] ≡ w ∷ ws = cc (same, end.0) in
@@ -54,9 +54,9 @@ step_found : (ws : List (List ℕ)) (p : Point) (w : List ℕ) → w ≡ codes "
     → IsBreakSaidBy p (codes "break" ∷ w ∷ ws)
 step_found ws p w same h =
     let first = taken (number_of 0 65535) ws
-    (λ d. word_by (number_of 0 4294967295) d.1 >>= (λ k. ended k.1 >>= (λ e. Ok (point.Step d.0 k.0)))) p h in
+    (λ d. word_by (number_of 0 4294967295) d.1 >>= (λ k. check_of_end k.1 >>= (λ e. Ok (point.Step d.0 k.0)))) p h in
     let second = taken (number_of 0 4294967295) first.others
-    (λ k. ended k.1 >>= (λ e. Ok (point.Step first.value k.0))) p first.rest in
+    (λ k. check_of_end k.1 >>= (λ e. Ok (point.Step first.value k.0))) p first.rest in
     let end = ended_read second.others (point.Step first.value second.value) p second.rest in
     let device = number_read 65535 first.value first.word (omega arith) first.first in
     let count = number_read 4294967295 second.value second.word (omega arith) second.first in
@@ -67,8 +67,9 @@ code_found : (ws : List (List ℕ)) (p : Point) (w : List ℕ) → w ≡ codes "
     → IsBreakSaidBy p (codes "break" ∷ w ∷ ws)
 code_found ws p w same h =
     let first = taken (number_of 0 65535) ws
-    (λ d. word_by byte_of d.1 >>= (λ c. ended c.1 >>= (λ e. Ok (point.Code d.0 c.0)))) p h in
-    let second = taken byte_of first.others (λ c. ended c.1 >>= (λ e. Ok (point.Code first.value c.0))) p first.rest in
+    (λ d. word_by byte_of d.1 >>= (λ c. check_of_end c.1 >>= (λ e. Ok (point.Code d.0 c.0)))) p h in
+    let second = taken byte_of first.others (λ c. check_of_end c.1 >>= (λ e. Ok (point.Code first.value c.0))) p
+    first.rest in
     let end = ended_read second.others (point.Code first.value second.value) p second.rest in
     let device = number_read 65535 first.value first.word (omega arith) first.first in
     let byte = byte_read second.word second.value second.first in

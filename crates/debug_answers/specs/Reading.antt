@@ -7,7 +7,7 @@ use Rattle.hex.specs.Hex.{hex_digit_value}
 use Rattle.object_defs.specs.declared.path.Path.{Path}
 use Rattle.scenario_words.specs.declared.cause.Cause.{Cause}
 use Rattle.scenario_words.specs.declared.cause.Cause.TheVariants.{Token, UnknownWord}
-use Rattle.scenario_words.specs.Reading.{◌>>=◌, first_of, word_by, ended}
+use Rattle.scenario_words.specs.Reading.{◌>>=◌, first_of, word_by, check_of_end}
 use Rattle.scenario_words.specs.Number.{number_of}
 use Rattle.scenario_words.specs.PathWord.{path_of}
 use Rattle.debug_answers.specs.declared.command.Command.{Command}
@@ -18,14 +18,14 @@ use Rattle.debug_answers.specs.declared.command.Point.TheVariants as point
 -- this command, and no further word
 abbrev pub command_alone : Command → List (List ℕ) → Result Command Cause
 command_alone c ws = do
-  e ← ended ws
+  e ← check_of_end ws
   Ok c
 
 -- one number, and no further word
 abbrev pub only_number : ℕ → List (List ℕ) → Result ℕ Cause
 only_number high ws = do
   n ← word_by (number_of 0 high) ws
-  e ← ended n.1
+  e ← check_of_end n.1
   Ok n.0
 
 -- a device and a path, and no further word
@@ -33,7 +33,7 @@ abbrev pub device_and_path : List (List ℕ) → Result (ℕ × Path) Cause
 device_and_path ws = do
   d ← word_by (number_of 0 65535) ws
   p ← word_by path_of d.1
-  e ← ended p.1
+  e ← check_of_end p.1
   Ok (d.0, p.0)
 
 -- the byte of two hex digits
@@ -53,7 +53,7 @@ abbrev pub step_point : List (List ℕ) → Result Point Cause
 step_point ws = do
   d ← word_by (number_of 0 65535) ws
   k ← word_by (number_of 0 4294967295) d.1
-  e ← ended k.1
+  e ← check_of_end k.1
   Ok (point.Step d.0 k.0)
 
 -- D C
@@ -61,7 +61,7 @@ abbrev pub code_point : List (List ℕ) → Result Point Cause
 code_point ws = do
   d ← word_by (number_of 0 65535) ws
   c ← word_by byte_of d.1
-  e ← ended c.1
+  e ← check_of_end c.1
   Ok (point.Code d.0 c.0)
 
 -- the point of a breakpoint, by its first word and those after it

@@ -7,13 +7,13 @@ use Rattle.object_defs.specs.Path.{path_text}
 use Rattle.notifier.specs.declared.observation.Observation.{Observation}
 use Rattle.notifier.specs.declared.observation.Timer.{Timer}
 use Rattle.scenario_words.specs.HexWord.{hex_word}
-use Rattle.scenario_words.specs.ValueWords.{spelled}
+use Rattle.scenario_words.specs.ValueWords.{spelling_of_value}
 use Rattle.scenario_words.specs.Words.{ended_line}
 
 -- a value as scenario text has it, or `none`
 abbrev pub value_line : Option Value → List ℕ
 value_line None = ended_line (codes "none")
-value_line (Some v) = ended_line (spelled v)
+value_line (Some v) = ended_line (spelling_of_value v)
 
 -- the end of the line of an observation: ` open` where its last message awaits an acknowledgement
 abbrev pub line_end : Option Timer → List ℕ

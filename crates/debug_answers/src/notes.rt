@@ -1,7 +1,7 @@
 //! What a person gets on standard error beside the answer `bad command`.
 ghost use Rattle.std.specs.Prelude.{◌≡◌, ◌++◌, IfOk, OnOk, take};
 ghost use Rattle.std.specs.String.{string_bytes};
-ghost use Rattle.scenario_words.specs.Quoted.{escaped, quoted_word};
+ghost use Rattle.scenario_words.specs.Quoted.{escaped_byte, quoted_word};
 ghost use Rattle.debug_answers.specs.Notes.{cut_mark, most_shown_bytes, no_command, no_command_line};
 
 use scenario_words::{hex_word, is_plain};
@@ -59,7 +59,7 @@ fn in_quotes(alloc: Global, bytes: &[u8]) -> Result<String, AllocError>
 }
 
 fn push_escaped(alloc: Global, text: &mut String, byte: u8) -> Result<(), AllocError>
-    ensures { OnOk result (string_bytes text.new ≡ string_bytes text.old ++ escaped byte) }
+    ensures { OnOk result (string_bytes text.new ≡ string_bytes text.old ++ escaped_byte byte) }
 {
     if is_plain(byte) {
         return text.push(char::from(byte));

@@ -30,8 +30,8 @@ pub record IsSession (v : Session) : Type 0 where
   pub slots : length v.breaks ≡ most_breaks
 
 -- before the first entry, with no breakpoint
-abbrev pub opened : Scenario → List Entry → Session
-opened s es =
+abbrev pub new_session : Scenario → List Entry → Session
+new_session s es =
     record { scenario = s; entries = es; place = 0; breaks = replicate most_breaks None; replayed = 0 }
 
 -- the same at another place

@@ -6,7 +6,7 @@ ghost use Rattle.fleet_core.specs.Run.{made_by, IsRun};
 ghost use Rattle.fleet_core.specs.Verdict.{BreaksAt};
 ghost use Rattle.debugger.specs.Shown.{latest, value_shown, observations_shown, outputs_shown, step_shown};
 ghost use Rattle.debugger.specs.Shown.{ShowsState, before_shown};
-ghost use Rattle.debugger.specs.Session.{IsSession, opened, at_place, with_replayed};
+ghost use Rattle.debugger.specs.Session.{IsSession, new_session, at_place, with_replayed};
 ghost use Rattle.debugger.specs.Moves.{steps_to};
 ghost use Rattle.debugger.specs.Replayed.{devices_between, events_among, IsReplayedBack};
 ghost use Rattle.debugger.specs.Stops.{Holds, IsNextStop};
@@ -95,7 +95,7 @@ impl<'a> Debugger<'a> {
         scenario: &'a Scenario,
         entries: Entries,
     ) -> Result<Debugger<'a>, OpenFault>
-        ensures opened { IfOk result (λ b. b ≡ opened scenario.now entries) }
+        ensures opened { IfOk result (λ b. b ≡ new_session scenario.now entries) }
         ensures run { OnOk result (IsRun scenario.now entries) }
         ensures not_run { (at : ℕ) → result ≡ Err (OpenFault.NotRun at) → BreaksAt scenario.now entries at }
     {

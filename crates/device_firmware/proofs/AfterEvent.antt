@@ -15,9 +15,7 @@ use Rattle.device_firmware.specs.declared.state.State.{State}
 use Rattle.device_firmware.specs.declared.state.State.TheVariants.{Idle, Downloading, Downloaded, Updating}
 use Rattle.device_firmware.specs.declared.state.Outcome.{Outcome}
 use Rattle.device_firmware.specs.Firmware.{firmware_resource, firmware_after, outcome_in, state_number, state_as}
-use Rattle.device_firmware.specs.Firmware.{state_in}
-use Rattle.device_firmware.specs.Firmware.{uri_of, with_uri, with_outcome}
-use Rattle.device_firmware.specs.Firmware.{held, is_ready}
+use Rattle.device_firmware.specs.Firmware.{state_in, uri_of, with_uri, with_outcome, firmware_value, is_ready}
 use Rattle.device_firmware.specs.Laws.{uri_after}
 
 abbrev at : ℕ → FullPath
@@ -39,15 +37,16 @@ state-outcome s o =
     ∙ value_after s (at 3) (at 3) state)
     ∙ read_again o.state
 
-pub code-outcome : (s : Stored) (o : Outcome) → held (with_outcome s o) 5 ≡ Some (number o.code)
+pub code-outcome : (s : Stored) (o : Outcome) → firmware_value (with_outcome s o) 5 ≡ Some (number o.code)
 code-outcome s o = value_after (with_value s (at 3) (number (state_number o.state))) (at 5) (at 5) (number o.code)
 
-pub uri-outcome : (s : Stored) (o : Outcome) → held (with_outcome s o) 1 ≡ held s 1
+pub uri-outcome : (s : Stored) (o : Outcome) → firmware_value (with_outcome s o) 1 ≡ firmware_value s 1
 uri-outcome s o =
     value_after (with_value s (at 3) (number (state_number o.state))) (at 5) (at 1) (number o.code)
     ∙ value_after s (at 3) (at 1) (number (state_number o.state))
 
-pub uri-uri : (s : Stored) (uri : Option (List ℕ)) → held (with_uri s uri) 1 ≡ uri_after (held s 1) uri
+pub uri-uri : (s : Stored) (uri : Option (List ℕ))
+    → firmware_value (with_uri s uri) 1 ≡ uri_after (firmware_value s 1) uri
 uri-uri s None = refl
 uri-uri s (Some text) = value_after s (at 1) (at 1) (Text text)
 
@@ -84,8 +83,10 @@ taken_as s after event o is h =
 
 -- ---- where memory can be wanting
 
-held-uri : (s : Stored) (uri : Option (List ℕ)) (n : ℕ) → eqb n 1 ≡ false → held (with_uri s uri) n ≡ held s n
-held-uri s uri n h = other-uri s uri (at n) (λ e. false≢true (sym h ∙ eq-eqb n 1 (ap (λ (q : FullPath). q.resource) e)))
+firmware_value-uri : (s : Stored) (uri : Option (List ℕ)) (n : ℕ) → eqb n 1 ≡ false
+    → firmware_value (with_uri s uri) n ≡ firmware_value s n
+firmware_value-uri s uri n h =
+    other-uri s uri (at n) (λ e. false≢true (sym h ∙ eq-eqb n 1 (ap (λ (q : FullPath). q.resource) e)))
 
 not_ready-outcome : (b c r : Bool) → (b ≡ false) ⊎ (c ≡ false) → ((b && c) && r) ≡ false
 not_ready-outcome false c r h = refl
@@ -99,20 +100,24 @@ not_ready-uri false a uri h some = refl
 not_ready-uri true a None h some = cc
 not_ready-uri true a (Some text) h some = h
 
-pub still-5 : (s t : Stored) (v : Value) → t ≡ with_value s (at 3) v → held t 5 ≡ None → held s 5 ≡ None
-still-5 s t v e h = sym (value_after s (at 3) (at 5) v) ∙ ap (λ u. held u 5) (sym e) ∙ h
+pub still-5 : (s t : Stored) (v : Value) → t ≡ with_value s (at 3) v → firmware_value t 5 ≡ None
+    → firmware_value s 5 ≡ None
+still-5 s t v e h = sym (value_after s (at 3) (at 5) v) ∙ ap (λ u. firmware_value u 5) (sym e) ∙ h
 
 -- by what wants of setting the Package URI, and the outcome
-pub wanting-uri : (s : Stored) (event : FirmwareEvent) → held s 1 ≡ None → is_some (uri_of event) ≡ true
+pub wanting-uri : (s : Stored) (event : FirmwareEvent) → firmware_value s 1 ≡ None → is_some (uri_of event) ≡ true
     → is_ready s event ≡ false
 wanting-uri s event h some =
-    not_ready-uri (is_some (held s 3) && is_some (held s 5)) (is_some (held s 1)) (uri_of event) (ap is_some h) some
+    not_ready-uri (is_some (firmware_value s 3) && is_some (firmware_value s 5)) (is_some (firmware_value s 1))
+    (uri_of event) (ap is_some h) some
 
-pub wanting-outcome : (s : Stored) (event : FirmwareEvent) → (held (with_uri s (uri_of event)) 3 ≡ None)
-    ⊎ (held (with_uri s (uri_of event)) 5 ≡ None) → is_ready s event ≡ false
+pub wanting-outcome : (s : Stored) (event : FirmwareEvent) → (firmware_value (with_uri s (uri_of event)) 3 ≡ None)
+    ⊎ (firmware_value (with_uri s (uri_of event)) 5 ≡ None) → is_ready s event ≡ false
 wanting-outcome s event (inl h) =
-    not_ready-outcome (is_some (held s 3)) (is_some (held s 5)) (is_none (uri_of event) || is_some (held s 1))
-    (inl (ap is_some (sym (held-uri s (uri_of event) 3 refl) ∙ h)))
+    not_ready-outcome (is_some (firmware_value s 3)) (is_some (firmware_value s 5))
+    (is_none (uri_of event) || is_some (firmware_value s 1))
+    (inl (ap is_some (sym (firmware_value-uri s (uri_of event) 3 refl) ∙ h)))
 wanting-outcome s event (inr h) =
-    not_ready-outcome (is_some (held s 3)) (is_some (held s 5)) (is_none (uri_of event) || is_some (held s 1))
-    (inr (ap is_some (sym (held-uri s (uri_of event) 5 refl) ∙ h)))
+    not_ready-outcome (is_some (firmware_value s 3)) (is_some (firmware_value s 5))
+    (is_none (uri_of event) || is_some (firmware_value s 1))
+    (inr (ap is_some (sym (firmware_value-uri s (uri_of event) 5 refl) ∙ h)))

@@ -134,11 +134,11 @@ abbrev pub firmware_after : Stored → FirmwareEvent → Option Stored
 firmware_after stored event = option_map (with_outcome (with_uri stored (uri_of event))) (outcome_in stored event)
 
 -- the value of a resource of the instance
-abbrev pub held : Stored → ℕ → Option Value
-held stored number = value_at stored (single_of (firmware_resource number))
+abbrev pub firmware_value : Stored → ℕ → Option Value
+firmware_value stored number = value_at stored (single_of (firmware_resource number))
 
 -- what an event sets is held: the State and the Update Result, and the Package URI where it changes
 abbrev pub is_ready : Stored → FirmwareEvent → Bool
 is_ready stored event =
-    (is_some (held stored update_state) && is_some (held stored update_result))
-    && (is_none (uri_of event) || is_some (held stored package_uri))
+    (is_some (firmware_value stored update_state) && is_some (firmware_value stored update_result))
+    && (is_none (uri_of event) || is_some (firmware_value stored package_uri))

@@ -10,8 +10,8 @@ use Rattle.device_firmware.specs.declared.event.FirmwareEvent.{FirmwareEvent}
 use Rattle.device_firmware.specs.declared.event.FirmwareEvent.TheVariants.{Cleared}
 use Rattle.device_firmware.specs.declared.state.State.TheVariants.{Idle}
 use Rattle.device_firmware.specs.declared.state.Outcome.{Outcome}
-use Rattle.device_firmware.specs.Firmware.{firmware, firmware_resource, held, firmware_after, outcome_in, state_in}
-use Rattle.device_firmware.specs.Firmware.{uri_of, to}
+use Rattle.device_firmware.specs.Firmware.{firmware, firmware_resource, firmware_value, firmware_after, outcome_in}
+use Rattle.device_firmware.specs.Firmware.{state_in, uri_of, to}
 
 -- clearing is taken in any state
 abbrev pub ClearingIsTaken : Type 0
@@ -22,7 +22,7 @@ abbrev pub OutcomeIsHeld : Type 0
 OutcomeIsHeld =
     (stored after : Stored) (event : FirmwareEvent) (outcome : Outcome) → outcome_in stored event ≡ Some outcome
     → firmware_after stored event ≡ Some after → (state_in after ≡ Some outcome.state)
-    × (held after update_result ≡ Some (Whole (pos outcome.code)))
+    × (firmware_value after update_result ≡ Some (Whole (pos outcome.code)))
 
 -- the Package URI is the new one, where there is one; else it stays
 abbrev pub uri_after : Option Value → Option (List ℕ) → Option Value
@@ -32,7 +32,7 @@ uri_after old (Some text) = Some (Text text)
 abbrev pub UriIsHeld : Type 0
 UriIsHeld =
     (stored after : Stored) (event : FirmwareEvent) → firmware_after stored event ≡ Some after
-    → held after package_uri ≡ uri_after (held stored package_uri) (uri_of event)
+    → firmware_value after package_uri ≡ uri_after (firmware_value stored package_uri) (uri_of event)
 
 -- no other value changes, the Package's among them, and no instance
 abbrev pub OthersStay : Type 0

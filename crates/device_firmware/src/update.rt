@@ -3,8 +3,8 @@ ghost use Rattle.std.specs.Option.{is_some, unwrap_or};
 ghost use Rattle.object_defs.specs.Numbers.{package_uri, update_state, update_result};
 ghost use Rattle.object_defs.specs.Path.{single_of};
 ghost use Rattle.instance_store.specs.Stored.{has_instance, with_value};
-ghost use Rattle.device_firmware.specs.Firmware.{firmware, firmware_resource, held, is_ready, outcome_in, uri_of};
-ghost use Rattle.device_firmware.specs.Firmware.{with_uri, with_outcome, firmware_after};
+ghost use Rattle.device_firmware.specs.Firmware.{firmware, firmware_resource, firmware_value, is_ready, outcome_in};
+ghost use Rattle.device_firmware.specs.Firmware.{uri_of, with_uri, with_outcome, firmware_after};
 
 use crate::event::FirmwareEvent;
 use crate::state::{Outcome, next_from, state_as, state_number};
@@ -60,7 +60,7 @@ fn uri_of(alloc: Global, event: FirmwareEvent) -> Option<Text>
 fn put(store: &mut Store, number: u16, value: Value) -> Result<(), AllocError>
     requires { has_instance store.old firmware ≡ true }
     ensures ok { OnOk result (store.new ≡ with_value store.old (single_of (firmware_resource number)) value) }
-    ensures may_lack_memory { OnErr result (held store.old number ≡ None) }
+    ensures may_lack_memory { OnErr result (firmware_value store.old number ≡ None) }
 {
     match store.put(resource(number), value) {
         Ok(()) => Ok(()),
@@ -73,7 +73,7 @@ fn put(store: &mut Store, number: u16, value: Value) -> Result<(), AllocError>
 fn set_uri(store: &mut Store, uri: Option<Text>) -> Result<(), AllocError>
     requires { has_instance store.old firmware ≡ true }
     ensures ok { OnOk result (store.new ≡ with_uri store.old uri) }
-    ensures may_lack_memory { OnErr result ((held store.old package_uri ≡ None) × (is_some uri ≡ true)) }
+    ensures may_lack_memory { OnErr result ((firmware_value store.old package_uri ≡ None) × (is_some uri ≡ true)) }
 {
     match uri {
         Some(text) => put(store, PACKAGE_URI, Value::Text(text)),
@@ -85,8 +85,8 @@ fn set_uri(store: &mut Store, uri: Option<Text>) -> Result<(), AllocError>
 fn set_outcome(store: &mut Store, outcome: Outcome) -> Result<(), AllocError>
     requires { has_instance store.old firmware ≡ true }
     ensures ok { OnOk result (store.new ≡ with_outcome store.old outcome) }
-    ensures may_lack_memory { OnErr result ((held store.old update_state ≡ None)
-        ⊎ (held store.old update_result ≡ None)) }
+    ensures may_lack_memory { OnErr result ((firmware_value store.old update_state ≡ None)
+        ⊎ (firmware_value store.old update_result ≡ None)) }
 {
     put(
         store,
@@ -114,7 +114,7 @@ fn change(
 }
 
 fn holds(store: &Store, number: u16) -> bool
-    ensures { result ≡ is_some (held store.now number) }
+    ensures { result ≡ is_some (firmware_value store.now number) }
 {
     store.get(resource(number).single()).is_some()
 }

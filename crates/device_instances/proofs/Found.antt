@@ -7,23 +7,24 @@ use Rattle.std.proofs.lemmas.List.Folds.{find-append}
 use Rattle.std.proofs.lemmas.Bool.{not_from_false, not_from_true, not-true, not-false}
 use Rattle.lemmas.proofs.Options.{no_choice}
 use Rattle.instance_store.specs.Stored.{Stored, has_instance}
-use Rattle.device_instances.specs.Numbers.{below, is_free, instance_at, smallest_free, IsSmallestFree, AllAreTaken}
+use Rattle.device_instances.specs.Numbers.{numbers_below, is_free, instance_at, smallest_free, IsSmallestFree}
+use Rattle.device_instances.specs.Numbers.{AllAreTaken}
 
-none_below : (p : ℕ → Bool) (n : ℕ) → ((k : ℕ) → k < n → p k ≡ false) → find p (below n) ≡ None
-unfolding below
+none_below : (p : ℕ → Bool) (n : ℕ) → ((k : ℕ) → k < n → p k ≡ false) → find p (numbers_below n) ≡ None
+unfolding numbers_below
 none_below p zero h = refl
 none_below p (suc n) h =
-    find-append p (below n) (n ∷ [])
+    find-append p (numbers_below n) (n ∷ [])
     ∙ ap (λ o. option_or o (find p (n ∷ []))) (none_below p n (λ k l. h k (omega arith)))
     ∙ ap (λ b. cond b (Some n) None) (h n (omega arith))
 
 first_below : (p : ℕ → Bool) (n m : ℕ) → m < n → p m ≡ true → ((k : ℕ) → k < m → p k ≡ false)
-    → find p (below n) ≡ Some m
-unfolding below
+    → find p (numbers_below n) ≡ Some m
+unfolding numbers_below
 first_below p zero m l h low = absurd (omega arith)
 first_below p (suc n) m l h low =
-    find-append p (below n) (n ∷ [])
-    ∙ elim (ltb m n) as (λ b. ltb m n ≡ b → option_or (find p (below n)) (find p (n ∷ [])) ≡ Some m) [
+    find-append p (numbers_below n) (n ∷ [])
+    ∙ elim (ltb m n) as (λ b. ltb m n ≡ b → option_or (find p (numbers_below n)) (find p (n ∷ [])) ≡ Some m) [
       | true ↦ λ t. ap (λ o. option_or o (find p (n ∷ []))) (first_below p n m (ltb-true m n t) h low)
       | false ↦ λ t.
           let e : m ≡ n = omega (arith, ltb-false m n t) in
@@ -55,18 +56,19 @@ passes p (x ∷ xs) m h =
 
 pub found_free : (stored : Stored) (object n : ℕ) → smallest_free stored object ≡ Some n
     → has_instance stored (instance_at object n) ≡ false
-found_free stored object n h = not-true _ (passes (is_free stored object) (below 65535) n h)
+found_free stored object n h = not-true _ (passes (is_free stored object) (numbers_below 65535) n h)
 
 -- where nothing is found, all fail
 both_none : (a b : Option ℕ) → option_or a b ≡ None → (a ≡ None) × (b ≡ None)
 both_none None b h = (refl, h)
 both_none (Some x) b h = cc
 
-all_fail : (p : ℕ → Bool) (n : ℕ) → find p (below n) ≡ None → (k : ℕ) → k < n → p k ≡ false
-unfolding below
+all_fail : (p : ℕ → Bool) (n : ℕ) → find p (numbers_below n) ≡ None → (k : ℕ) → k < n → p k ≡ false
+unfolding numbers_below
 all_fail p zero h k l = absurd (omega arith)
 all_fail p (suc n) h k l =
-    let parts = both_none (find p (below n)) (find p (n ∷ [])) (sym (find-append p (below n) (n ∷ [])) ∙ h) in
+    let parts = both_none (find p (numbers_below n)) (find p (n ∷ []))
+    (sym (find-append p (numbers_below n) (n ∷ [])) ∙ h) in
     elim (ltb k n) as (λ b. ltb k n ≡ b → p k ≡ false) [
       | true ↦ λ t. all_fail p n parts.0 k (ltb-true k n t)
       | false ↦ λ t. let e : k ≡ n =

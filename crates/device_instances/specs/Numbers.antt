@@ -12,13 +12,13 @@ abbrev pub is_free : Stored → ℕ → ℕ → Bool
 is_free stored object number = not (has_instance stored (instance_at object number))
 
 -- the numbers from 0 up to below a limit
-unfoldable pub below : ℕ → List ℕ
-below zero = []
-below (suc n) = below n ++ n ∷ []
+unfoldable pub numbers_below : ℕ → List ℕ
+numbers_below zero = []
+numbers_below (suc n) = numbers_below n ++ n ∷ []
 
 -- the first free number of 0 to 65534, if there is one
 abbrev pub smallest_free : Stored → ℕ → Option ℕ
-smallest_free stored object = find (is_free stored object) (below 65535)
+smallest_free stored object = find (is_free stored object) (numbers_below 65535)
 
 -- the number is free, and each lower one is taken
 pub record IsSmallestFree (stored : Stored) (object number : ℕ) : Type 0 where

@@ -8,9 +8,9 @@ use Rattle.coap_codec.specs.declared.kind.Kind.TheVariants.{Con, Non, Ack}
 use Rattle.device_requests.specs.Answer.{Outcome}
 use Rattle.device_requests.specs.declared.answer.Code.TheVariants.{BadOption}
 use Rattle.device_requests.specs.Request.{outcome_for, outcome_of, request_on}
-use Rattle.device_machine.specs.Observing.{noted}
+use Rattle.device_machine.specs.Observing.{observe_result}
 use Rattle.device_machine.specs.State.{Machine, with_client}
-use Rattle.device_machine.specs.Reactions.{acted, on_outcome, reply_to, response, sent_to}
+use Rattle.device_machine.specs.Reactions.{on_outcome, outputs_of_act, reply_to, response, sent_to}
 use Rattle.device_machine.specs.declared.output.Output.TheVariants.{Send}
 use Rattle.device_machine.specs.Laws.{ConfirmableAnswers, NonConfirmableAnswers, NonConfirmableRejects}
 use Rattle.device_requests.proofs.Answering.{says}
@@ -18,15 +18,17 @@ use Rattle.device_machine.proofs.Repeating.{first_con, first_non}
 
 -- the Observe number of the reply to a request with this outcome
 abbrev number_with : Machine → ℕ → Message → Outcome → Option ℕ
-number_with f server m outcome = (noted (with_client f.kept outcome.client) server m outcome.answer).number
+number_with f server m outcome = (observe_result (with_client f.kept outcome.client) server m outcome.answer).number
 
 replied : (f : Machine) (server : ℕ) (m : Message) (outcome : Outcome) → m.kind ≡ Con
     → (on_outcome f server m outcome).outputs
-    ≡ Send server (spelling (response Ack m.mid m.token (number_with f server m outcome) outcome.answer)) ∷ acted
+    ≡ Send server (spelling (response Ack m.mid m.token
+    (number_with f server m outcome) outcome.answer)) ∷ outputs_of_act
     outcome.answer.act
 replied f server m outcome k =
     ap (λ kind. sent_to server (option_map spelling
-    (reply_to f.kept.next_id m kind (number_with f server m outcome) outcome.answer)) ++ acted outcome.answer.act) k
+    (reply_to f.kept.next_id m kind (number_with f server m outcome) outcome.answer))
+    ++ outputs_of_act outcome.answer.act) k
 
 -- a fresh confirmable request
 pub acknowledged : ConfirmableAnswers
@@ -50,14 +52,15 @@ replied_non : (f : Machine) (server : ℕ) (m : Message) (outcome : Outcome) (re
     → (on_outcome f server m outcome).outputs
     ≡ sent_to server (option_map spelling (if refused then None
     else Some (response Non f.kept.next_id m.token (number_with f server m outcome) outcome.answer)))
-    ++ acted outcome.answer.act
+    ++ outputs_of_act outcome.answer.act
 replied_non f server m outcome refused k h =
     ap (λ kind. sent_to server (option_map spelling
-    (reply_to f.kept.next_id m kind (number_with f server m outcome) outcome.answer)) ++ acted outcome.answer.act) k
+    (reply_to f.kept.next_id m kind (number_with f server m outcome) outcome.answer))
+    ++ outputs_of_act outcome.answer.act) k
     ∙ ap (λ b. sent_to server (option_map spelling
     (if b then None else Some (response Non f.kept.next_id m.token
     (number_with f server m outcome) outcome.answer)))
-    ++ acted outcome.answer.act) h
+    ++ outputs_of_act outcome.answer.act) h
 
 pub answered_non : NonConfirmableAnswers
 answered_non f server bytes m fresh k h =
@@ -78,5 +81,5 @@ pub rejected_non : NonConfirmableRejects
 rejected_non f server bytes m fresh k h =
     ap (λ r. r.outputs) (first_non f server bytes m fresh k)
     ∙ replied_non f server m (outcome_of f.kept.client server m) true k h
-    ∙ ap (λ b. acted (outcome_for f.kept.client server m
+    ∙ ap (λ b. outputs_of_act (outcome_for f.kept.client server m
     (if b then Err BadOption else request_on m (path_of (segments_of m.options)))).answer.act) h

@@ -11,8 +11,8 @@ use Rattle.lemmas.proofs.Lists.{none_found}
 use Rattle.coap_codec.specs.Message.{Message}
 use Rattle.coap_codec.specs.declared.kind.Kind.TheVariants.{Ack}
 use Rattle.object_defs.specs.declared.path.Path.{Path}
-use Rattle.notifier.specs.Observed.{as_closed, cancelled, has_name, is_awaited, is_named, next_number, number_for}
-use Rattle.notifier.specs.Observed.{registered, with_acknowledged}
+use Rattle.notifier.specs.Observed.{as_closed, has_name, is_awaited, is_named, next_number, number_for}
+use Rattle.notifier.specs.Observed.{with_acknowledged, with_registered, without_cancelled}
 use Rattle.notifier.specs.declared.observation.Observation.{Observation}
 use Rattle.device_requests.specs.Answer.{Outcome, is_content}
 use Rattle.device_requests.specs.Observe.{interest_of}
@@ -20,8 +20,9 @@ use Rattle.device_requests.specs.Request.{outcome_of}
 use Rattle.device_requests.specs.declared.answer.Answer.{Answer}
 use Rattle.device_requests.specs.declared.observe.Interest.{Interest}
 use Rattle.device_requests.specs.declared.observe.Interest.TheVariants.{Register, Cancel}
-use Rattle.device_machine.specs.Observing.{begun, entered, lacks_place, noted, noted_by, unobserved}
-use Rattle.device_machine.specs.State.{Kept, Machine, with_client, with_observations}
+use Rattle.device_machine.specs.Observing.{after_registration, lacks_place, new_observation, no_observe, noted_by}
+use Rattle.device_machine.specs.Observing.{observe_result}
+use Rattle.device_machine.specs.State.{DeviceState, Machine, with_client, with_observations}
 use Rattle.device_machine.specs.Reactions.{on_acknowledgement, on_message, on_outcome, reply_to, silence}
 use Rattle.device_machine.specs.Laws.{AcknowledgementsClose, OnlyCloses, OthersAreIgnored, UpdatesClose, timer_noted}
 use Rattle.device_machine.proofs.Counting.{named_self}
@@ -128,7 +129,7 @@ none_of_them p (x ∷ xs) =
     ] refl
 
 cancelled_noted : (os : List Observation) (server : ℕ) (token : List ℕ)
-    → timer_noted (cancelled os server token) server token ≡ None
+    → timer_noted (without_cancelled os server token) server token ≡ None
 cancelled_noted os server token =
     ap (option_and_then (λ o. o.timer)) (none_of_them (is_named server token) os)
 
@@ -139,15 +140,16 @@ first_closed n new os h =
     (find (is_named new.server new.token) os))) (named_self new) ∙ h
 
 registered_closed : (os : List Observation) (new : Observation) → new.timer ≡ None
-    → timer_noted (registered os new) new.server new.token ≡ None
+    → timer_noted (with_registered os new) new.server new.token ≡ None
 registered_closed [] new h = first_closed 0 new [] h
 registered_closed (o ∷ os) new h =
     elim (is_named new.server new.token o) as (λ b. is_named new.server new.token o ≡ b
-    → timer_noted (if b then record new { number = next_number o.number } ∷ os else o ∷ registered os new) new.server
+    → timer_noted (if b then record new { number = next_number o.number } ∷ os else o ∷ with_registered os new)
+    new.server
     new.token ≡ None) [
       | true ↦ λ e. first_closed (next_number o.number) new os h
       | false ↦ λ e. ap (λ b. option_and_then (λ p. p.timer)
-          (cond b (Some o) (find (is_named new.server new.token) (registered os new)))) e
+          (cond b (Some o) (find (is_named new.server new.token) (with_registered os new)))) e
           ∙ registered_closed os new h
     ] refl
 
@@ -156,28 +158,28 @@ no_place true full h = cc
 no_place false full h = refl
 
 entered_closed : (os : List Observation) (new : Observation) → new.timer ≡ None
-    → timer_noted (entered os new).left new.server new.token ≡ None
+    → timer_noted (after_registration os new).left new.server new.token ≡ None
 entered_closed os new h =
     elim (lacks_place os new.server new.token) as (λ b. lacks_place os new.server new.token ≡ b
-    → timer_noted (if b then unobserved os
-    else record { number = Some (number_for os new.server new.token); left = registered os new }).left new.server
+    → timer_noted (if b then no_observe os
+    else record { number = Some (number_for os new.server new.token); left = with_registered os new }).left new.server
     new.token ≡ None) [
       | true ↦ λ e. ap (option_and_then (λ o. o.timer)) (none_found (is_named new.server new.token) os
           (no_place (has_name os new.server new.token) (nat_le 32 (length os)) e))
       | false ↦ λ e. registered_closed os new h
     ] refl
 
-closed_read : (k : Kept) (server : ℕ) (m : Message) (path : Path) (accept : Option ℕ) (answer : Answer)
+closed_read : (k : DeviceState) (server : ℕ) (m : Message) (path : Path) (accept : Option ℕ) (answer : Answer)
     → timer_noted (noted_by k server m answer (Some (Register path accept))).left server m.token ≡ None
 closed_read k server m path accept answer =
-    let new = begun k server m path accept answer.payload in
-    elim (is_content answer) as (λ b. timer_noted (if b then entered k.observations new
-    else unobserved (cancelled k.observations server m.token)).left server m.token ≡ None) [
+    let new = new_observation k server m path accept answer.payload in
+    elim (is_content answer) as (λ b. timer_noted (if b then after_registration k.observations new
+    else no_observe (without_cancelled k.observations server m.token)).left server m.token ≡ None) [
       | true ↦ entered_closed k.observations new refl
       | false ↦ cancelled_noted k.observations server m.token
     ]
 
-closed_by : (k : Kept) (server : ℕ) (m : Message) (answer : Answer) (interest : Interest)
+closed_by : (k : DeviceState) (server : ℕ) (m : Message) (answer : Answer) (interest : Interest)
     → timer_noted (noted_by k server m answer (Some interest)).left server m.token ≡ None
 closed_by k server m answer (Register path accept) = closed_read k server m path accept answer
 closed_by k server m answer Cancel = cancelled_noted k.observations server m.token
@@ -187,7 +189,7 @@ closed_after : (f : Machine) (server : ℕ) (m : Message) (outcome : Outcome) (i
     → timer_noted (on_outcome f server m outcome).flat.kept.observations server m.token ≡ None
 closed_after f server m outcome interest h =
     let before = with_client f.kept outcome.client in
-    let told = noted before server m outcome.answer in
+    let told = observe_result before server m outcome.answer in
     let k = with_observations before told.left in
     ap (λ os. timer_noted os server m.token)
     (observations_after k m.kind (reply_to f.kept.next_id m m.kind told.number outcome.answer)

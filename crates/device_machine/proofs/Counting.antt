@@ -9,7 +9,7 @@ use Rattle.std.proofs.lemmas.Slice.Eq.{bytes_eq-Decides}
 use Rattle.std.proofs.lemmas.Bool.{and_from}
 use Rattle.coap_codec.specs.Message.{Message, spelling}
 use Rattle.coap_codec.specs.declared.kind.Kind.TheVariants.{Con, Non, Ack}
-use Rattle.notifier.specs.Observed.{cancelled, is_named, next_number, number_for, registered}
+use Rattle.notifier.specs.Observed.{is_named, next_number, number_for, with_registered, without_cancelled}
 use Rattle.notifier.specs.declared.observation.Observation.{Observation}
 use Rattle.object_defs.specs.declared.path.Path.{Path}
 use Rattle.device_requests.specs.Answer.{Outcome, is_content}
@@ -21,9 +21,11 @@ use Rattle.device_requests.specs.declared.answer.Answer.{Answer}
 use Rattle.device_requests.specs.declared.observe.Interest.{Interest}
 use Rattle.device_requests.specs.declared.observe.Interest.TheVariants.{Register}
 use Rattle.device_notifications.specs.Message.{format_options, observe_options}
-use Rattle.device_machine.specs.Observing.{Noted, begun, entered, lacks_place, noted, noted_by, unobserved}
-use Rattle.device_machine.specs.State.{Machine, Kept, with_client, with_observations}
-use Rattle.device_machine.specs.Reactions.{acted, location_options, on_noted, on_outcome, reply_to, response, sent_to}
+use Rattle.device_machine.specs.Observing.{ObserveResult, after_registration, lacks_place, new_observation, no_observe}
+use Rattle.device_machine.specs.Observing.{noted_by, observe_result}
+use Rattle.device_machine.specs.State.{Machine, DeviceState, with_client, with_observations}
+use Rattle.device_machine.specs.Reactions.{location_options, on_noted, on_outcome, outputs_of_act, reply_to, response}
+use Rattle.device_machine.specs.Reactions.{sent_to}
 use Rattle.device_machine.specs.Laws.{IsCounted, RegistrationsCount, number_noted}
 use Rattle.device_machine.proofs.Refusing.{observations_after}
 use Rattle.device_machine.proofs.Repeating.{first_con, first_non}
@@ -41,34 +43,36 @@ first_noted n new os =
 
 -- a registration notes the number that it answers
 registered_noted : (os : List Observation) (new : Observation)
-    → number_noted (registered os new) new.server new.token ≡ Some (number_for os new.server new.token)
+    → number_noted (with_registered os new) new.server new.token ≡ Some (number_for os new.server new.token)
 registered_noted [] new = first_noted 0 new []
 registered_noted (o ∷ os) new =
     elim (is_named new.server new.token o) as (λ b. is_named new.server new.token o ≡ b
-    → number_noted (if b then record new { number = next_number o.number } ∷ os else o ∷ registered os new) new.server
+    → number_noted (if b then record new { number = next_number o.number } ∷ os else o ∷ with_registered os new)
+    new.server
     new.token
     ≡ Some (option_map_or (λ p. next_number p.number) (cond b (Some o) (find (is_named new.server new.token) os)) 0)) [
       | true ↦ λ e. first_noted (next_number o.number) new os
       | false ↦ λ e. ap (λ b. option_map (λ p. p.number)
-          (cond b (Some o) (find (is_named new.server new.token) (registered os new)))) e ∙ registered_noted os new
+          (cond b (Some o) (find (is_named new.server new.token) (with_registered os new)))) e ∙ registered_noted os new
     ] refl
 
 -- what is noted with the content of a Read that registers
-noted_is : (k : Kept) (server : ℕ) (m : Message) (path : Path) (accept : Option ℕ) (answer : Answer)
+noted_is : (k : DeviceState) (server : ℕ) (m : Message) (path : Path) (accept : Option ℕ) (answer : Answer)
     → interest_of m ≡ Some (Register path accept) → is_content answer ≡ true
     → lacks_place k.observations server m.token ≡ false
-    → noted k server m answer
+    → observe_result k server m answer
     ≡ record {
       number = Some (number_for k.observations server m.token);
       left =
-          registered k.observations (begun k server m path accept answer.payload);
+          with_registered k.observations (new_observation k server m path accept answer.payload);
     }
 noted_is k server m path accept answer i c l =
-    let new = begun k server m path accept answer.payload in
+    let new = new_observation k server m path accept answer.payload in
     ap (λ o. noted_by k server m answer o) i
-    ∙ ap (λ b. if b then entered k.observations new else unobserved (cancelled k.observations server m.token)) c
-    ∙ ap (λ b. if b then unobserved k.observations
-    else record { number = Some (number_for k.observations server m.token); left = registered k.observations new })
+    ∙ ap (λ b. if b then after_registration k.observations new
+    else no_observe (without_cancelled k.observations server m.token)) c
+    ∙ ap (λ b. if b then no_observe k.observations
+    else record { number = Some (number_for k.observations server m.token); left = with_registered k.observations new })
     l
 
 understood : (m : Message) (i : Interest) → interest_of m ≡ Some i → has_unrecognized_critical m.options ≡ false
@@ -80,7 +84,7 @@ understood m i =
       | false ↦ λ h. refl
     ]
 
-counted_con : (f : Machine) (server : ℕ) (m : Message) (outcome : Outcome) (told : Noted) (n : ℕ) → m.kind ≡ Con
+counted_con : (f : Machine) (server : ℕ) (m : Message) (outcome : Outcome) (told : ObserveResult) (n : ℕ) → m.kind ≡ Con
     → told.number ≡ Some n
     → number_noted told.left server m.token ≡ Some n → IsCounted (on_noted f server m outcome told) server m n
 counted_con f server m outcome told n k number left =
@@ -92,13 +96,13 @@ counted_con f server m outcome told n k number left =
       reply = response Ack m.mid m.token told.number answer;
       act = answer.act;
       sent = ap (λ kind. sent_to server (option_map spelling (reply_to f.kept.next_id m kind told.number answer))
-          ++ acted answer.act) k;
+          ++ outputs_of_act answer.act) k;
       options = location_options answer.location ++ format_options answer.format;
       observe = ap (λ o. observe_options o ++ (location_options answer.location ++ format_options answer.format))
           number;
     }
 
-counted_non : (f : Machine) (server : ℕ) (m : Message) (outcome : Outcome) (told : Noted) (n : ℕ) → m.kind ≡ Non
+counted_non : (f : Machine) (server : ℕ) (m : Message) (outcome : Outcome) (told : ObserveResult) (n : ℕ) → m.kind ≡ Non
     → has_unrecognized_critical m.options ≡ false
     → told.number ≡ Some n → number_noted told.left server m.token ≡ Some n
     → IsCounted (on_noted f server m outcome told) server m n
@@ -112,8 +116,9 @@ counted_non f server m outcome told n k h number left =
       reply = reply;
       act = answer.act;
       sent = ap (λ kind. sent_to server (option_map spelling (reply_to f.kept.next_id m kind told.number answer))
-          ++ acted answer.act) k
-          ∙ ap (λ b. sent_to server (option_map spelling (if b then None else Some reply)) ++ acted answer.act) h;
+          ++ outputs_of_act answer.act) k
+          ∙ ap (λ b. sent_to server (option_map spelling (if b then None else Some reply)) ++ outputs_of_act answer.act)
+          h;
       options = location_options answer.location ++ format_options answer.format;
       observe = ap (λ o. observe_options o ++ (location_options answer.location ++ format_options answer.format))
           number;
@@ -129,13 +134,13 @@ counted_by f server m path accept outcome (inl k) i c l =
     let is = noted_is before server m path accept outcome.answer i c l in
     counted_con f server m outcome _ _ k (ap (λ t. t.number) is)
     (ap (λ t. number_noted t.left server m.token) is
-    ∙ registered_noted f.kept.observations (begun before server m path accept outcome.answer.payload))
+    ∙ registered_noted f.kept.observations (new_observation before server m path accept outcome.answer.payload))
 counted_by f server m path accept outcome (inr k) i c l =
     let before = with_client f.kept outcome.client in
     let is = noted_is before server m path accept outcome.answer i c l in
     counted_non f server m outcome _ _ k (understood m (Register path accept) i) (ap (λ t. t.number) is)
     (ap (λ t. number_noted t.left server m.token) is
-    ∙ registered_noted f.kept.observations (begun before server m path accept outcome.answer.payload))
+    ∙ registered_noted f.kept.observations (new_observation before server m path accept outcome.answer.payload))
 
 -- a fresh Read that registers
 pub registrations : RegistrationsCount

@@ -24,15 +24,17 @@ use Rattle.object_defs.specs.Path.{full_path}
 use Rattle.object_defs.specs.declared.path.FullPath.{FullPath}
 use Rattle.notifier.specs.Observed.{with_acknowledged, without_reset}
 use Rattle.notifier.specs.declared.observation.Observation.{Observation}
-use Rattle.device_machine.specs.Observing.{Noted, noted}
-use Rattle.device_machine.specs.Memory.{remembered}
-use Rattle.device_machine.specs.State.{Kept, Machine, lifetime, is_live, living, with_client, with_observations}
+use Rattle.device_machine.specs.Observing.{ObserveResult, observe_result}
+use Rattle.device_machine.specs.Memory.{remembered_flat}
+use Rattle.device_machine.specs.State.{DeviceState, Machine, lifetime, is_live, with_live_records, with_client}
+use Rattle.device_machine.specs.State.{with_observations}
 use Rattle.device_requests.specs.Client.{Client, has_account, with_stored}
 use Rattle.device_requests.specs.Answer.{Outcome}
 use Rattle.device_requests.specs.Request.{outcome_of}
-use Rattle.device_machine.specs.Reactions.{Reaction, reply_to, kept_after, later, on_firmware, on_fresh, on_noted}
-use Rattle.device_machine.specs.Reactions.{on_acknowledgement, on_outcome, on_reset, repeat_of, is_same, on_request}
-use Rattle.device_machine.specs.Reactions.{on_datagram, on_message, claims_confirmable, is_request, reaction_to}
+use Rattle.device_machine.specs.Reactions.{Reaction, reply_to, kept_after, flat_after_seconds, on_firmware, on_fresh}
+use Rattle.device_machine.specs.Reactions.{on_noted, on_acknowledgement, on_outcome, on_reset, repeat_of, is_same}
+use Rattle.device_machine.specs.Reactions.{on_request, on_datagram, on_message, claims_confirmable, is_request}
+use Rattle.device_machine.specs.Reactions.{reaction_to}
 
 -- a filter after a weaker one
 pub filter-filter : {X : Type 0} (p q : X → Bool) → ((x : X) → q x ≡ true → p x ≡ true) → (xs : List X)
@@ -69,26 +71,27 @@ live_later clock n second life h = grind (arith, nat_tests)
 -- two reactions that look alike
 pub record Alike (a b : Reaction) : Type 0 where
   pub outputs : a.outputs ≡ b.outputs
-  pub living_then : living a.flat ≡ living b.flat
+  pub living_then : with_live_records a.flat ≡ with_live_records b.flat
 
-abbrev flat_of : Kept → List Recorded → Machine
+abbrev flat_of : DeviceState → List Recorded → Machine
 flat_of k xs = record { kept = k; recorded = xs }
 
 -- where only those that live are kept, the same ones live
-pub forgotten : (k : Kept) (kept all : List Recorded) → kept ≡ filter (λ r. is_live k.clock r) all
-    → living (flat_of k kept) ≡ living (flat_of k all)
+pub forgotten : (k : DeviceState) (kept all : List Recorded) → kept ≡ filter (λ r. is_live k.clock r) all
+    → with_live_records (flat_of k kept) ≡ with_live_records (flat_of k all)
 forgotten k kept all h =
     ap (λ rs. flat_of k (filter (λ r. is_live k.clock r) rs)) h
     ∙ ap (λ rs. flat_of k rs) (filter-filter (λ r. is_live k.clock r) (λ r. is_live k.clock r) (λ r e. e) all)
 
 -- what is remembered after an event lives
-pub living_remembered : (f : Machine) (event : Event) → living (remembered f event) ≡ living f
+pub living_remembered : (f : Machine) (event : Event)
+    → with_live_records (remembered_flat f event) ≡ with_live_records f
 living_remembered f (Recv server bytes) = refl
 living_remembered f (Put path value) = refl
 living_remembered f (Firmware code) = refl
 living_remembered f (Tick seconds) = forgotten f.kept _ f.recorded refl
 
-abbrev put_in : Kept → Option FullPath → Value → Kept
+abbrev put_in : DeviceState → Option FullPath → Value → DeviceState
 put_in k place value =
     with_client k (with_stored k.client (with_value_at k.client.store place value))
 
@@ -100,11 +103,11 @@ alike_choice : (b : Bool) (r s t u : Reaction) → Alike r s → Alike t u → A
 alike_choice true r s t u h k = h
 alike_choice false r s t u h k = k
 
-alike_quiet : (k : Kept) (xs ys : List Recorded) (o : List Output) → SameLiving k.clock xs ys
+alike_quiet : (k : DeviceState) (xs ys : List Recorded) (o : List Output) → SameLiving k.clock xs ys
     → Alike (record { outputs = o; flat = flat_of k xs }) (record { outputs = o; flat = flat_of k ys })
 alike_quiet k xs ys o h = record { outputs = refl; living_then = ap (λ rs. flat_of k rs) h }
 
-pub repeat_same : (k : Kept) (xs ys : List Recorded) (server : ℕ) (m : Message) → SameLiving k.clock xs ys
+pub repeat_same : (k : DeviceState) (xs ys : List Recorded) (server : ℕ) (m : Message) → SameLiving k.clock xs ys
     → repeat_of (flat_of k xs) server m ≡ repeat_of (flat_of k ys) server m
 repeat_same k xs ys server m h =
     sym (find-filter (λ r. is_live k.clock r) (λ r. is_same server m r) xs)
@@ -116,7 +119,7 @@ same_pushed clock xs ys zs h =
     filter-append (λ r. is_live clock r) xs zs ∙ ap (λ t. t ++ filter (λ r. is_live clock r) zs) h
     ∙ sym (filter-append (λ r. is_live clock r) ys zs)
 
-pub clock_after : (k : Kept) (kind : Kind) (reply : Option Message) → (kept_after k kind reply).clock ≡ k.clock
+pub clock_after : (k : DeviceState) (kind : Kind) (reply : Option Message) → (kept_after k kind reply).clock ≡ k.clock
 clock_after k Con reply = refl
 clock_after k Non None = refl
 clock_after k Non (Some reply) = refl
@@ -126,7 +129,8 @@ clock_after k Rst reply = refl
 same_at : (c d : ℕ) (xs ys : List Recorded) → c ≡ d → SameLiving d xs ys → SameLiving c xs ys
 same_at c d xs ys e h = subst (λ n. SameLiving n xs ys) (sym e) h
 
-alike_fresh : (k : Kept) (xs ys : List Recorded) (server : ℕ) (m : Message) (client : Client) (left : List Observation)
+alike_fresh : (k : DeviceState) (xs ys : List Recorded) (server : ℕ) (m : Message) (client : Client)
+    (left : List Observation)
     (reply : Option Message) (act : Option Deed) → SameLiving k.clock xs ys
     → let new = with_observations (with_client k client) left in
     Alike (on_fresh (flat_of k xs) server m new reply act) (on_fresh (flat_of k ys) server m new reply act)
@@ -138,26 +142,27 @@ alike_fresh k xs ys server m client left reply act h =
           (same_at _ _ _ _ (clock_after new m.kind reply) (same_pushed k.clock xs ys _ h));
     }
 
-alike_noted : (k : Kept) (xs ys : List Recorded) (server : ℕ) (m : Message) (outcome : Outcome) (noted : Noted)
+alike_noted : (k : DeviceState) (xs ys : List Recorded) (server : ℕ) (m : Message) (outcome : Outcome)
+    (noted : ObserveResult)
     → SameLiving k.clock xs ys
     → Alike (on_noted (flat_of k xs) server m outcome noted) (on_noted (flat_of k ys) server m outcome noted)
 alike_noted k xs ys server m outcome noted h =
     alike_fresh k xs ys server m outcome.client noted.left
     (reply_to k.next_id m m.kind noted.number outcome.answer) outcome.answer.act h
 
-alike_outcome : (k : Kept) (xs ys : List Recorded) (server : ℕ) (m : Message) (outcome : Outcome)
+alike_outcome : (k : DeviceState) (xs ys : List Recorded) (server : ℕ) (m : Message) (outcome : Outcome)
     → SameLiving k.clock xs ys
     → Alike (on_outcome (flat_of k xs) server m outcome) (on_outcome (flat_of k ys) server m outcome)
 alike_outcome k xs ys server m outcome h =
-    alike_noted k xs ys server m outcome (noted (with_client k outcome.client) server m outcome.answer) h
+    alike_noted k xs ys server m outcome (observe_result (with_client k outcome.client) server m outcome.answer) h
 
-alike_request : (k : Kept) (xs ys : List Recorded) (server : ℕ) (m : Message) (o : Option Recorded)
+alike_request : (k : DeviceState) (xs ys : List Recorded) (server : ℕ) (m : Message) (o : Option Recorded)
     → SameLiving k.clock xs ys
     → Alike (on_request (flat_of k xs) server m o) (on_request (flat_of k ys) server m o)
 alike_request k xs ys server m None h = alike_outcome k xs ys server m (outcome_of k.client server m) h
 alike_request k xs ys server m (Some r) h = alike_quiet k xs ys _ h
 
-alike_asked : (k : Kept) (xs ys : List Recorded) (server : ℕ) (m : Message) → SameLiving k.clock xs ys
+alike_asked : (k : DeviceState) (xs ys : List Recorded) (server : ℕ) (m : Message) → SameLiving k.clock xs ys
     → Alike (on_request (flat_of k xs) server m (repeat_of (flat_of k xs) server m))
     (on_request (flat_of k ys) server m (repeat_of (flat_of k ys) server m))
 alike_asked k xs ys server m h =
@@ -165,7 +170,7 @@ alike_asked k xs ys server m h =
     (on_request (flat_of k ys) server m o))
     (repeat_same k xs ys server m h) (alike_request k xs ys server m (repeat_of (flat_of k xs) server m) h)
 
-alike_reset : (k : Kept) (xs ys : List Recorded) (server mid : ℕ) → SameLiving k.clock xs ys
+alike_reset : (k : DeviceState) (xs ys : List Recorded) (server mid : ℕ) → SameLiving k.clock xs ys
     → Alike (on_reset (flat_of k xs) server mid) (on_reset (flat_of k ys) server mid)
 alike_reset k xs ys server mid h =
     record {
@@ -174,7 +179,7 @@ alike_reset k xs ys server mid h =
           ap (λ rs. flat_of (with_observations k (without_reset k.observations server mid)) rs) h;
     }
 
-alike_acknowledgement : (k : Kept) (xs ys : List Recorded) (server mid : ℕ) → SameLiving k.clock xs ys
+alike_acknowledgement : (k : DeviceState) (xs ys : List Recorded) (server mid : ℕ) → SameLiving k.clock xs ys
     → Alike (on_acknowledgement (flat_of k xs) server mid) (on_acknowledgement (flat_of k ys) server mid)
 alike_acknowledgement k xs ys server mid h =
     record {
@@ -183,7 +188,8 @@ alike_acknowledgement k xs ys server mid h =
           ap (λ rs. flat_of (with_observations k (with_acknowledged k.observations server mid)) rs) h;
     }
 
-alike_message : (k : Kept) (xs ys : List Recorded) (server : ℕ) (m : Message) (kind : Kind) → SameLiving k.clock xs ys
+alike_message : (k : DeviceState) (xs ys : List Recorded) (server : ℕ) (m : Message) (kind : Kind)
+    → SameLiving k.clock xs ys
     → Alike (on_message (flat_of k xs) server m kind) (on_message (flat_of k ys) server m kind)
 alike_message k xs ys server m Con h =
     alike_choice (is_request m.code) _ _ _ _ (alike_asked k xs ys server m h) (alike_quiet k xs ys _ h)
@@ -194,20 +200,22 @@ alike_message k xs ys server m Ack h =
 alike_message k xs ys server m Rst h =
     alike_choice (m.code == 0) _ _ _ _ (alike_reset k xs ys server m.mid h) (alike_quiet k xs ys _ h)
 
-alike_datagram : (k : Kept) (xs ys : List Recorded) (server : ℕ) (bytes : List ℕ) (reading : Result Message CoapFault)
+alike_datagram : (k : DeviceState) (xs ys : List Recorded) (server : ℕ) (bytes : List ℕ)
+    (reading : Result Message CoapFault)
     → SameLiving k.clock xs ys
     → Alike (on_datagram (flat_of k xs) server bytes reading) (on_datagram (flat_of k ys) server bytes reading)
 alike_datagram k xs ys server bytes (Ok m) h = alike_message k xs ys server m m.kind h
 alike_datagram k xs ys server bytes (Err fault) h =
     alike_choice (claims_confirmable bytes) _ _ _ _ (alike_quiet k xs ys _ h) (alike_quiet k xs ys _ h)
 
-alike_put : (k : Kept) (xs ys : List Recorded) (place : Option FullPath) (value : Value) → SameLiving k.clock xs ys
+alike_put : (k : DeviceState) (xs ys : List Recorded) (place : Option FullPath) (value : Value)
+    → SameLiving k.clock xs ys
     → Alike (record { outputs = []; flat = flat_of (put_in k place value) xs })
     (record { outputs = []; flat = flat_of (put_in k place value) ys })
 alike_put k xs ys place value h =
     record { outputs = refl; living_then = ap (λ rs. flat_of (put_in k place value) rs) h }
 
-alike_firmware : (k : Kept) (xs ys : List Recorded) (stored : Option Stored) → SameLiving k.clock xs ys
+alike_firmware : (k : DeviceState) (xs ys : List Recorded) (stored : Option Stored) → SameLiving k.clock xs ys
     → Alike (on_firmware (flat_of k xs) stored) (on_firmware (flat_of k ys) stored)
 alike_firmware k xs ys None h = alike_quiet k xs ys _ h
 alike_firmware k xs ys (Some stored) h =
@@ -221,7 +229,7 @@ same_later clock n xs ys h =
     ∙ ap (λ rs. filter (λ r. is_live (clock + n) r) rs) h
     ∙ filter-filter (λ r. is_live clock r) (λ r. is_live (clock + n) r) weaker ys
 
-alike_event : (k : Kept) (xs ys : List Recorded) → SameLiving k.clock xs ys → (event : Event)
+alike_event : (k : DeviceState) (xs ys : List Recorded) → SameLiving k.clock xs ys → (event : Event)
     → Alike (reaction_to (flat_of k xs) event) (reaction_to (flat_of k ys) event)
 alike_event k xs ys h (Recv server bytes) =
     alike_choice (has_account k.client server) _ _ _ _ (alike_datagram k xs ys server bytes (reading_of bytes) h)
@@ -234,11 +242,12 @@ alike_event k xs ys h (Tick n) =
     record {
       outputs = refl;
       living_then =
-          ap (λ rs. flat_of (later (flat_of k []) n).kept rs) (same_later k.clock n xs ys h);
+          ap (λ rs. flat_of (flat_after_seconds (flat_of k []) n).kept rs) (same_later k.clock n xs ys h);
     }
 
 -- flat states in which the same requests live react alike
-pub alike : (f g : Machine) → living f ≡ living g → (event : Event) → Alike (reaction_to f event) (reaction_to g event)
+pub alike : (f g : Machine) → with_live_records f ≡ with_live_records g → (event : Event)
+    → Alike (reaction_to f event) (reaction_to g event)
 alike f g h event =
     subst (λ k. filter (λ r. is_live f.kept.clock r) f.recorded ≡ filter (λ r. is_live k.clock r) g.recorded
     → Alike (reaction_to f event) (reaction_to (flat_of k g.recorded) event)) (ap (λ s. s.kept) h)

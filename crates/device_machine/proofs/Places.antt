@@ -8,7 +8,7 @@ use Rattle.device_requests.specs.declared.answer.Act.{Act as Deed}
 use Rattle.device_requests.specs.declared.answer.Answer.{Answer}
 use Rattle.device_requests.specs.declared.observe.Interest.{Interest}
 use Rattle.device_requests.specs.Observe.{interest_of}
-use Rattle.device_machine.specs.Observing.{Noted, Notes, noted, noted_by}
+use Rattle.device_machine.specs.Observing.{Notes, ObserveResult, noted_by, observe_result}
 use Rattle.device_machine.specs.State.{Machine, with_client, with_observations}
 use Rattle.device_machine.specs.Reactions.{on_fresh, on_noted, on_outcome, reply_to}
 
@@ -22,7 +22,7 @@ pub taken : (f h : Machine) (server : ℕ) (m : Message) (client : Client) (answ
     → on_fresh h server m h.kept reply act ≡ on_outcome f server m (outcome_of f.kept.client server m)
 taken f h server m client answer interest number reply act leaves asks noted_so same replied acts =
     let before = with_client f.kept client in
-    let told : Client → Answer → Noted = λ c a. noted (with_client f.kept c) server m a in
+    let told : Client → Answer → ObserveResult = λ c a. observe_result (with_client f.kept c) server m a in
     let notes : Notes number before h.kept (told client answer) =
     subst (λ o. Notes number before h.kept (noted_by before server m answer o)) asks noted_so in
     let state : h ≡ record {

@@ -7,7 +7,7 @@ use Rattle.coap_codec.specs.Message.{Message, spelling}
 use Rattle.coap_codec.specs.declared.kind.Kind.{Kind}
 use Rattle.coap_codec.specs.declared.kind.Kind.TheVariants.{Con, Non, Ack, Rst}
 use Rattle.device_machine.specs.declared.event.Event.TheVariants.{Recv}
-use Rattle.notifier.specs.Observed.{cancelled, has_name, is_named, was_sent}
+use Rattle.notifier.specs.Observed.{has_name, is_named, was_sent, without_cancelled}
 use Rattle.device_requests.specs.Answer.{Outcome, is_content_code}
 use Rattle.device_requests.specs.Observe.{interest_of}
 use Rattle.device_requests.specs.declared.answer.Answer.{Answer}
@@ -18,9 +18,9 @@ use Rattle.device_requests.specs.declared.answer.Code.TheVariants.{NotAcceptable
 use Rattle.device_requests.specs.declared.answer.Code.TheVariants.{InternalServerError}
 use Rattle.device_requests.specs.declared.observe.Interest.{Interest}
 use Rattle.device_requests.specs.declared.observe.Interest.TheVariants.{Register, Cancel}
-use Rattle.device_machine.specs.Observing.{noted, noted_by}
+use Rattle.device_machine.specs.Observing.{noted_by, observe_result}
 use Rattle.device_requests.specs.Request.{outcome_of}
-use Rattle.device_machine.specs.State.{Machine, Kept, with_client, with_observations}
+use Rattle.device_machine.specs.State.{Machine, DeviceState, with_client, with_observations}
 use Rattle.device_requests.proofs.Refusing.{refused_keeps}
 use Rattle.device_machine.specs.Reactions.{kept_after, on_message, on_outcome, on_reset, reaction_to, record_of}
 use Rattle.device_machine.specs.Reactions.{reply_to}
@@ -44,15 +44,15 @@ not_content UnsupportedContentFormat h = refl
 not_content InternalServerError h = refl
 
 -- what a refusal leaves of the observations
-refused_left : (k : Kept) (server : ℕ) (m : Message) (answer : Answer) (interest : Option Interest)
+refused_left : (k : DeviceState) (server : ℕ) (m : Message) (answer : Answer) (interest : Option Interest)
     → is_refusal answer.code ≡ true
     → (noted_by k server m answer interest).left
-    ≡ (if is_some interest then cancelled k.observations server m.token else k.observations)
+    ≡ (if is_some interest then without_cancelled k.observations server m.token else k.observations)
 refused_left k server m answer None h = refl
 refused_left k server m answer (Some Cancel) h = refl
 refused_left k server m answer (Some (Register path accept)) h = rw (not_content answer.code h) refl
 
-pub observations_after : (k : Kept) (kind : Kind) (reply : Option Message)
+pub observations_after : (k : DeviceState) (kind : Kind) (reply : Option Message)
     → (kept_after k kind reply).observations ≡ k.observations
 observations_after k Con reply = refl
 observations_after k Non None = refl
@@ -65,7 +65,7 @@ only_records : (f : Machine) (server : ℕ) (m : Message) (outcome : Outcome) �
     → OnlyRecords f server m (on_outcome f server m outcome).flat
 only_records f server m outcome h r =
     let before = with_client f.kept outcome.client in
-    let told = noted before server m outcome.answer in
+    let told = observe_result before server m outcome.answer in
     let k = with_observations before told.left in
     let reply = reply_to f.kept.next_id m m.kind told.number outcome.answer in
     record {
@@ -102,7 +102,7 @@ cancelled_left : (f : Machine) (server : ℕ) (m : Message) (outcome : Outcome) 
     → has_name (on_outcome f server m outcome).flat.kept.observations server m.token ≡ false
 cancelled_left f server m outcome h =
     let before = with_client f.kept outcome.client in
-    let told = noted before server m outcome.answer in
+    let told = observe_result before server m outcome.answer in
     let k = with_observations before told.left in
     ap (λ os. has_name os server m.token)
     (observations_after k m.kind (reply_to f.kept.next_id m m.kind told.number outcome.answer)

@@ -11,16 +11,16 @@ use Rattle.coap_codec.specs.declared.kind.Kind.TheVariants.{Con, Non, Ack, Rst}
 use Rattle.device_machine.specs.declared.event.Event.TheVariants.{Recv}
 use Rattle.device_machine.specs.declared.recorded.Recorded.{Recorded}
 use Rattle.device_requests.specs.declared.answer.Act.{Act as Deed}
-use Rattle.device_machine.specs.State.{Kept, Machine, lifetime, is_live, with_client, with_observations}
+use Rattle.device_machine.specs.State.{DeviceState, Machine, lifetime, is_live, with_client, with_observations}
 use Rattle.notifier.specs.declared.observation.Observation.{Observation}
-use Rattle.device_machine.specs.Observing.{Noted, noted}
+use Rattle.device_machine.specs.Observing.{ObserveResult, observe_result}
 use Rattle.device_requests.specs.Answer.{Outcome}
 use Rattle.device_requests.specs.Client.{Client, has_account}
 use Rattle.device_requests.proofs.Keeping.{keeps}
 use Rattle.device_requests.specs.Request.{outcome_of}
-use Rattle.device_machine.specs.Reactions.{acted, sent_to, again, is_request, is_same, kept_after, later, on_fresh}
-use Rattle.device_machine.specs.Reactions.{on_message, on_outcome, on_request, reaction_to, record_of, repeat_of}
-use Rattle.device_machine.specs.Reactions.{reply_to}
+use Rattle.device_machine.specs.Reactions.{outputs_of_act, sent_to, again, is_request, is_same, kept_after}
+use Rattle.device_machine.specs.Reactions.{flat_after_seconds, on_fresh, on_message, on_outcome, on_request}
+use Rattle.device_machine.specs.Reactions.{reaction_to, record_of, repeat_of, reply_to}
 use Rattle.device_machine.specs.Laws.{IsFresh, IsAgain, is_sent}
 use Rattle.device_machine.proofs.Living.{clock_after, live_later}
 
@@ -59,7 +59,8 @@ same_id : (server a b : ℕ) (k l : Kind) → a ≡ b → k ≡ l
     → (server == server && (b == a && kind_number l == kind_number k)) ≡ true
 same_id server a b k l e f = rw (e, f) (grind (arith, nat_tests))
 
-pub client_after : (k : Kept) (kind : Kind) (reply : Option Message) → (kept_after k kind reply).client ≡ k.client
+pub client_after : (k : DeviceState) (kind : Kind) (reply : Option Message)
+    → (kept_after k kind reply).client ≡ k.client
 client_after k Con reply = refl
 client_after k Non None = refl
 client_after k Non (Some reply) = refl
@@ -104,7 +105,8 @@ found_at clock server seconds m n xs e es ek ei et first short k i =
 pub found : (f : Machine) (server seconds : ℕ) (m n : Message) (client : Client) (left : List Observation)
     (reply : Option Message) (act : Option Deed)
     → repeat_of f server m ≡ None → seconds < lifetime m.kind → n.kind ≡ m.kind → n.mid ≡ m.mid
-    → repeat_of (later (on_fresh f server m (with_observations (with_client f.kept client) left) reply act).flat
+    → repeat_of (flat_after_seconds (on_fresh f server m
+    (with_observations (with_client f.kept client) left) reply act).flat
     seconds) server n
     ≡ Some (record_of f.kept server m (option_map spelling reply))
 found f server seconds m n client left reply act first short k i =
@@ -118,7 +120,8 @@ found f server seconds m n client left reply act first short k i =
 account_stays : (f : Machine) (server seconds : ℕ) (m : Message) (client : Client) (left : List Observation)
     (reply : Option Message) (act : Option Deed)
     → client.accounts ≡ f.kept.client.accounts → has_account f.kept.client server ≡ true
-    → has_account (later (on_fresh f server m (with_observations (with_client f.kept client) left) reply act).flat
+    → has_account (flat_after_seconds (on_fresh f server m
+    (with_observations (with_client f.kept client) left) reply act).flat
     seconds).kept.client server ≡ true
 account_stays f server seconds m client left reply act same a =
     subst (λ accounts. list_any (λ account. account == server) accounts ≡ true)
@@ -157,24 +160,24 @@ again_non g server bytes n r a reading request k e =
 
 -- of a reply and an act the reply is sent
 only_sent : (server : ℕ) (reply : Option (List ℕ)) (act : Option Deed)
-    → filter is_sent (sent_to server reply ++ acted act) ≡ sent_to server reply
+    → filter is_sent (sent_to server reply ++ outputs_of_act act) ≡ sent_to server reply
 only_sent server None None = refl
 only_sent server None (Some act) = refl
 only_sent server (Some bytes) None = refl
 only_sent server (Some bytes) (Some act) = refl
 
 -- what is kept after a request with this outcome
-abbrev noted_with : Machine → ℕ → Message → Outcome → Noted
-noted_with f server m outcome = noted (with_client f.kept outcome.client) server m outcome.answer
+abbrev noted_with : Machine → ℕ → Message → Outcome → ObserveResult
+noted_with f server m outcome = observe_result (with_client f.kept outcome.client) server m outcome.answer
 
 -- a fresh confirmable request and its repeat
 pub confirmable : (f : Machine) (server seconds : ℕ) (bytes more : List ℕ) (m n : Message) → IsFresh f server bytes m
     → m.kind ≡ Con → seconds < lifetime Con → IsAgain m more n
-    → reaction_to (later (reaction_to f (Recv server bytes)).flat seconds) (Recv server more)
+    → reaction_to (flat_after_seconds (reaction_to f (Recv server bytes)).flat seconds) (Recv server more)
     ≡ record {
       outputs = filter is_sent (reaction_to f (Recv server bytes)).outputs;
       flat =
-          later (reaction_to f (Recv server bytes)).flat seconds;
+          flat_after_seconds (reaction_to f (Recv server bytes)).flat seconds;
     }
 confirmable f server seconds bytes more m n fresh k short h =
     let outcome = outcome_of f.kept.client server m in
@@ -183,21 +186,21 @@ confirmable f server seconds bytes more m n fresh k short h =
     let act = outcome.answer.act in
     let then = (on_fresh f server m (with_observations (with_client f.kept outcome.client) told.left) reply act).flat in
     let here : seconds < lifetime m.kind = subst (λ kind. seconds < lifetime kind) (sym k) short in
-    subst (λ r. reaction_to (later r.flat seconds) (Recv server more)
-    ≡ record { outputs = filter is_sent r.outputs; flat = later r.flat seconds })
+    subst (λ r. reaction_to (flat_after_seconds r.flat seconds) (Recv server more)
+    ≡ record { outputs = filter is_sent r.outputs; flat = flat_after_seconds r.flat seconds })
     (sym (first_con f server bytes m fresh k))
-    ((again_con (later then seconds) server more n (record_of f.kept server m (option_map spelling reply))
+    ((again_con (flat_after_seconds then seconds) server more n (record_of f.kept server m (option_map spelling reply))
     (account_stays f server seconds m outcome.client told.left reply act
     (keeps f.kept.client server m).accounts fresh.account) h.reading h.request (h.kind ∙ k)
     (found f server seconds m n outcome.client told.left reply act fresh.first here h.kind h.mid))
-    ∙ ap (λ o. record { outputs = o; flat = later then seconds })
+    ∙ ap (λ o. record { outputs = o; flat = flat_after_seconds then seconds })
     (sym (only_sent server (option_map spelling reply) act)))
 
 -- a fresh non-confirmable request and its repeat
 pub non_confirmable : (f : Machine) (server seconds : ℕ) (bytes more : List ℕ) (m n : Message)
     → IsFresh f server bytes m → m.kind ≡ Non → seconds < lifetime Non → IsAgain m more n
-    → reaction_to (later (reaction_to f (Recv server bytes)).flat seconds) (Recv server more)
-    ≡ record { outputs = []; flat = later (reaction_to f (Recv server bytes)).flat seconds }
+    → reaction_to (flat_after_seconds (reaction_to f (Recv server bytes)).flat seconds) (Recv server more)
+    ≡ record { outputs = []; flat = flat_after_seconds (reaction_to f (Recv server bytes)).flat seconds }
 non_confirmable f server seconds bytes more m n fresh k short h =
     let outcome = outcome_of f.kept.client server m in
     let told = noted_with f server m outcome in
@@ -205,10 +208,10 @@ non_confirmable f server seconds bytes more m n fresh k short h =
     let act = outcome.answer.act in
     let then = (on_fresh f server m (with_observations (with_client f.kept outcome.client) told.left) reply act).flat in
     let here : seconds < lifetime m.kind = subst (λ kind. seconds < lifetime kind) (sym k) short in
-    subst (λ r. reaction_to (later r.flat seconds) (Recv server more)
-    ≡ record { outputs = []; flat = later r.flat seconds })
+    subst (λ r. reaction_to (flat_after_seconds r.flat seconds) (Recv server more)
+    ≡ record { outputs = []; flat = flat_after_seconds r.flat seconds })
     (sym (first_non f server bytes m fresh k))
-    (again_non (later then seconds) server more n (record_of f.kept server m (option_map spelling reply))
+    (again_non (flat_after_seconds then seconds) server more n (record_of f.kept server m (option_map spelling reply))
     (account_stays f server seconds m outcome.client told.left reply act
     (keeps f.kept.client server m).accounts fresh.account) h.reading h.request (h.kind ∙ k)
     (found f server seconds m n outcome.client told.left reply act fresh.first here h.kind h.mid))

@@ -18,7 +18,7 @@ use Rattle.notifier.specs.declared.pending.Outlook.{Outlook}
 use Rattle.device_requests.specs.Client.{Client, with_stored}
 use Rattle.device_notifications.specs.Laws.{IsFirstSending}
 use Rattle.device_notifications.specs.Reach.{DifferAt}
-use Rattle.device_notifications.specs.Second.{quiet, second}
+use Rattle.device_notifications.specs.Second.{quiet_sweep, second}
 use Rattle.device_notifications.proofs.Differing.{differ_at_one, differ_at_two}
 use Rattle.device_notifications.proofs.Resting.{first_sending, quiet_second}
 use Rattle.device_notifications.specs.Outlooks.{IsKnown, outlook_of, outlooks_of}
@@ -108,7 +108,7 @@ known_ended code client after old new known is anew =
 pub due_is : (client : Client) (clock next_id : ℕ) (os : List Observation) (ss : List Outlook) (r : Option ℕ)
     → ss ≡ outlooks_of client os → MatchOption r (IsNeverDue clock os ss) (λ first. IsFirstDue clock os ss first)
     → MatchOption r
-    ((t : ℕ) → clock < t → t < 2 ^ 64 → second client t next_id os ≡ quiet next_id os)
+    ((t : ℕ) → clock < t → t < 2 ^ 64 → second client t next_id os ≡ quiet_sweep next_id os)
     (λ first. IsFirstSending client clock next_id os first)
 due_is client clock next_id os ss None known h =
     λ t after fits. quiet_second client t next_id os (ap (λ xs. is_one_due os xs t) (sym known) ∙ h t after fits)

@@ -8,7 +8,7 @@ use Rattle.device_notifications.proofs.Spans.{seconds_add, seconds_send_after_pm
 use Rattle.device_notifications.proofs.Turns.{seconds_send_before_pmax}
 use Rattle.device_requests.specs.Client.{Client}
 use Rattle.device_machine.specs.Laws.{TicksAdd, TicksCount, TicksSendAfterPmin, TicksSendBeforePmax}
-use Rattle.device_machine.specs.Reactions.{later, send_of, sweep_in}
+use Rattle.device_machine.specs.Reactions.{flat_after_seconds, send_of, sweep_in}
 
 pub add : TicksAdd
 add f a b =
@@ -16,7 +16,7 @@ add f a b =
     let at : f.kept.clock + (a + b) ≡ f.kept.clock + a + b = omega arith in
     record {
       sent = ap (λ t. map send_of t.sent) all ∙ map-append send_of (sweep_in f.kept a).sent
-          (sweep_in (later f a).kept b).sent;
+          (sweep_in (flat_after_seconds f a).kept b).sent;
       then_flat = λ j. record {
         kept = record { client = f.kept.client; observations = (all j).left; clock = at j; next_id = (all j).next_id };
         recorded = f.recorded;

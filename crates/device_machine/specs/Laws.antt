@@ -16,7 +16,7 @@ use Rattle.device_machine.specs.declared.recorded.Recorded.{Recorded}
 use Rattle.device_requests.specs.Answer.{code_byte, is_content}
 use Rattle.object_defs.specs.Lines.{first_line}
 use Rattle.device_requests.specs.Request.{outcome_of}
-use Rattle.notifier.specs.Observed.{as_closed, cancelled, has_name, is_awaited, is_named, number_for, was_sent}
+use Rattle.notifier.specs.Observed.{as_closed, has_name, is_awaited, is_named, number_for, was_sent, without_cancelled}
 use Rattle.notifier.specs.declared.observation.Observation.{Observation}
 use Rattle.notifier.specs.declared.observation.Timer.{Timer}
 use Rattle.object_defs.specs.declared.path.Path.{Path}
@@ -32,8 +32,8 @@ use Rattle.device_machine.specs.State.{Machine, lifetime, with_observations}
 use Rattle.device_requests.specs.Client.{has_account}
 use Rattle.device_requests.specs.Options.{has_unrecognized_critical}
 use Rattle.device_requests.specs.Laws.{is_refusal, request_lines}
-use Rattle.device_machine.specs.Reactions.{Reaction, acted, outputs_of, flat_after, is_request, later, reaction_to}
-use Rattle.device_machine.specs.Reactions.{repeat_of, send_of, silence}
+use Rattle.device_machine.specs.Reactions.{Reaction, outputs_of_act, outputs_of, flat_after, is_request}
+use Rattle.device_machine.specs.Reactions.{flat_after_seconds, reaction_to, repeat_of, send_of, silence}
 
 -- the bytes are a request of this server that is no repeat
 pub record IsFresh (f : Machine) (server : ℕ) (bytes : List ℕ) (m : Message) : Type 0 where
@@ -59,26 +59,26 @@ abbrev pub ConfirmableRepeats : Type 0
 ConfirmableRepeats =
     (f : Machine) (server seconds : ℕ) (bytes again : List ℕ) (m n : Message)
     → IsFresh f server bytes m → m.kind ≡ Con → seconds < lifetime Con → IsAgain m again n
-    → (outputs_of (later (flat_after f (Recv server bytes)) seconds) (Recv server again)
+    → (outputs_of (flat_after_seconds (flat_after f (Recv server bytes)) seconds) (Recv server again)
     ≡ filter is_sent (outputs_of f (Recv server bytes)))
-    × (flat_after (later (flat_after f (Recv server bytes)) seconds) (Recv server again)
-    ≡ later (flat_after f (Recv server bytes)) seconds)
+    × (flat_after (flat_after_seconds (flat_after f (Recv server bytes)) seconds) (Recv server again)
+    ≡ flat_after_seconds (flat_after f (Recv server bytes)) seconds)
 
 -- a non-confirmable one gets nothing then, and changes nothing
 abbrev pub NonConfirmableRepeats : Type 0
 NonConfirmableRepeats =
     (f : Machine) (server seconds : ℕ) (bytes again : List ℕ) (m n : Message)
     → IsFresh f server bytes m → m.kind ≡ Non → seconds < lifetime Non → IsAgain m again n
-    → (outputs_of (later (flat_after f (Recv server bytes)) seconds) (Recv server again) ≡ [])
-    × (flat_after (later (flat_after f (Recv server bytes)) seconds) (Recv server again)
-    ≡ later (flat_after f (Recv server bytes)) seconds)
+    → (outputs_of (flat_after_seconds (flat_after f (Recv server bytes)) seconds) (Recv server again) ≡ [])
+    × (flat_after (flat_after_seconds (flat_after f (Recv server bytes)) seconds) (Recv server again)
+    ≡ flat_after_seconds (flat_after f (Recv server bytes)) seconds)
 
 -- a request gets one datagram, after which the device may act: a message of this type and message ID, with its token,
 -- whose code is that of the first line that applies
 pub record IsAnswered (f : Machine) (server : ℕ) (bytes : List ℕ) (m : Message) (kind : Kind) (mid : ℕ) : Type 0 where
   pub reply : Message
   pub act : Option Deed
-  pub sent : outputs_of f (Recv server bytes) ≡ Send server (spelling reply) ∷ acted act
+  pub sent : outputs_of f (Recv server bytes) ≡ Send server (spelling reply) ∷ outputs_of_act act
   pub kind_is : reply.kind ≡ kind
   pub mid_is : reply.mid ≡ mid
   pub token : reply.token ≡ m.token
@@ -111,7 +111,7 @@ NonConfirmableRejects =
 pub record OnlyRecords (f : Machine) (server : ℕ) (m : Message) (g : Machine) : Type 0 where
   pub client : g.kept.client ≡ f.kept.client
   pub observations : g.kept.observations
-      ≡ (if is_some (interest_of m) then cancelled f.kept.observations server m.token else f.kept.observations)
+      ≡ (if is_some (interest_of m) then without_cancelled f.kept.observations server m.token else f.kept.observations)
   pub clock : g.kept.clock ≡ f.kept.clock
   pub one_more : Recorded
   pub recorded : g.recorded ≡ f.recorded ++ one_more ∷ []
@@ -190,7 +190,7 @@ pub record IsCounted (reaction : Reaction) (server : ℕ) (m : Message) (number 
   pub left : number_noted reaction.flat.kept.observations server m.token ≡ Some number
   pub reply : Message
   pub act : Option Deed
-  pub sent : reaction.outputs ≡ Send server (spelling reply) ∷ acted act
+  pub sent : reaction.outputs ≡ Send server (spelling reply) ∷ outputs_of_act act
   pub options : List Opt
   pub observe : reply.options ≡ observe_options (Some number) ++ options
 

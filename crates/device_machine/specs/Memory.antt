@@ -19,7 +19,7 @@ use Rattle.device_machine.specs.declared.recorded.Recorded.{Recorded}
 use Rattle.device_notifications.specs.Progress.{does_act}
 use Rattle.device_notifications.specs.Reach.{is_one_reached}
 use Rattle.device_machine.specs.Reactions.{claims_confirmable, flat_after, is_request, repeat_of, sweep_in}
-use Rattle.device_machine.specs.State.{Machine, Kept, living, value_in}
+use Rattle.device_machine.specs.State.{Machine, DeviceState, with_live_records, value_in}
 use Rattle.device_template.specs.Values.{misses}
 use Rattle.lwm2m_values.specs.Value.{holds_bytes, kind_of}
 use Rattle.lwm2m_values.specs.declared.value.Value.{Value}
@@ -71,12 +71,12 @@ abbrev pub is_ignored : List ℕ → Bool
 is_ignored bytes = not (claims_confirmable bytes || (claims_non_confirmable bytes || is_empty_message bytes))
 
 -- an observation is there that one of these values reaches, so it is read anew once they have changed
-abbrev pub is_observed : Kept → List FullPath → Bool
+abbrev pub is_observed : DeviceState → List FullPath → Bool
 is_observed kept paths = is_one_reached paths kept.observations
 
 -- a value may take memory that fits: a Text or an Opaque, one in a place where none is held, and one that reaches an
 -- observation
-abbrev pub put_takes_memory : Kept → Option FullPath → Value → Bool
+abbrev pub put_takes_memory : DeviceState → Option FullPath → Value → Bool
 put_takes_memory kept place value =
     not (misses kept.client.catalog kept.client.store place value)
     && ((holds_bytes (kind_of value) || is_none (value_in kept place)) || is_observed kept (option_to_list place))
@@ -87,14 +87,14 @@ outcome_paths = single_of (firmware_resource update_state) ∷ single_of (firmwa
 
 -- an end of a download or an update may take memory that there is: where the two are not both held, and where one of
 -- them reaches an observation
-abbrev pub end_takes_memory : Kept → ℕ → Bool
+abbrev pub end_takes_memory : DeviceState → ℕ → Bool
 end_takes_memory kept code =
     is_some (firmware_after kept.client.store (Ended code))
     && (not (is_ready kept.client.store (Ended code)) || is_observed kept outcome_paths)
 
 -- an event may take memory: such a datagram of a server that has an account, such a value, such an end of a download or
 -- an update, and seconds in which something is sent for an observation, or one is removed
-abbrev pub event_takes_memory : Kept → Event → Bool
+abbrev pub event_takes_memory : DeviceState → Event → Bool
 event_takes_memory kept (Recv server bytes) = has_account kept.client server && datagram_takes_memory bytes
 event_takes_memory kept (Put path value) = put_takes_memory kept (full_path path) value
 event_takes_memory kept (Firmware code) = end_takes_memory kept code
@@ -107,28 +107,28 @@ pub record KeepsRecords (old new : Machine) : Type 0 where
   pub recorded : new.recorded ≡ old.recorded
 
 -- nothing of what is managed has changed, and no observation
-pub record KeepsManaged (old new : Kept) : Type 0 where
+pub record KeepsManaged (old new : DeviceState) : Type 0 where
   pub client : new.client ≡ old.client
   pub observations : new.observations ≡ old.observations
 
 -- of what is managed has changed what a request that is no repeat leaves unfinished, and no observation
-pub record IsAnsweredInPart (f : Machine) (server : ℕ) (m : Message) (new : Kept) : Type 0 where
+pub record IsAnsweredInPart (f : Machine) (server : ℕ) (m : Message) (new : DeviceState) : Type 0 where
   pub fresh : repeat_of f server m ≡ None
   pub client : IsUnfinished f.kept.client server m new.client
   pub observations : new.observations ≡ f.kept.observations
 
 -- so it is of bytes that are a message; others change nothing
-abbrev pub IsTakenInPart : Machine → ℕ → Result Message CoapFault → Kept → Type 0
+abbrev pub IsTakenInPart : Machine → ℕ → Result Message CoapFault → DeviceState → Type 0
 IsTakenInPart f server (Ok m) new = IsAnsweredInPart f server m new
 IsTakenInPart f server (Err fault) new = ⊥
 
 -- what is managed is this, and the observations are as before or these
-pub record IsManaged (old : Kept) (client : Client) (left : List Observation) (new : Kept) : Type 0 where
+pub record IsManaged (old : DeviceState) (client : Client) (left : List Observation) (new : DeviceState) : Type 0 where
   pub client_is : new.client ≡ client
   pub observations : (new.observations ≡ old.observations) ⊎ (new.observations ≡ left)
 
 -- some of these seconds have passed for the observations, and nothing of what is managed has changed
-pub record HasPassed (old new : Kept) (count : ℕ) : Type 0 where
+pub record HasPassed (old new : DeviceState) (count : ℕ) : Type 0 where
   pub client : new.client ≡ old.client
   pub passed : ℕ
   pub within : passed ≤ count
@@ -136,14 +136,14 @@ pub record HasPassed (old new : Kept) (count : ℕ) : Type 0 where
 
 -- a datagram is left off: nothing is done; or what its request changes is done in part; or all is done that is managed,
 -- and its observation is noted or not
-abbrev pub LeavesOff : Machine → ℕ → Result Message CoapFault → Kept → Kept → Type 0
+abbrev pub LeavesOff : Machine → ℕ → Result Message CoapFault → DeviceState → DeviceState → Type 0
 LeavesOff f server reading after new =
     KeepsManaged f.kept new
     ⊎ (IsTakenInPart f server reading new ⊎ IsManaged f.kept after.client after.observations new)
 
 -- what is left of a device where memory runs out in an event: of a datagram and of seconds a part may be done, of all
 -- else nothing is, or all of it
-abbrev pub IsLeftBy : Machine → Event → Kept → Type 0
+abbrev pub IsLeftBy : Machine → Event → DeviceState → Type 0
 IsLeftBy f (Recv server bytes) new =
     LeavesOff f server (reading_of bytes) (flat_after f (Recv server bytes)).kept new
 IsLeftBy f (Put path value) new = (new ≡ f.kept) ⊎ (new ≡ (flat_after f (Put path value)).kept)
@@ -151,8 +151,8 @@ IsLeftBy f (Firmware code) new = (new ≡ f.kept) ⊎ (new ≡ (flat_after f (Fi
 IsLeftBy f (Tick count) new = HasPassed f.kept new count
 
 -- what a device keeps of a flat state after an event: a tick ends the life of requests, and those are forgotten
-abbrev pub remembered : Machine → Event → Machine
-remembered f (Recv server bytes) = f
-remembered f (Put path value) = f
-remembered f (Firmware code) = f
-remembered f (Tick seconds) = living f
+abbrev pub remembered_flat : Machine → Event → Machine
+remembered_flat f (Recv server bytes) = f
+remembered_flat f (Put path value) = f
+remembered_flat f (Firmware code) = f
+remembered_flat f (Tick seconds) = with_live_records f

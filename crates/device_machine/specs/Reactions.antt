@@ -34,8 +34,8 @@ use Rattle.notifier.specs.Observed.{with_acknowledged, without_reset}
 use Rattle.device_notifications.specs.Message.{format_options, observe_options}
 use Rattle.device_notifications.specs.Second.{Sweep, seconds}
 use Rattle.device_notifications.specs.declared.datagram.Datagram.{Datagram}
-use Rattle.device_machine.specs.Observing.{Noted, noted}
-use Rattle.device_machine.specs.State.{Kept, Machine, Device, is_live, with_client, with_observations}
+use Rattle.device_machine.specs.Observing.{ObserveResult, observe_result}
+use Rattle.device_machine.specs.State.{DeviceState, Machine, Device, is_live, with_client, with_observations}
 
 -- what is output, and the flat state then
 pub record Reaction : Type 0 where
@@ -92,8 +92,8 @@ abbrev pub is_request : ℕ → Bool
 is_request code = code / 32 == 0 && not (code == 0)
 
 -- the next message ID is counted on, modulo 65,536
-abbrev pub counted : Kept → Kept
-counted kept = record kept { next_id = (kept.next_id + 1) % 65536 }
+abbrev pub with_id_taken : DeviceState → DeviceState
+with_id_taken kept = record kept { next_id = (kept.next_id + 1) % 65536 }
 
 -- a confirmable request is acknowledged; a non-confirmable one is answered by a message of the device's next
 -- message ID, or not at all where an option isn't understood
@@ -105,8 +105,8 @@ reply_to next_id m Ack number answer = None
 reply_to next_id m Rst number answer = None
 
 -- a reply of the device's own message ID counts it on
-abbrev pub kept_after : Kept → Kind → Option Message → Kept
-kept_after kept Non (Some reply) = counted kept
+abbrev pub kept_after : DeviceState → Kind → Option Message → DeviceState
+kept_after kept Non (Some reply) = with_id_taken kept
 kept_after kept kind reply = kept
 
 abbrev pub sent_to : ℕ → Option (List ℕ) → List Output
@@ -114,20 +114,20 @@ sent_to server None = []
 sent_to server (Some bytes) = Send server bytes ∷ []
 
 -- what the device does beside sending, if there is something
-abbrev pub acted : Option Deed → List Output
-acted None = []
-acted (Some act) = Act act ∷ []
+abbrev pub outputs_of_act : Option Deed → List Output
+outputs_of_act None = []
+outputs_of_act (Some act) = Act act ∷ []
 
 -- a request, as it is recorded with the datagram that replied
-abbrev pub record_of : Kept → ℕ → Message → Option (List ℕ) → Recorded
+abbrev pub record_of : DeviceState → ℕ → Message → Option (List ℕ) → Recorded
 record_of kept server m reply =
     record { server = server; kind = m.kind; mid = m.mid; second = kept.clock; reply = reply }
 
 -- a request is answered and recorded, refusals included; this is kept then, and the device acts after the reply
-abbrev pub on_fresh : Machine → ℕ → Message → Kept → Option Message → Option Deed → Reaction
+abbrev pub on_fresh : Machine → ℕ → Message → DeviceState → Option Message → Option Deed → Reaction
 on_fresh f server m kept reply act =
     record {
-      outputs = sent_to server (option_map spelling reply) ++ acted act;
+      outputs = sent_to server (option_map spelling reply) ++ outputs_of_act act;
       flat = record {
         kept = kept_after kept m.kind reply;
         recorded = f.recorded ++ record_of f.kept server m (option_map spelling reply) ∷ [];
@@ -135,7 +135,7 @@ on_fresh f server m kept reply act =
     }
 
 -- the observations are noted with the answer, and the reply has their number
-abbrev pub on_noted : Machine → ℕ → Message → Outcome → Noted → Reaction
+abbrev pub on_noted : Machine → ℕ → Message → Outcome → ObserveResult → Reaction
 on_noted f server m outcome noted =
     on_fresh f server m (with_observations (with_client f.kept outcome.client) noted.left)
     (reply_to f.kept.next_id m m.kind noted.number outcome.answer) outcome.answer.act
@@ -143,7 +143,7 @@ on_noted f server m outcome noted =
 -- what a request that is no repeat answers and changes
 abbrev pub on_outcome : Machine → ℕ → Message → Outcome → Reaction
 on_outcome f server m outcome =
-    on_noted f server m outcome (noted (with_client f.kept outcome.client) server m outcome.answer)
+    on_noted f server m outcome (observe_result (with_client f.kept outcome.client) server m outcome.answer)
 
 -- a recorded request of the same server, type and message ID, whose age is below its lifetime (RFC 7252 section 4.5);
 -- bytes are not compared
@@ -208,12 +208,12 @@ on_datagram f server bytes (Ok m) = on_message f server m m.kind
 on_datagram f server bytes (Err fault) = on_noise f server bytes
 
 -- what the observations do in n seconds
-abbrev pub sweep_in : Kept → ℕ → Sweep
+abbrev pub sweep_in : DeviceState → ℕ → Sweep
 sweep_in kept count = seconds kept.client kept.clock count kept.next_id kept.observations
 
 -- the flat state n seconds later: the clock is set on, second by second, and the observations have their turns
-abbrev pub later : Machine → ℕ → Machine
-later f count =
+abbrev pub flat_after_seconds : Machine → ℕ → Machine
+flat_after_seconds f count =
     record {
       kept = record {
         client = f.kept.client;
@@ -229,7 +229,7 @@ send_of datagram = Send datagram.server datagram.bytes
 
 -- seconds pass, and what the observations send in them is sent
 abbrev pub on_tick : Machine → ℕ → Reaction
-on_tick f count = record { outputs = map send_of (sweep_in f.kept count).sent; flat = later f count }
+on_tick f count = record { outputs = map send_of (sweep_in f.kept count).sent; flat = flat_after_seconds f count }
 
 -- a value is set where it fits; else the device does no more than say so
 abbrev pub on_put : Machine → Option FullPath → Value → Reaction

@@ -5,7 +5,7 @@ use Rattle.std.specs.List.{AllByRecursion}
 use Rattle.indexmap.specs.IndexMap.{IndexMap, IsUnique, values}
 use Rattle.coap_codec.specs.Message.{kind_number}
 use Rattle.coap_codec.specs.declared.kind.Kind.{Kind}
-use Rattle.device_machine.specs.Memory.{remembered}
+use Rattle.device_machine.specs.Memory.{remembered_flat}
 use Rattle.device_machine.specs.Reactions.{Reaction, flat_after, outputs_of}
 use Rattle.device_machine.specs.State.{Machine, is_live, lifetime}
 use Rattle.device_machine.specs.declared.event.Event.{Event}
@@ -46,8 +46,8 @@ is_recalled None r = true
 is_recalled (Some second) r = is_live second r
 
 -- the requests of an index that are recalled
-abbrev pub recalled : Index → List Recorded
-recalled i = filter (λ r. is_recalled i.ended r) (values i.entries)
+abbrev pub recalled_requests : Index → List Recorded
+recalled_requests i = filter (λ r. is_recalled i.ended r) (values i.entries)
 
 -- two keys are equal
 abbrev pub is_same_key : RecordKey → RecordKey → Bool
@@ -62,5 +62,5 @@ abbrev pub IsIndexed : Index → Type 0
 IsIndexed i = IsKeyed i.entries × (i.due ≡ first_end (values i.entries))
 
 -- what a device outputs on an event, and what it keeps of the flat state then
-abbrev pub remembering : Machine → Event → Reaction
-remembering f event = record { outputs = outputs_of f event; flat = remembered (flat_after f event) event }
+abbrev pub reaction_of_device : Machine → Event → Reaction
+reaction_of_device f event = record { outputs = outputs_of f event; flat = remembered_flat (flat_after f event) event }

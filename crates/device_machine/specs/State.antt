@@ -11,23 +11,23 @@ use Rattle.device_machine.specs.declared.recorded.Recorded.{Recorded}
 
 -- all of the flat state but the recorded requests: what device management looks at, the observations in the order of
 -- registration, the clock, and the device's next message ID
-pub record Kept : Type 0 where
+pub record DeviceState : Type 0 where
   pub client : Client
   pub observations : List Observation
   pub clock : ℕ
   pub next_id : ℕ
 
 -- the same with this client
-abbrev pub with_client : Kept → Client → Kept
+abbrev pub with_client : DeviceState → Client → DeviceState
 with_client kept client = record kept { client = client }
 
 -- the same with these observations
-abbrev pub with_observations : Kept → List Observation → Kept
+abbrev pub with_observations : DeviceState → List Observation → DeviceState
 with_observations kept observations = record kept { observations = observations }
 
 -- the flat state: what is kept, and all the requests since the start, oldest first
 pub record Machine : Type 0 where
-  pub kept : Kept
+  pub kept : DeviceState
   pub recorded : List Recorded
 
 -- for how many seconds a message ID is not used again: EXCHANGE_LIFETIME and NON_LIFETIME (RFC 7252 section 4.8.2)
@@ -42,8 +42,8 @@ abbrev pub is_live : ℕ → Recorded → Bool
 is_live clock r = nat_lt (clock - r.second) (lifetime r.kind)
 
 -- the flat state with those of the recorded requests that an answer can still depend on
-abbrev pub living : Machine → Machine
-living f = record f { recorded = filter (λ r. is_live f.kept.clock r) f.recorded }
+abbrev pub with_live_records : Machine → Machine
+with_live_records f = record f { recorded = filter (λ r. is_live f.kept.clock r) f.recorded }
 
 -- what contracts see of a device: of the recorded requests, those that live
 pub record Device : Type 0 where
@@ -53,9 +53,9 @@ pub record Device : Type 0 where
 -- the device is not spent, and shows this flat state
 pub record Shows (device : Device) (flat : Machine) : Type 0 where
   pub ready : device.spent ≡ false
-  pub holds : device.flat ≡ living flat
+  pub holds : device.flat ≡ with_live_records flat
 
 -- the value at a path that a device in this flat state has
-abbrev pub value_in : Kept → Option FullPath → Option Value
+abbrev pub value_in : DeviceState → Option FullPath → Option Value
 value_in kept None = None
 value_in kept (Some p) = value_at kept.client.store p

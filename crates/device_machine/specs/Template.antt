@@ -2,10 +2,10 @@
 use Rattle.std.specs.Prelude.{[]}
 use Rattle.std.specs.FinMap as map
 use Rattle.device_template.specs.Template.{Template, with_idle_firmware}
-use Rattle.device_machine.specs.State.{Kept}
+use Rattle.device_machine.specs.State.{DeviceState}
 
 -- what a device of the class keeps at its start
-abbrev pub start_of : Template → Kept
+abbrev pub start_of : Template → DeviceState
 start_of class =
     record {
       client = record {

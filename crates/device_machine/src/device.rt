@@ -40,13 +40,13 @@ impl Model for Device {
     ghost use Rattle.device_requests.specs.Client.{attributes_code};
     ghost use Rattle.device_machine.specs.Held.{IsUpToDate};
     ghost use Rattle.device_machine.specs.Template.{start_of};
-    ghost use Rattle.device_machine.specs.State.{Device, living};
+    ghost use Rattle.device_machine.specs.State.{Device, with_live_records};
 
     ghost Value = { Device };
 
     ghost coded = { Prim.hlevel (codes, stored_code, attributes_code) };
 
-    ghost view = { λ d. record { spent = d.spent; flat = living d.machine.value.flat } };
+    ghost view = { λ d. record { spent = d.spent; flat = with_live_records d.machine.value.flat } };
 
     ghost invariant = { λ d. d.spent ≡ false → IsUpToDate d.machine.value };
 }

@@ -10,7 +10,7 @@ ghost use Rattle.device_machine.specs.Template.{start_of};
 ghost use Rattle.device_machine.specs.Memory.{HasPassed, IsLeftBy, KeepsRecords, event_takes_memory, put_takes_memory};
 ghost use Rattle.device_machine.specs.declared.event.Event.TheVariants.{Firmware, Tick};
 ghost use Rattle.device_machine.specs.Reactions.{Gives, on_firmware, on_put, passes_end, sweep_in};
-ghost use Rattle.device_machine.specs.Records.{remembering};
+ghost use Rattle.device_machine.specs.Records.{reaction_of_device};
 ghost use Rattle.device_machine.specs.Held.{IsNextSending, IsUpToDate, IsSilent};
 ghost use Rattle.device_notifications.specs.Progress.{does_act};
 ghost use Rattle.device_firmware.specs.Firmware.{firmware_after};
@@ -56,10 +56,10 @@ impl Model for Machine {
     ghost use Rattle.std.specs.Coded.{codes};
     ghost use Rattle.instance_store.specs.Stored.{stored_code};
     ghost use Rattle.device_requests.specs.Client.{attributes_code};
-    ghost use Rattle.device_machine.specs.Held.{Held};
+    ghost use Rattle.device_machine.specs.Held.{StateWithOutlooks};
     ghost use Rattle.device_machine.specs.Records.{AllLive};
 
-    ghost Value = { Held };
+    ghost Value = { StateWithOutlooks };
 
     ghost coded = { Prim.hlevel (codes, stored_code, attributes_code) };
 
@@ -198,7 +198,7 @@ impl Machine {
     fn tick(&mut self, count: u32) -> Result<Outputs, AllocError>
         requires fits { self.old.flat.kept.clock + count < 2 ^ 63 }
         requires up_to_date { IsUpToDate self.old }
-        ensures gives { IfOk result (λ o. Gives o self.new.flat (remembering self.old.flat (Tick count))) }
+        ensures gives { IfOk result (λ o. Gives o self.new.flat (reaction_of_device self.old.flat (Tick count))) }
         ensures up_to_date { OnOk result (IsUpToDate self.new) }
 
         // It takes memory only where something is sent or an observation is removed.
@@ -271,7 +271,7 @@ impl Machine {
     pub(crate) fn react(&mut self, event: &Event) -> Result<Outputs, AllocError>
         requires fits { IsFalse (passes_end self.old.flat.kept.clock event.now) }
         requires up_to_date { IsUpToDate self.old }
-        ensures gives { IfOk result (λ o. Gives o self.new.flat (remembering self.old.flat event.now)) }
+        ensures gives { IfOk result (λ o. Gives o self.new.flat (reaction_of_device self.old.flat event.now)) }
         ensures up_to_date { OnOk result (IsUpToDate self.new) }
         ensures may_lack_memory { OnErr result (event_takes_memory self.old.flat.kept event.now ≡ true) }
         ensures left { OnErr result (KeepsRecords self.old.flat self.new.flat) }

@@ -1,6 +1,6 @@
 ghost use Rattle.std.specs.Prelude.{◌≡◌, ◌≢◌, ◌∷◌, ◌++◌, [], map, IfOk, IsOk, OnErr, OnOk};
 ghost use Rattle.device_machine.specs.Acts.{act_name};
-ghost use Rattle.device_machine.specs.Reactions.{acted, send_of};
+ghost use Rattle.device_machine.specs.Reactions.{outputs_of_act, send_of};
 
 use device_notifications::Datagram;
 use device_requests::Act;
@@ -128,8 +128,8 @@ impl Outputs {
 
     /// Adds what the device does after the others, if there is something.
     pub(crate) fn act(&mut self, act: Option<Act>) -> Result<(), AllocError>
-        ensures acts { OnOk result (self.new ≡ self.old ++ acted act) }
-        ensures may_lack_memory { OnErr result (acted act ≢ []) }
+        ensures acts { OnOk result (self.new ≡ self.old ++ outputs_of_act act) }
+        ensures may_lack_memory { OnErr result (outputs_of_act act ≢ []) }
         ensures unchanged { OnErr result (self.new ≡ self.old) }
     {
         match act {

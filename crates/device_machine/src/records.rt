@@ -8,7 +8,7 @@ ghost use Rattle.coap_codec.specs.Message.{kind_number};
 ghost use Rattle.indexmap.specs.IndexMap.{values};
 ghost use Rattle.device_machine.specs.State.{is_live, lifetime};
 ghost use Rattle.device_machine.specs.Records.{IsIndexed, IsKeyed, IsNewIn, end_of_life, first_end, has_key};
-ghost use Rattle.device_machine.specs.Records.{is_recalled, recalled};
+ghost use Rattle.device_machine.specs.Records.{is_recalled, recalled_requests};
 ghost use Rattle.device_machine.specs.declared.recorded.Recorded.{Recorded as Request};
 
 use crate::recorded::Recorded;
@@ -50,11 +50,11 @@ pub(crate) struct Records {
 impl Model for Records {
     ghost use Rattle.std.specs.Prelude.{List};
     ghost use Rattle.device_machine.specs.declared.recorded.Recorded.{Recorded};
-    ghost use Rattle.device_machine.specs.Records.{IsIndexed, recalled};
+    ghost use Rattle.device_machine.specs.Records.{IsIndexed, recalled_requests};
 
     ghost Value = { List Recorded };
 
-    ghost view = { λ r. recalled r.index };
+    ghost view = { λ r. recalled_requests r.index };
 
     ghost invariant = { λ r. IsIndexed r.index };
 }
@@ -197,7 +197,7 @@ fn clone_of(
 impl Index {
     /// No request.
     fn new(alloc: Global) -> Index
-        ensures none { recalled result ≡ [] }
+        ensures none { recalled_requests result ≡ [] }
         ensures indexed { IsIndexed result }
     {
         Index {
@@ -210,8 +210,8 @@ impl Index {
 
     /// Whether no request is recalled.
     fn is_empty(&self) -> bool
-        ensures none { result ≡ true → recalled self.now ≡ [] }
-        ensures some { result ≡ false → recalled self.now ≢ [] }
+        ensures none { result ≡ true → recalled_requests self.now ≡ [] }
+        ensures some { result ≡ false → recalled_requests self.now ≢ [] }
     {
         !recalls_any(&self.entries, self.ended)
     }
@@ -219,7 +219,7 @@ impl Index {
     /// A copy, which recalls the same requests.
     fn copy(&self) -> Result<Index, AllocError>
         requires { IsIndexed self.now }
-        ensures same { IfOk result (λ i. recalled i ≡ recalled self.now) }
+        ensures same { IfOk result (λ i. recalled_requests i ≡ recalled_requests self.now) }
         ensures indexed { IfOk result (λ i. IsIndexed i) }
     {
         Ok(Index {
@@ -233,7 +233,7 @@ impl Index {
     /// The request of this server, type and message ID that is recalled.
     fn find(&self, server: u16, kind: Kind, mid: u16) -> Option<&Recorded>
         requires { IsIndexed self.now }
-        ensures { option_copied result ≡ find (has_key server kind mid) (recalled self.now) }
+        ensures { option_copied result ≡ find (has_key server kind mid) (recalled_requests self.now) }
     {
         let request = request_of(&self.entries, server, kind, mid)?;
         if is_recalled(self.ended, request) {
@@ -247,7 +247,7 @@ impl Index {
     fn remove_forgotten(&mut self)
         requires { IsIndexed self.old }
         ensures all { self.new.ended ≡ None }
-        ensures same { values self.new.entries ≡ recalled self.old }
+        ensures same { values self.new.entries ≡ recalled_requests self.old }
         ensures indexed { IsIndexed self.new }
     {
         keep_recalled(&mut self.entries, self.ended);
@@ -259,7 +259,7 @@ impl Index {
     /// Whether the request can be added without a removal: it would be recalled, and no other has its key.
     fn can_add(&self, request: &Recorded) -> bool
         requires indexed { IsIndexed self.now }
-        requires new { IsNewIn (recalled self.now) request.now }
+        requires new { IsNewIn (recalled_requests self.now) request.now }
         ensures new { result ≡ true → IsNewIn (values self.now.entries) request.now }
         ensures recalled { result ≡ true → is_recalled self.now.ended request.now ≡ true }
     {
@@ -274,8 +274,8 @@ impl Index {
     /// Removes those that are forgotten, if the request cannot be added otherwise.
     fn make_room(&mut self, request: &Recorded)
         requires indexed { IsIndexed self.old }
-        requires new { IsNewIn (recalled self.old) request.now }
-        ensures same { recalled self.new ≡ recalled self.old }
+        requires new { IsNewIn (recalled_requests self.old) request.now }
+        ensures same { recalled_requests self.new ≡ recalled_requests self.old }
         ensures indexed { IsIndexed self.new }
         ensures new { IsNewIn (values self.new.entries) request.now }
         ensures recalled { is_recalled self.new.ended request.now ≡ true }
@@ -291,8 +291,8 @@ impl Index {
         requires indexed { IsIndexed self.old }
         requires new { IsNewIn (values self.old.entries) request }
         requires recalled { is_recalled self.old.ended request ≡ true }
-        ensures added { OnOk result (recalled self.new ≡ recalled self.old ++ request ∷ []) }
-        ensures unchanged { OnErr result (recalled self.new ≡ recalled self.old) }
+        ensures added { OnOk result (recalled_requests self.new ≡ recalled_requests self.old ++ request ∷ []) }
+        ensures unchanged { OnErr result (recalled_requests self.new ≡ recalled_requests self.old) }
         ensures indexed { IsIndexed self.new }
     {
         let due = self.due.min(end_of_life(&request));
@@ -304,7 +304,7 @@ impl Index {
     /// Forgets the requests that do not live in this second.
     fn forget(&mut self, clock: u64)
         requires { IsIndexed self.old }
-        ensures living { recalled self.new ≡ filter (λ r. is_live clock r) (recalled self.old) }
+        ensures living { recalled_requests self.new ≡ filter (λ r. is_live clock r) (recalled_requests self.old) }
         ensures indexed { IsIndexed self.new }
     {
         if clock < self.due {

@@ -5,7 +5,7 @@ use Rattle.std.proofs.lemmas.List.{append-nil}
 use Rattle.std.specs.Bool.{if◌then◌else◌}
 use Rattle.std.specs.Option.{option_map, option_to_list}
 use Rattle.lemmas.proofs.Lists.{item_mapped}
-use Rattle.notifier.specs.Observed.{notified}
+use Rattle.notifier.specs.Observed.{after_notification}
 use Rattle.notifier.specs.Resending.{turn_at}
 use Rattle.notifier.specs.declared.observation.Observation.{Observation}
 use Rattle.notifier.specs.declared.observation.Report.{Report}
@@ -23,12 +23,12 @@ use Rattle.device_notifications.specs.declared.datagram.Datagram.{Datagram}
 use Rattle.device_notifications.specs.declared.deeds.Deed.TheVariants.{Stays, Notified, Goes}
 use Rattle.device_notifications.specs.declared.evaluation.Evaluation.TheVariants.{Quiet, Sends, Gone}
 use Rattle.device_notifications.specs.Message.{datagram_of, open_notification}
-use Rattle.device_notifications.specs.Outbox.{Outbox, posted}
+use Rattle.device_notifications.specs.Outbox.{Outbox, after_post}
 use Rattle.device_notifications.specs.Outlooks.{content_outlook, outlook_of, outlook_with, outlooks_of}
 use Rattle.device_notifications.specs.Report.{report_of}
-use Rattle.device_notifications.specs.Second.{Sweep, evaluated, evaluation_of, is_due_now, next_notification, present}
-use Rattle.device_notifications.specs.Second.{quiet}
-use Rattle.device_notifications.specs.Second.{timer_of, told, turn_as, turn_by, turn_of}
+use Rattle.device_notifications.specs.Second.{Sweep, after_next_notification, evaluation_of, is_due_now}
+use Rattle.device_notifications.specs.Second.{next_notification, present_answer, quiet_sweep, timer_of, turn_as}
+use Rattle.device_notifications.specs.Second.{turn_by, turn_of, turn_of_evaluated}
 
 some_turn : (t u : Turn) → Some t ≡ Some u → t ≡ u
 some_turn t u h = cc
@@ -51,7 +51,8 @@ outlook_is client os said place o s known at is =
     (sym is ∙ ap (λ xs. slice_get xs place) known ∙ item_mapped (outlook_of client) os place o at)
 
 -- a turn that does nothing
-does_still : (client : Client) (clock : ℕ) (o : Observation) (t : Sweep) (now : Outbox) → quiet now.next_id (o ∷ []) ≡ t
+does_still : (client : Client) (clock : ℕ) (o : Observation) (t : Sweep) (now : Outbox)
+    → quiet_sweep now.next_id (o ∷ []) ≡ t
     → Does client clock o t Stays now now
 does_still client clock o t now is =
     subst (λ s. Does client clock o s Stays now now) is
@@ -60,9 +61,9 @@ does_still client clock o t now is =
 -- ---- an evaluation
 
 pub does_quiet : (client : Client) (clock : ℕ) (o : Observation) (now : Outbox) → Quiet ≡ evaluation_of client clock o
-    → Does client clock o (evaluated client clock now.next_id o) Stays now now
+    → Does client clock o (turn_of_evaluated client clock now.next_id o) Stays now now
 does_quiet client clock o now is =
-    does_still client clock o (evaluated client clock now.next_id o) now
+    does_still client clock o (turn_of_evaluated client clock now.next_id o) now
     (ap (λ v. turn_by client clock now.next_id o v) is)
 
 sent_is : (c d : Bool) (a answer : Answer) → Sends answer ≡ (if c then (if d then Sends a else Quiet) else Gone a)
@@ -72,16 +73,17 @@ sent_is true false a answer h = cc
 sent_is false d a answer h = cc
 
 -- what is said of an observation that was notified of its present answer, which is content
-said_then : (client : Client) (o new : Observation) (outlook : Outlook) → present client new ≡ present client o
-    → new.server ≡ o.server → new.path ≡ o.path → is_content (present client o) ≡ true
-    → new.report.payload ≡ (present client o).payload
+said_then : (client : Client) (o new : Observation) (outlook : Outlook)
+    → present_answer client new ≡ present_answer client o
+    → new.server ≡ o.server → new.path ≡ o.path → is_content (present_answer client o) ≡ true
+    → new.report.payload ≡ (present_answer client o).payload
     → outlook ≡ content_outlook client o.server o.path new.report new.report.payload
     → outlook ≡ outlook_of client new
 said_then client o new outlook same server path content payload is =
     is ∙ (λ j. content_outlook client (sym server j) (sym path j) new.report
     ((payload ∙ ap (λ (a : Answer). a.payload) (sym same)) j))
-    ∙ ap (λ b. if b then content_outlook client new.server new.path new.report (present client new).payload
-    else outlook_with client new.server new.path (pending.Gone (code_byte (present client new).code)))
+    ∙ ap (λ b. if b then content_outlook client new.server new.path new.report (present_answer client new).payload
+    else outlook_with client new.server new.path (pending.Gone (code_byte (present_answer client new).code)))
     (sym (ap is_content same ∙ content))
 
 pub does_send : (client : Client) (clock : ℕ) (o : Observation) (now after : Outbox) (answer : Answer) (d : Datagram)
@@ -91,20 +93,21 @@ pub does_send : (client : Client) (clock : ℕ) (o : Observation) (now after : O
     → d ≡ next_notification client mid o answer → timer ≡ timer_of client d.bytes
     → report ≡ report_of client o.path answer.payload
     → outlook ≡ content_outlook client o.server o.path report report.payload
-    → after ≡ posted now d
-    → Does client clock o (evaluated client clock now.next_id o) (Notified mid report timer outlook) now after
+    → after ≡ after_post now d
+    → Does client clock o (turn_of_evaluated client clock now.next_id o) (Notified mid report timer outlook) now after
 does_send client clock o now after answer d timer report outlook mid is same_mid message opens reports outlook_is
     then_after =
     let id = now.next_id in
-    let new = told client clock id o answer in
+    let new = after_next_notification client clock id o answer in
     let message_is : d ≡ next_notification client id o answer =
     message ∙ ap (λ n. next_notification client n o answer) same_mid in
     let opens_it : timer ≡ timer_of client (next_notification client id o answer).bytes =
     opens ∙ ap (λ (x : Datagram). timer_of client x.bytes) message_is in
-    let content = sent_is (is_content (present client o)) (is_due_now client clock o (present client o).payload)
-    (present client o) answer is in
-    let left_is : notified clock mid report timer o ≡ new =
-    (λ j. notified clock (same_mid j) (reports j) (opens_it j) o) in
+    let content = sent_is (is_content (present_answer client o))
+    (is_due_now client clock o (present_answer client o).payload)
+    (present_answer client o) answer is in
+    let left_is : after_notification clock mid report timer o ≡ new =
+    (λ j. after_notification clock (same_mid j) (reports j) (opens_it j) o) in
     let said_is : outlook ≡ outlook_of client new =
     said_then client o new outlook refl refl refl content.0 (ap (λ (a : Answer). a.payload) content.1)
     (outlook_is ∙ ap (λ (r : Report). content_outlook client o.server o.path r r.payload) reports) in
@@ -120,8 +123,8 @@ pub does_end : (client : Client) (clock : ℕ) (o : Observation) (now after : Ou
     (mid : ℕ)
     → Gone answer ≡ evaluation_of client clock o
     → mid ≡ now.next_id → d ≡ datagram_of Non o mid None answer
-    → after ≡ posted now d
-    → Does client clock o (evaluated client clock now.next_id o) Goes now after
+    → after ≡ after_post now d
+    → Does client clock o (turn_of_evaluated client clock now.next_id o) Goes now after
 does_end client clock o now after answer d mid is same_mid message then_after =
     let message_is : d ≡ datagram_of Non o now.next_id None answer =
     message ∙ ap (λ n. datagram_of Non o n None answer) same_mid in

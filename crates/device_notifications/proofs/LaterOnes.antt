@@ -18,8 +18,8 @@ use Rattle.device_requests.specs.declared.answer.Answer.{Answer}
 use Rattle.device_notifications.specs.declared.datagram.Datagram.{Datagram}
 use Rattle.device_notifications.specs.Laws.{IsLater, IsLaterOneOf, IsMessageOf, IsOfOneOf, is_con}
 use Rattle.device_notifications.specs.Message.{datagram_of, format_options, observe_options, open_notification}
-use Rattle.device_notifications.specs.Second.{next_notification, notified_kind, present, second, seconds, sends_nons}
-use Rattle.device_notifications.specs.Second.{told, turn_of}
+use Rattle.device_notifications.specs.Second.{after_next_notification, next_notification, notified_kind, present_answer}
+use Rattle.device_notifications.specs.Second.{second, seconds, sends_nons, turn_of}
 use Rattle.device_notifications.proofs.Turns.{by_all, of_option}
 
 -- ---- an observation, later
@@ -68,7 +68,7 @@ opened_as false server first bytes d h = cc
 
 -- one that has been notified
 pub told_later : (client : Client) (clock next_id : ℕ) (o : Observation) (answer : Answer)
-    → IsLater o (told client clock next_id o answer)
+    → IsLater o (after_next_notification client clock next_id o answer)
 told_later client clock next_id o answer =
     record {
       server = refl;
@@ -92,7 +92,7 @@ opens_as false server first bytes = refl
 
 -- what it has open then
 pub opens_it : (client : Client) (clock next_id : ℕ) (o : Observation) (answer : Answer)
-    → open_notification (told client clock next_id o answer)
+    → open_notification (after_next_notification client clock next_id o answer)
     ≡ (if is_con (notified_kind client) then Some (next_notification client next_id o answer) else None)
 opens_it client clock next_id o answer =
     opens_as (sends_nons client) o.server client.notify (next_notification client next_id o answer).bytes
@@ -153,7 +153,7 @@ turn_left : (client : Client) (clock next_id : ℕ) (o : Observation) (os : List
     → AllByRecursion (IsLaterOneOf (o ∷ os)) (turn_of client clock next_id o).left
 turn_left client clock next_id o os =
     by_all client clock next_id o (λ t. AllByRecursion (IsLaterOneOf (o ∷ os)) t.left)
-    (λ is content due. (inl (told_later client clock next_id o (present client o)), tt))
+    (λ is content due. (inl (told_later client clock next_id o (present_answer client o)), tt))
     (λ is content rests. (inl (itself o), tt)) (λ is no_content. tt) (λ is. (inl (itself o), tt))
     (λ is. (inl (itself o), tt)) (λ is. tt)
 
@@ -180,11 +180,11 @@ turn_sent : (client : Client) (clock next_id : ℕ) (o : Observation) (os : List
 turn_sent client clock next_id o os =
     by_all client clock next_id o (λ t. AllByRecursion (IsOfOneOf (o ∷ os)) t.sent)
     (λ is content due. (
-      inl (inl (notified_kind client, next_id, Some (next_number o.number), present client o, refl)),
+      inl (inl (notified_kind client, next_id, Some (next_number o.number), present_answer client o, refl)),
       tt,
     ))
     (λ is content rests. tt)
-    (λ is no_content. (inl (inl (Non, next_id, None, present client o, refl)), tt))
+    (λ is no_content. (inl (inl (Non, next_id, None, present_answer client o, refl)), tt))
     (λ is. tt)
     (λ is. of_option (open_notification o) (IsOfOneOf (o ∷ os)) (λ d is_open. inl (inr is_open)))
     (λ is. tt)

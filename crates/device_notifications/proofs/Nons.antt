@@ -4,7 +4,7 @@ use Rattle.std.specs.Bool.{if◌then◌else◌}
 use Rattle.std.specs.List.{AllByRecursion}
 use Rattle.lemmas.proofs.Lists.{each_appended}
 use Rattle.coap_codec.specs.declared.kind.Kind.TheVariants.{Con, Non}
-use Rattle.notifier.specs.Observed.{next_number, notified}
+use Rattle.notifier.specs.Observed.{after_notification, next_number}
 use Rattle.notifier.specs.Resending.{turn_with}
 use Rattle.notifier.specs.declared.observation.Observation.{Observation}
 use Rattle.device_requests.specs.Client.{Client}
@@ -25,7 +25,7 @@ as_non client clock next_id o (Sends answer) off =
     let bytes = (next_notification client next_id o answer).bytes in
     λ i. record {
       sent = datagram_of (if nons i then Non else Con) o next_id (Some (next_number o.number)) answer ∷ [];
-      left = notified clock next_id (report_of client o.path answer.payload)
+      left = after_notification clock next_id (report_of client o.path answer.payload)
           (if nons i then None else Some (record { bytes = bytes; first = client.notify })) o ∷ [];
       next_id = id_after next_id;
     }

@@ -15,8 +15,9 @@ use Rattle.device_notifications.specs.Laws.{Counts, IsEnd, IsLater, IsLaterOneOf
 use Rattle.device_notifications.specs.Laws.{RisesByOne, SecondsCountObserveNumbers}
 use Rattle.device_notifications.specs.Message.{datagram_of, open_notification}
 use Rattle.device_notifications.specs.Outbox.{id_after}
-use Rattle.device_notifications.specs.Second.{Sweep, and_then, beside, next_notification, notified_kind, present, quiet}
-use Rattle.device_notifications.specs.Second.{second, seconds, told, turn_of}
+use Rattle.device_notifications.specs.Second.{Sweep, after_next_notification, and_then, next_notification}
+use Rattle.device_notifications.specs.Second.{notified_kind, present_answer, quiet_sweep, second, seconds}
+use Rattle.device_notifications.specs.Second.{sweep_of_both, turn_of}
 use Rattle.device_notifications.proofs.Turns.{by_all, ends_one, first_of, resends_one}
 use Rattle.device_notifications.proofs.LaterOnes.{same_message, later_than, itself, told_later, opens_it, later_in}
 use Rattle.device_notifications.proofs.LaterOnes.{later_left, later_right, of_left, message_left, message_right}
@@ -24,7 +25,7 @@ use Rattle.device_notifications.proofs.LaterOnes.{second_left, seconds_left, sec
 
 -- ---- a second of some observations and then others
 
-together : (a b c : Sweep) → beside a (beside b c) ≡ beside (beside a b) c
+together : (a b c : Sweep) → sweep_of_both a (sweep_of_both b c) ≡ sweep_of_both (sweep_of_both a b) c
 together a b c =
     λ i. record {
       sent = sym (append_assoc a.sent b.sent c.sent) i;
@@ -35,13 +36,14 @@ together a b c =
 
 parts : (client : Client) (clock next_id : ℕ) (before rest : List Observation)
     → second client clock next_id (before ++ rest)
-    ≡ beside (second client clock next_id before)
+    ≡ sweep_of_both (second client clock next_id before)
     (second client clock (second client clock next_id before).next_id rest)
 parts client clock next_id [] rest = refl
 parts client clock next_id (o ∷ before) rest =
     let t = turn_of client clock next_id o in
     let u = second client clock t.next_id before in
-    ap (λ r. beside t r) (parts client clock t.next_id before rest) ∙ together t u (second client clock u.next_id rest)
+    ap (λ r. sweep_of_both t r) (parts client clock t.next_id before rest)
+    ∙ together t u (second client clock u.next_id rest)
 
 -- ---- the numbers of one observation among the others
 
@@ -203,7 +205,7 @@ not_none x d is none = let e : Some d ≡ None = sym is ∙ none in cc
 -- what a second and those after it do: the observations before this one, its own turn, and those after it
 abbrev whole : Client → ℕ → ℕ → Sweep → Sweep → List Observation → Sweep
 whole client clock n b t after =
-    and_then (beside b (beside t (second client clock t.next_id after)))
+    and_then (sweep_of_both b (sweep_of_both t (second client clock t.next_id after)))
     (seconds client clock n (second client clock t.next_id after).next_id
     (b.left ++ (t.left ++ (second client clock t.next_id after).left)))
 
@@ -220,8 +222,8 @@ quiet_one : (client : Client) (clock n : ℕ) (others : List Observation) (b : S
     → AllByRecursion (IsOfOneOf others) b.sent
     → AllByRecursion (IsOfOneOf others) (second client clock b.next_id after).sent
     → AllByRecursion (IsLaterOneOf others) (b.left ++ (second client clock b.next_id after).left) → Rise client clock n
-    → RisesByOne o others (whole client clock n b (quiet b.next_id (o ∷ [])) after).sent
-    (whole client clock n b (quiet b.next_id (o ∷ [])) after).left
+    → RisesByOne o others (whole client clock n b (quiet_sweep b.next_id (o ∷ [])) after).sent
+    (whole client clock n b (quiet_sweep b.next_id (o ∷ [])) after).left
 quiet_one client clock n others b after o front back all rise =
     let a = second client clock b.next_id after in
     let r = seconds client clock n a.next_id (b.left ++ o ∷ a.left) in
@@ -257,18 +259,18 @@ one_more client clock n next_id before after o rise =
     (λ is content due.
     let i = id_after b.next_id in
     let a = second client clock i after in
-    let p = told client clock b.next_id o (present client o) in
+    let p = after_next_notification client clock b.next_id o (present_answer client o) in
     let r = seconds client clock n a.next_id (b.left ++ p ∷ a.left) in
     told_then o p others (b.left ++ a.left) b.sent a.sent r.sent
-    (next_notification client b.next_id o (present client o)) r.left
-    front (back i) (all i) (told_later client clock b.next_id o (present client o)) refl
+    (next_notification client b.next_id o (present_answer client o)) r.left
+    front (back i) (all i) (told_later client clock b.next_id o (present_answer client o)) refl
     (record {
       kind = notified_kind client;
       mid = b.next_id;
-      answer = present client o;
+      answer = present_answer client o;
       message = refl;
       content = content;
-      open_with = opens_it client clock b.next_id o (present client o);
+      open_with = opens_it client clock b.next_id o (present_answer client o);
     })
     (rise a.next_id b.left a.left p))
     (λ is content rests. quiet_one client clock n others b after o front (back b.next_id) (all b.next_id) rise)
@@ -276,10 +278,11 @@ one_more client clock n next_id before after o rise =
     let i = id_after b.next_id in
     let a = second client clock i after in
     let r = seconds client clock n a.next_id (b.left ++ a.left) in
-    ended_then o others b.sent a.sent r.sent (datagram_of Non o b.next_id None (present client o)) r.left front (back i)
+    ended_then o others b.sent a.sent r.sent (datagram_of Non o b.next_id None (present_answer client o)) r.left front
+    (back i)
     (each_weaker (IsOfOneOf (b.left ++ a.left)) (IsOfOneOf others) (of_left others (b.left ++ a.left) (all i)) r.sent
     (seconds_sent client clock n a.next_id (b.left ++ a.left)))
-    (b.next_id, present client o, refl, no_content)
+    (b.next_id, present_answer client o, refl, no_content)
     (each_weaker (IsLaterOneOf (b.left ++ a.left)) (IsLaterOneOf others)
     (later_in others (b.left ++ a.left) (all i)) r.left
     (seconds_left client clock n a.next_id (b.left ++ a.left))))

@@ -3,7 +3,7 @@ use Rattle.std.proofs.Common.{ℕ, ◌/◌, ◌%◌, ◌≤◌, nat_lt, Bool, tr
 use Rattle.std.proofs.Common.{arith}
 use Rattle.std.specs.Bool.{if◌then◌else◌}
 use Rattle.coap_codec.specs.Message.{IsOptionList}
-use Rattle.coap_codec.specs.Number.{shortest}
+use Rattle.coap_codec.specs.Number.{shortest_big_endian}
 use Rattle.device_notifications.specs.Message.{format_options, observe_options}
 
 short_choice : (a b c d : Bool) (n : ℕ)
@@ -16,7 +16,7 @@ short_choice false false true d n = omega (arith)
 short_choice false false false true n = omega (arith)
 short_choice false false false false n = omega (arith)
 
-pub short_number : (n : ℕ) → length (shortest n) ≤ 65804
+pub short_number : (n : ℕ) → length (shortest_big_endian n) ≤ 65804
 short_number n = short_choice (nat_lt n 1) (nat_lt n 256) (nat_lt n 65536) (nat_lt n 16777216) n
 
 pub format_follows : (before : ℕ) (format : Option ℕ) → before ≤ 12 → IsOptionList before (format_options format)

@@ -12,7 +12,7 @@ use Rattle.device_notifications.specs.Deeds.{Does, Plans, Replaces, left_by, lef
 use Rattle.device_notifications.specs.declared.deeds.Deed.{Deed}
 use Rattle.device_notifications.specs.Outbox.{Outbox}
 use Rattle.device_notifications.specs.Outlooks.{outlook_of, outlooks_of}
-use Rattle.device_notifications.specs.Second.{Sweep, beside, second, turn_of}
+use Rattle.device_notifications.specs.Second.{Sweep, second, sweep_of_both, turn_of}
 use Rattle.device_notifications.proofs.Places.{opened, taken_set}
 
 -- ---- one deed more
@@ -85,7 +85,7 @@ pub one_planned : (client : Client) (clock : ℕ) (os : List Observation) (deeds
 one_planned client clock os deeds before now after n o deed within at does h =
     let turn = turn_of client clock now.next_id o in
     let rest = second client clock turn.next_id (drop (n + 1) os) in
-    let whole : second client clock now.next_id (drop n os) ≡ beside turn rest =
+    let whole : second client clock now.next_id (drop n os) ≡ sweep_of_both turn rest =
     ap (λ xs. second client clock now.next_id xs) (opened os n o at) in
     let coming : second client clock after.next_id (drop (n + 1) os) ≡ rest =
     ap (λ id. second client clock id (drop (n + 1) os)) does.next_id in

@@ -17,7 +17,7 @@ use Rattle.instance_store.specs.Stored.{Stored, lies_in, value_at}
 use Rattle.notifier.specs.Attributes.{effective}
 use Rattle.notifier.specs.declared.attribute.Name.TheVariants as name
 use Rattle.notifier.specs.Trigger.{is_triggered}
-use Rattle.notifier.specs.Attributes.{assigned}
+use Rattle.notifier.specs.Attributes.{assigned_number}
 use Rattle.notifier.specs.declared.observation.Observation.{Observation}
 use Rattle.notifier.specs.declared.pending.Outlook.{Outlook}
 use Rattle.notifier.specs.declared.pending.Pending.TheVariants.{Idle, Changed, Gone}
@@ -33,7 +33,7 @@ use Rattle.device_notifications.specs.Period.{pmin_of, seconds_in}
 use Rattle.device_notifications.specs.Reach.{DifferAt, OthersDoNotReach, is_of_periods, is_one_reached}
 use Rattle.device_notifications.specs.Reach.{is_reached, reaches}
 use Rattle.device_notifications.specs.Report.{number_at, number_in, single_number}
-use Rattle.device_notifications.specs.Second.{present}
+use Rattle.device_notifications.specs.Second.{present_answer}
 use Rattle.device_notifications.proofs.Deeding.{outlook_is}
 use Rattle.device_notifications.proofs.Places.{dropped_set, length-placed, opened}
 use Rattle.device_notifications.proofs.Planning.{said_more}
@@ -86,9 +86,9 @@ abbrev outlook_by : Client → Observation → Answer → ℕ → Option ℕ →
 outlook_by client o answer pmin pmax number =
     if is_content answer then record {
       pending = if is_triggered
-          (assigned client.attributes o.server o.path name.Gt)
-          (assigned client.attributes o.server o.path name.Lt)
-          (assigned client.attributes o.server o.path name.St)
+          (assigned_number client.attributes o.server o.path name.Gt)
+          (assigned_number client.attributes o.server o.path name.Lt)
+          (assigned_number client.attributes o.server o.path name.St)
           o.report.number number
           o.report.payload answer.payload then Changed else Idle;
       pmin = pmin;

@@ -6,7 +6,7 @@ use Rattle.std.specs.Option.{option_map, option_to_list}
 use Rattle.std.proofs.lemmas.Bool.{le-leb, leb-true}
 use Rattle.std.proofs.lemmas.Bool.Decides.{nat_tests}
 use Rattle.std.proofs.lemmas.List.{append-nil, replicate_more}
-use Rattle.notifier.specs.Resending.{resending, turn_at, turn_with}
+use Rattle.notifier.specs.Resending.{turn_at, turn_of_resending, turn_with}
 use Rattle.notifier.specs.declared.observation.Observation.{Observation}
 use Rattle.notifier.specs.declared.observation.Timer.{Timer}
 use Rattle.notifier.specs.declared.turn.Turn.{Turn}
@@ -14,7 +14,7 @@ use Rattle.notifier.specs.declared.turn.Turn.TheVariants.{Wait, Resend, Expire}
 use Rattle.notifier.proofs.Timeouts.{not_evaluated, resent as resent_when, timed_out}
 use Rattle.device_requests.specs.Client.{Client}
 use Rattle.device_notifications.specs.ConfirmableLaws.{SendsFiveTimesAtMost, resends_within}
-use Rattle.device_notifications.specs.Message.{resent}
+use Rattle.device_notifications.specs.Message.{resent_datagram}
 use Rattle.device_notifications.specs.Second.{Sweep, and_then, seconds, turn_of}
 use Rattle.device_notifications.proofs.Spans.{seconds_add}
 use Rattle.device_notifications.proofs.Turns.{by_turn}
@@ -131,7 +131,7 @@ not_yet : (m n : ℕ) → (m ≤ n → ⊥) → nat_le m n ≡ false
 not_yet m n never = not_yet_by m n (nat_le m n) refl never
 
 -- the last timeout is still to come
-to_come : (s first n : ℕ) (t : Turn) → resending s first (s + n + 1) ≡ t → (t ≡ Expire → ⊥)
+to_come : (s first n : ℕ) (t : Turn) → turn_of_resending s first (s + n + 1) ≡ t → (t ≡ Expire → ⊥)
     → nat_le (31 * first) (suc n) ≡ false
 to_come s first n t is other =
     not_yet (31 * first) (suc n) (λ past. other (sym is ∙ (timed_out s first (s + n + 1)).1 (omega (arith, past))))
@@ -142,7 +142,7 @@ to_come s first n t is other =
 abbrev so_far : Observation → Timer → ℕ → ℕ → Bool → Sweep
 so_far o timer n next_id over =
     record {
-      sent = replicate (resends_within timer.first n) (resent o timer);
+      sent = replicate (resends_within timer.first n) (resent_datagram o timer);
       left = if over then [] else o ∷ [];
       next_id = next_id;
     }
@@ -151,7 +151,7 @@ so_far o timer n next_id over =
 abbrev followed : Observation → Timer → ℕ → Sweep → Sweep
 followed o timer n t =
     record {
-      sent = replicate (resends_within timer.first n) (resent o timer) ++ ((t.sent ++ []) ++ []);
+      sent = replicate (resends_within timer.first n) (resent_datagram o timer) ++ ((t.sent ++ []) ++ []);
       left = t.left ++ [];
       next_id = t.next_id;
     }
@@ -161,8 +161,8 @@ one_turn : (client : Client) (o : Observation) (timer : Timer) (n next_id : ℕ)
     ≡ so_far o timer (suc n) next_id (nat_le (31 * timer.first) (suc n))
 one_turn client o timer n next_id is_open some =
     let clock = o.second + n + 1 in
-    let d = resent o timer in
-    let turn : resending o.second timer.first clock ≡ turn_at o clock =
+    let d = resent_datagram o timer in
+    let turn : turn_of_resending o.second timer.first clock ≡ turn_at o clock =
     ap (λ t. turn_with o.second t clock) (sym is_open) in
     by_turn client clock next_id o
     (λ t. followed o timer n t ≡ so_far o timer (suc n) next_id (nat_le (31 * timer.first) (suc n)))
@@ -182,7 +182,7 @@ one_turn client o timer n next_id is_open some =
     let over = to_come o.second timer.first n Resend (turn ∙ is) resend_is_no_end in
     λ i. record {
       sent = (ap (λ t. replicate (resends_within timer.first n) d
-          ++ ((option_to_list (option_map (resent o) t) ++ []) ++ [])) is_open
+          ++ ((option_to_list (option_map (resent_datagram o) t) ++ []) ++ [])) is_open
           ∙ replicate_more (resends_within timer.first n) d ∙ ap (λ k. replicate k d) (sym more)) i;
       left = if sym over i then [] else o ∷ [];
       next_id = next_id;
@@ -207,7 +207,7 @@ one_more : (client : Client) (o : Observation) (timer : Timer) (n next_id : ℕ)
     (seconds client (o.second + n) 1 next_id (so_far o timer n next_id over).left)
     ≡ so_far o timer (suc n) next_id (nat_le (31 * timer.first) (suc n))
 one_more client o timer n next_id true is_open some is =
-    let d = resent o timer in
+    let d = resent_datagram o timer in
     let past = later (31 * timer.first) n (leb-true (31 * timer.first) n is) in
     let same = keeps timer.first n (none_past timer.first n some past) in
     let over = le-leb (31 * timer.first) (suc n) past in
@@ -230,7 +230,7 @@ pub five_times : SendsFiveTimesAtMost
 five_times client o timer zero next_id is_open some =
     let yet = early (31 * timer.first) (omega (arith, some)) in
     λ i. record {
-      sent = replicate (none_yet timer.first some i) (resent o timer);
+      sent = replicate (none_yet timer.first some i) (resent_datagram o timer);
       left = if sym yet i then [] else o ∷ [];
       next_id = next_id;
     }

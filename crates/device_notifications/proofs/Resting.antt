@@ -23,8 +23,8 @@ use Rattle.device_notifications.specs.declared.evaluation.Evaluation.TheVariants
 use Rattle.device_notifications.specs.Laws.{IsFirstSending}
 use Rattle.device_notifications.specs.Outlooks.{AreAtRest, outlook_of, outlooks_of}
 use Rattle.device_notifications.specs.Period.{pmin_of, pmax_of}
-use Rattle.device_notifications.specs.Second.{Sweep, and_then, beside, evaluation_of, present, quiet, second, seconds}
-use Rattle.device_notifications.specs.Second.{triggers_now, turn_as, turn_by, turn_of}
+use Rattle.device_notifications.specs.Second.{Sweep, and_then, evaluation_of, present_answer, quiet_sweep, second}
+use Rattle.device_notifications.specs.Second.{seconds, sweep_of_both, triggers_now, turn_as, turn_by, turn_of}
 use Rattle.device_notifications.proofs.Spans.{seconds_add}
 use Rattle.device_notifications.proofs.Turns.{by_all, resends_one}
 
@@ -55,30 +55,32 @@ acts false t last clock pmin pmax code a P h s g = g refl
 pub is_quiet : (client : Client) (clock : ℕ) (o : Observation) → is_due_at o.second (outlook_of client o) clock ≡ false
     → evaluation_of client clock o ≡ Quiet
 is_quiet client clock o h =
-    rests (is_content (present client o)) (triggers_now client o (present client o).payload) o.second clock
-    (pmin_of client o.server o.path) (pmax_of client o.server o.path) (code_byte (present client o).code)
-    (present client o) h
+    rests (is_content (present_answer client o))
+    (triggers_now client o (present_answer client o).payload) o.second clock
+    (pmin_of client o.server o.path) (pmax_of client o.server o.path) (code_byte (present_answer client o).code)
+    (present_answer client o) h
 
 -- one that is due sends its present answer
 pub by_due : (client : Client) (clock : ℕ) (o : Observation) (P : Evaluation → Type 0)
     → is_due_at o.second (outlook_of client o) clock ≡ true
-    → (is_content (present client o) ≡ true → P (Sends (present client o)))
-    → (is_content (present client o) ≡ false → P (Gone (present client o)))
+    → (is_content (present_answer client o) ≡ true → P (Sends (present_answer client o)))
+    → (is_content (present_answer client o) ≡ false → P (Gone (present_answer client o)))
     → P (evaluation_of client clock o)
 by_due client clock o P h s g =
-    acts (is_content (present client o)) (triggers_now client o (present client o).payload) o.second clock
-    (pmin_of client o.server o.path) (pmax_of client o.server o.path) (code_byte (present client o).code)
-    (present client o) P h s g
+    acts (is_content (present_answer client o)) (triggers_now client o (present_answer client o).payload) o.second clock
+    (pmin_of client o.server o.path) (pmax_of client o.server o.path) (code_byte (present_answer client o).code)
+    (present_answer client o) P h s g
 
 quiet_as : (client : Client) (clock next_id : ℕ) (o : Observation) (t : Turn)
-    → acts_in t o.second (outlook_of client o) clock ≡ false → turn_as client clock next_id o t ≡ quiet next_id (o ∷ [])
+    → acts_in t o.second (outlook_of client o) clock ≡ false
+    → turn_as client clock next_id o t ≡ quiet_sweep next_id (o ∷ [])
 quiet_as client clock next_id o Evaluate h = ap (λ v. turn_by client clock next_id o v) (is_quiet client clock o h)
 quiet_as client clock next_id o Wait h = refl
 quiet_as client clock next_id o Resend h = let e : true ≡ false = h in cc
 quiet_as client clock next_id o Expire h = let e : true ≡ false = h in cc
 
 pub quiet_turn : (client : Client) (clock next_id : ℕ) (o : Observation)
-    → acts_at o (outlook_of client o) clock ≡ false → turn_of client clock next_id o ≡ quiet next_id (o ∷ [])
+    → acts_at o (outlook_of client o) clock ≡ false → turn_of client clock next_id o ≡ quiet_sweep next_id (o ∷ [])
 quiet_turn client clock next_id o h = quiet_as client clock next_id o (turn_at o clock) h
 
 -- something is sent, or one is removed
@@ -112,12 +114,12 @@ none_right (x ∷ xs) ys h = cc
 
 -- where nothing is due, a second changes nothing
 pub quiet_second : (client : Client) (clock next_id : ℕ) (os : List Observation)
-    → is_one_due os (outlooks_of client os) clock ≡ false → second client clock next_id os ≡ quiet next_id os
+    → is_one_due os (outlooks_of client os) clock ≡ false → second client clock next_id os ≡ quiet_sweep next_id os
 quiet_second client clock next_id [] h = refl
 quiet_second client clock next_id (o ∷ os) h =
     let parts = or_parts (acts_at o (outlook_of client o) clock) (is_one_due os (outlooks_of client os) clock) h in
-    ap (λ (t : Sweep). beside t (second client clock t.next_id os)) (quiet_turn client clock next_id o parts.0)
-    ∙ ap (λ r. beside (quiet next_id (o ∷ [])) r) (quiet_second client clock next_id os parts.1)
+    ap (λ (t : Sweep). sweep_of_both t (second client clock t.next_id os)) (quiet_turn client clock next_id o parts.0)
+    ∙ ap (λ r. sweep_of_both (quiet_sweep next_id (o ∷ [])) r) (quiet_second client clock next_id os parts.1)
 
 -- no more are left than there were
 few_left : (client : Client) (clock next_id : ℕ) (o : Observation) → length (turn_of client clock next_id o).left ≤ 1
@@ -137,13 +139,13 @@ no_more_left client clock next_id (o ∷ os) =
     let sizes = length-append t.left rest.left in
     omega (arith, few, more, sizes)
 
-acts_first : (t rest : Sweep) (n : ℕ) → length rest.left ≤ n → ActsOn t 1 → ActsOn (beside t rest) (suc n)
+acts_first : (t rest : Sweep) (n : ℕ) → length rest.left ≤ n → ActsOn t 1 → ActsOn (sweep_of_both t rest) (suc n)
 acts_first t rest n more (inl some) = inl (λ none. some (none_left t.sent rest.sent none))
 acts_first t rest n more (inr fewer) =
     let sizes = length-append t.left rest.left in
     inr (omega (arith, more, fewer, sizes))
 
-acts_later : (t rest : Sweep) (n : ℕ) → length t.left ≤ 1 → ActsOn rest n → ActsOn (beside t rest) (suc n)
+acts_later : (t rest : Sweep) (n : ℕ) → length t.left ≤ 1 → ActsOn rest n → ActsOn (sweep_of_both t rest) (suc n)
 acts_later t rest n few (inl some) = inl (λ none. some (none_right t.sent rest.sent none))
 acts_later t rest n few (inr fewer) =
     let sizes = length-append t.left rest.left in
@@ -170,19 +172,20 @@ loud_second client clock next_id (o ∷ os) h =
     loud_by client clock next_id o os (acts_at o (outlook_of client o) clock) refl
     (λ id due. loud_second client clock id os due) h
 
-still : (t : Sweep) (next_id : ℕ) (os : List Observation) → t ≡ quiet next_id os → ActsOn t (length os) → ⊥
+still : (t : Sweep) (next_id : ℕ) (os : List Observation) → t ≡ quiet_sweep next_id os → ActsOn t (length os) → ⊥
 still t next_id os same (inl some) = some (ap (λ (x : Sweep). x.sent) same)
 still t next_id os same (inr fewer) = let size = ap (λ (x : Sweep). length x.left) same in omega (arith, size, fewer)
 
 -- and so what a second does says whether something is due
 due_or_not : (client : Client) (clock next_id : ℕ) (os : List Observation) (b : Bool)
-    → is_one_due os (outlooks_of client os) clock ≡ b → second client clock next_id os ≡ quiet next_id os → b ≡ false
+    → is_one_due os (outlooks_of client os) clock ≡ b → second client clock next_id os ≡ quiet_sweep next_id os
+    → b ≡ false
 due_or_not client clock next_id os true due same =
     absurd (still (second client clock next_id os) next_id os same (loud_second client clock next_id os due))
 due_or_not client clock next_id os false due same = refl
 
 pub rests_by_second : (client : Client) (clock next_id : ℕ) (os : List Observation)
-    → second client clock next_id os ≡ quiet next_id os → is_one_due os (outlooks_of client os) clock ≡ false
+    → second client clock next_id os ≡ quiet_sweep next_id os → is_one_due os (outlooks_of client os) clock ≡ false
 rests_by_second client clock next_id os same =
     due_or_not client clock next_id os (is_one_due os (outlooks_of client os) clock) refl same
 
@@ -200,12 +203,13 @@ due_by_second client clock next_id os some =
 -- ---- seconds
 
 pub quiet_seconds : (client : Client) (clock n next_id : ℕ) (os : List Observation)
-    → AreAtRest os (outlooks_of client os) clock (clock + n) → seconds client clock n next_id os ≡ quiet next_id os
+    → AreAtRest os (outlooks_of client os) clock (clock + n)
+    → seconds client clock n next_id os ≡ quiet_sweep next_id os
 quiet_seconds client clock zero next_id os rest = refl
 quiet_seconds client clock (suc n) next_id os rest =
     let here = quiet_second client (clock + 1) next_id os (rest (clock + 1) (omega arith) (omega arith)) in
     ap (λ (t : Sweep). and_then t (seconds client (clock + 1) n t.next_id t.left)) here
-    ∙ ap (λ r. and_then (quiet next_id os) r)
+    ∙ ap (λ r. and_then (quiet_sweep next_id os) r)
     (quiet_seconds client (clock + 1) n next_id os
     (λ at after before. rest at (omega (arith, after)) (omega (arith, before))))
 

@@ -24,11 +24,11 @@ use Rattle.device_notifications.specs.declared.evaluation.Evaluation.TheVariants
 use Rattle.device_notifications.specs.Laws.{IsOf, IsYoung, StayInOrder}
 use Rattle.device_notifications.specs.Laws.Stays.{as_it_was, notified_of}
 use Rattle.device_notifications.specs.Laws.StayInOrder.{none, stays, goes, expires}
-use Rattle.device_notifications.specs.Message.{datagram_of, open_notification, resent}
+use Rattle.device_notifications.specs.Message.{datagram_of, open_notification, resent_datagram}
 use Rattle.device_notifications.specs.Period.{pmin_of, pmax_of}
-use Rattle.device_notifications.specs.Second.{Sweep, age_of, evaluated, evaluation_of, is_due_now, next_notification}
-use Rattle.device_notifications.specs.Second.{notified_kind, present, quiet, second, seconds, triggers_now, turn_as}
-use Rattle.device_notifications.specs.Second.{turn_by, turn_of}
+use Rattle.device_notifications.specs.Second.{Sweep, age_of, evaluation_of, is_due_now, next_notification}
+use Rattle.device_notifications.specs.Second.{notified_kind, present_answer, quiet_sweep, second, seconds, triggers_now}
+use Rattle.device_notifications.specs.Second.{turn_as, turn_by, turn_of, turn_of_evaluated}
 
 choose : (c d : Bool) (a : Answer) (P : Evaluation → Type 0) → (c ≡ true → d ≡ true → P (Sends a))
     → (c ≡ true → d ≡ false → P Quiet) → (c ≡ false → P (Gone a))
@@ -39,20 +39,21 @@ choose false d a P s q g = g refl
 
 -- the evaluation of an observation is one of three, each under its conditions
 pub by_evaluation : (client : Client) (clock : ℕ) (o : Observation) (P : Evaluation → Type 0)
-    → (is_content (present client o) ≡ true → is_due_now client clock o (present client o).payload ≡ true
-    → P (Sends (present client o)))
-    → (is_content (present client o) ≡ true → is_due_now client clock o (present client o).payload ≡ false → P Quiet)
-    → (is_content (present client o) ≡ false → P (Gone (present client o)))
+    → (is_content (present_answer client o) ≡ true → is_due_now client clock o (present_answer client o).payload ≡ true
+    → P (Sends (present_answer client o)))
+    → (is_content (present_answer client o) ≡ true → is_due_now client clock o (present_answer client o).payload ≡ false
+    → P Quiet)
+    → (is_content (present_answer client o) ≡ false → P (Gone (present_answer client o)))
     → P (evaluation_of client clock o)
 by_evaluation client clock o P s q g =
-    choose (is_content (present client o)) (is_due_now client clock o (present client o).payload)
-    (present client o) P s q g
+    choose (is_content (present_answer client o)) (is_due_now client clock o (present_answer client o).payload)
+    (present_answer client o) P s q g
 
 pick : (client : Client) (clock next_id : ℕ) (o : Observation) (P : Sweep → Type 0) (t : Turn)
-    → (t ≡ Evaluate → P (evaluated client clock next_id o))
-    → (t ≡ Wait → P (quiet next_id (o ∷ [])))
+    → (t ≡ Evaluate → P (turn_of_evaluated client clock next_id o))
+    → (t ≡ Wait → P (quiet_sweep next_id (o ∷ [])))
     → (t ≡ Resend → P (record { sent = option_to_list (open_notification o); left = o ∷ []; next_id = next_id }))
-    → (t ≡ Expire → P (quiet next_id []))
+    → (t ≡ Expire → P (quiet_sweep next_id []))
     → P (turn_as client clock next_id o t)
 pick client clock next_id o P Evaluate e w r x = e refl
 pick client clock next_id o P Wait e w r x = w refl
@@ -61,27 +62,27 @@ pick client clock next_id o P Expire e w r x = x refl
 
 -- the turn of an observation is its evaluation, or one of three while it is open
 pub by_turn : (client : Client) (clock next_id : ℕ) (o : Observation) (P : Sweep → Type 0)
-    → (turn_at o clock ≡ Evaluate → P (evaluated client clock next_id o))
-    → (turn_at o clock ≡ Wait → P (quiet next_id (o ∷ [])))
+    → (turn_at o clock ≡ Evaluate → P (turn_of_evaluated client clock next_id o))
+    → (turn_at o clock ≡ Wait → P (quiet_sweep next_id (o ∷ [])))
     → (turn_at o clock ≡ Resend
     → P (record { sent = option_to_list (open_notification o); left = o ∷ []; next_id = next_id }))
-    → (turn_at o clock ≡ Expire → P (quiet next_id []))
+    → (turn_at o clock ≡ Expire → P (quiet_sweep next_id []))
     → P (turn_of client clock next_id o)
 by_turn client clock next_id o P e w r x = pick client clock next_id o P (turn_at o clock) e w r x
 
 -- each_appended together
 pub by_all : (client : Client) (clock next_id : ℕ) (o : Observation) (P : Sweep → Type 0)
-    → (turn_at o clock ≡ Evaluate → is_content (present client o) ≡ true
-    → is_due_now client clock o (present client o).payload ≡ true
-    → P (turn_by client clock next_id o (Sends (present client o))))
-    → (turn_at o clock ≡ Evaluate → is_content (present client o) ≡ true
-    → is_due_now client clock o (present client o).payload ≡ false → P (quiet next_id (o ∷ [])))
-    → (turn_at o clock ≡ Evaluate → is_content (present client o) ≡ false
-    → P (turn_by client clock next_id o (Gone (present client o))))
-    → (turn_at o clock ≡ Wait → P (quiet next_id (o ∷ [])))
+    → (turn_at o clock ≡ Evaluate → is_content (present_answer client o) ≡ true
+    → is_due_now client clock o (present_answer client o).payload ≡ true
+    → P (turn_by client clock next_id o (Sends (present_answer client o))))
+    → (turn_at o clock ≡ Evaluate → is_content (present_answer client o) ≡ true
+    → is_due_now client clock o (present_answer client o).payload ≡ false → P (quiet_sweep next_id (o ∷ [])))
+    → (turn_at o clock ≡ Evaluate → is_content (present_answer client o) ≡ false
+    → P (turn_by client clock next_id o (Gone (present_answer client o))))
+    → (turn_at o clock ≡ Wait → P (quiet_sweep next_id (o ∷ [])))
     → (turn_at o clock ≡ Resend
     → P (record { sent = option_to_list (open_notification o); left = o ∷ []; next_id = next_id }))
-    → (turn_at o clock ≡ Expire → P (quiet next_id []))
+    → (turn_at o clock ≡ Expire → P (quiet_sweep next_id []))
     → P (turn_of client clock next_id o)
 by_all client clock next_id o P s q g w r x =
     by_turn client clock next_id o P
@@ -102,7 +103,7 @@ pub has_open : (o : Observation) (clock : ℕ) → turn_at o clock ≢ Evaluate
     → (d : Datagram) × (open_notification o ≡ Some d)
 has_open o clock h =
     let there = open_when o.second o.timer clock h in
-    (resent o there.0, ap (λ t. option_map (resent o) t) there.1)
+    (resent_datagram o there.0, ap (λ t. option_map (resent_datagram o) t) there.1)
 
 resend_is_open : Resend ≢ Evaluate
 resend_is_open h = cc
@@ -158,7 +159,7 @@ sent_by client clock next_id o os =
           content = content;
           waited =
               due_waits (age_of clock o) (pmin_of client o.server o.path) (pmax_of client o.server o.path)
-              (triggers_now client o (present client o).payload) due;
+              (triggers_now client o (present_answer client o).payload) due;
         }),
       ),
       tt,
@@ -259,14 +260,15 @@ fresh_by client clock next_id o =
         closed = λ pmax closed is above follows. none_old clock pmax above;
         open_yet = λ timer is_open. soon clock timer.first
             (timed client.notify (client.notify == 0)
-            (next_notification client next_id o (present client o)).bytes timer refl is_open);
+            (next_notification client next_id o (present_answer client o)).bytes timer refl is_open);
       },
       tt,
     ))
     (λ is content rests. (
       record {
         closed = λ pmax closed has above follows. not_due (age_of clock o) (pmin_of client o.server o.path)
-            (pmax_of client o.server o.path) (triggers_now client o (present client o).payload) pmax has rests above
+            (pmax_of client o.server o.path) (triggers_now client o (present_answer client o).payload) pmax has rests
+            above
             follows;
         open_yet = λ timer is_open. absurd (never_open o clock timer is is_open);
       },
@@ -316,7 +318,7 @@ order_by client clock next_id o os ps rest =
     by_all client clock next_id o (λ t. StayInOrder client clock (o ∷ os) (t.left ++ ps))
     (λ is content due. stays o _ os ps (notified_of next_id is
     (due_waits (age_of clock o) (pmin_of client o.server o.path) (pmax_of client o.server o.path)
-    (triggers_now client o (present client o).payload) due)) rest)
+    (triggers_now client o (present_answer client o).payload) due)) rest)
     (λ is content rests. stays o o os ps as_it_was rest)
     (λ is no_content. goes o os ps is no_content rest)
     (λ is. stays o o os ps as_it_was rest)
@@ -342,15 +344,15 @@ pub counts_observe_numbers : (client : Client) (clock next_id : ℕ) (o p : Obse
     → ((((turn_of client clock next_id o).sent ≡ [])
     ⊎ ((turn_of client clock next_id o).sent ≡ option_to_list (open_notification o))) × (p ≡ o))
     ⊎ (((turn_of client clock next_id o).sent
-    ≡ datagram_of (notified_kind client) o next_id (Some p.number) (present client o) ∷ [])
+    ≡ datagram_of (notified_kind client) o next_id (Some p.number) (present_answer client o) ∷ [])
     × (p.number ≡ (o.number + 1) % 16777216))
 counts_observe_numbers client clock next_id o p =
     by_all client clock next_id o (λ t. t.left ≡ p ∷ []
     → (((t.sent ≡ []) ⊎ (t.sent ≡ option_to_list (open_notification o))) × (p ≡ o))
-    ⊎ ((t.sent ≡ datagram_of (notified_kind client) o next_id (Some p.number) (present client o) ∷ [])
+    ⊎ ((t.sent ≡ datagram_of (notified_kind client) o next_id (Some p.number) (present_answer client o) ∷ [])
     × (p.number ≡ (o.number + 1) % 16777216)))
     (λ is content due h. let same = ap (λ (x : Observation). x.number) (one_of _ p h) in
-    inr (ap (λ n. datagram_of (notified_kind client) o next_id (Some n) (present client o) ∷ []) same, sym same))
+    inr (ap (λ n. datagram_of (notified_kind client) o next_id (Some n) (present_answer client o) ∷ []) same, sym same))
     (λ is content rests h. inl (inl refl, sym (one_of o p h)))
     (λ is no_content h. absurd (no_more p h))
     (λ is h. inl (inl refl, sym (one_of o p h)))

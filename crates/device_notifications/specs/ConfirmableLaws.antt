@@ -3,16 +3,16 @@ use Rattle.std.specs.Prelude.{◌≡◌, ℕ, ◌*◌, ◌<◌, nat_le, List, []
 use Rattle.std.specs.Prelude.{replicate}
 use Rattle.std.specs.List.{AllByRecursion, count_by}
 use Rattle.coap_codec.specs.declared.kind.Kind.TheVariants.{Non}
-use Rattle.notifier.specs.Observed.{as_closed, next_number, notified}
+use Rattle.notifier.specs.Observed.{after_notification, as_closed, next_number}
 use Rattle.notifier.specs.declared.observation.Observation.{Observation}
 use Rattle.notifier.specs.declared.observation.Timer.{Timer}
 use Rattle.device_requests.specs.Client.{Client}
 use Rattle.device_notifications.specs.declared.evaluation.Evaluation.{Evaluation}
 use Rattle.device_notifications.specs.declared.evaluation.Evaluation.TheVariants.{Quiet, Sends, Gone}
-use Rattle.device_notifications.specs.Message.{datagram_of, resent}
+use Rattle.device_notifications.specs.Message.{datagram_of, resent_datagram}
 use Rattle.device_notifications.specs.Outbox.{id_after}
 use Rattle.device_notifications.specs.Report.{report_of}
-use Rattle.device_notifications.specs.Second.{Sweep, evaluated, evaluation_of, quiet, seconds, turn_of}
+use Rattle.device_notifications.specs.Second.{Sweep, evaluation_of, quiet_sweep, seconds, turn_of, turn_of_evaluated}
 
 -- how often an open notification with this first timeout is sent again in the n seconds after its first sending
 abbrev pub resends_within : ℕ → ℕ → ℕ
@@ -26,7 +26,7 @@ SendsFiveTimesAtMost =
     (client : Client) (o : Observation) (timer : Timer) (n next_id : ℕ) → o.timer ≡ Some timer → 0 < timer.first
     → seconds client o.second n next_id (o ∷ [])
     ≡ record {
-      sent = replicate (resends_within timer.first n) (resent o timer);
+      sent = replicate (resends_within timer.first n) (resent_datagram o timer);
       left = if nat_le (31 * timer.first) n then [] else o ∷ [];
       next_id = next_id;
     }
@@ -34,7 +34,7 @@ SendsFiveTimesAtMost =
 -- an observation that is closed is evaluated in the next second, and by the same report as before it was: that of the
 -- last notification that was sent
 pub record ClosesWithoutLoss (client : Client) (clock next_id : ℕ) (o : Observation) : Type 0 where
-  pub turn : turn_of client clock next_id (as_closed o) ≡ evaluated client clock next_id (as_closed o)
+  pub turn : turn_of client clock next_id (as_closed o) ≡ turn_of_evaluated client clock next_id (as_closed o)
   pub report : evaluation_of client clock (as_closed o) ≡ evaluation_of client clock o
 
 abbrev pub LosesNothing : Type 0
@@ -45,11 +45,11 @@ IsClosed o = o.timer ≡ None
 
 -- what an observation does in a second where all notifications are Non-confirmable
 abbrev pub turn_with_nons : Client → ℕ → ℕ → Observation → Evaluation → Sweep
-turn_with_nons client clock next_id o Quiet = quiet next_id (o ∷ [])
+turn_with_nons client clock next_id o Quiet = quiet_sweep next_id (o ∷ [])
 turn_with_nons client clock next_id o (Sends answer) =
     record {
       sent = datagram_of Non o next_id (Some (next_number o.number)) answer ∷ [];
-      left = notified clock next_id (report_of client o.path answer.payload) None o ∷ [];
+      left = after_notification clock next_id (report_of client o.path answer.payload) None o ∷ [];
       next_id = id_after next_id;
     }
 turn_with_nons client clock next_id o (Gone answer) =

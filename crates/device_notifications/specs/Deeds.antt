@@ -1,6 +1,6 @@
 -- What a second does to each observation, worked out before anything of it is changed.
 use Rattle.std.specs.Prelude.{◌≡◌, ℕ, ◌+◌, ◌≤◌, List, [], ◌∷◌, ◌++◌, length, take, drop}
-use Rattle.notifier.specs.Observed.{notified}
+use Rattle.notifier.specs.Observed.{after_notification}
 use Rattle.notifier.specs.declared.observation.Observation.{Observation}
 use Rattle.notifier.specs.declared.pending.Outlook.{Outlook}
 use Rattle.device_requests.specs.Client.{Client}
@@ -13,7 +13,7 @@ use Rattle.device_notifications.specs.declared.deeds.Deed.TheVariants.{Stays, No
 -- what is left of an observation in the second that the clock shows
 abbrev pub left_by : ℕ → Observation → Deed → List Observation
 left_by clock o Stays = o ∷ []
-left_by clock o (Notified mid report timer outlook) = notified clock mid report timer o ∷ []
+left_by clock o (Notified mid report timer outlook) = after_notification clock mid report timer o ∷ []
 left_by clock o Goes = []
 
 -- what is said of it then

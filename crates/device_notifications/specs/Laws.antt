@@ -19,24 +19,24 @@ use Rattle.device_notifications.specs.declared.datagram.Datagram.{Datagram}
 use Rattle.device_notifications.specs.Message.{datagram_of, open_notification}
 use Rattle.device_notifications.specs.Period.{pmin_of, pmax_of}
 use Rattle.device_notifications.specs.Outlooks.{AreAtRest, outlooks_of}
-use Rattle.device_notifications.specs.Second.{Sweep, age_of, and_then, next_notification, notified_kind, present, quiet}
-use Rattle.device_notifications.specs.Second.{second, seconds, told, turn_of}
+use Rattle.device_notifications.specs.Second.{Sweep, after_next_notification, age_of, and_then, next_notification}
+use Rattle.device_notifications.specs.Second.{notified_kind, present_answer, quiet_sweep, second, seconds, turn_of}
 
 -- a datagram is a notification that keeps the observation: its present answer, which is content, with the next Observe
 -- number; and pmin seconds or more have passed since the observation's last message
 pub record Notifies (client : Client) (clock : ℕ) (o : Observation) (d : Datagram) : Type 0 where
   pub mid : ℕ
   pub evaluated : turn_at o clock ≡ Evaluate
-  pub message : d ≡ next_notification client mid o (present client o)
-  pub content : is_content (present client o) ≡ true
+  pub message : d ≡ next_notification client mid o (present_answer client o)
+  pub content : is_content (present_answer client o) ≡ true
   pub waited : pmin_of client o.server o.path ≤ age_of clock o
 
 -- a datagram ends the observation: its present answer, which is no content
 pub record Ends (client : Client) (clock : ℕ) (o : Observation) (d : Datagram) : Type 0 where
   pub mid : ℕ
   pub evaluated : turn_at o clock ≡ Evaluate
-  pub message : d ≡ datagram_of Non o mid None (present client o)
-  pub no_content : is_content (present client o) ≡ false
+  pub message : d ≡ datagram_of Non o mid None (present_answer client o)
+  pub no_content : is_content (present_answer client o) ≡ false
 
 -- a datagram is the open notification of the observation once more
 pub record Repeats (clock : ℕ) (o : Observation) (d : Datagram) : Type 0 where
@@ -88,7 +88,7 @@ SecondsSendBeforePmax =
 pub data Stays (client : Client) (clock : ℕ) (o : Observation) : Observation → Type 0 where
   as_it_was : Stays client clock o o
   notified_of : (mid : ℕ) → turn_at o clock ≡ Evaluate → pmin_of client o.server o.path ≤ age_of clock o
-      → Stays client clock o (told client clock mid o (present client o))
+      → Stays client clock o (after_next_notification client clock mid o (present_answer client o))
 
 -- observations stay in their order. One goes only where it is evaluated and its present answer is no content, or where
 -- the last timeout of its open notification has passed
@@ -97,7 +97,7 @@ pub data StayInOrder (client : Client) (clock : ℕ) : List Observation → List
   stays : (o p : Observation) (os ps : List Observation) → Stays client clock o p → StayInOrder client clock os ps
       → StayInOrder client clock (o ∷ os) (p ∷ ps)
   goes : (o : Observation) (os ps : List Observation) → turn_at o clock ≡ Evaluate
-      → is_content (present client o) ≡ false → StayInOrder client clock os ps
+      → is_content (present_answer client o) ≡ false → StayInOrder client clock os ps
       → StayInOrder client clock (o ∷ os) ps
   expires : (o : Observation) (os ps : List Observation) → turn_at o clock ≡ Expire
       → StayInOrder client clock os ps → StayInOrder client clock (o ∷ os) ps
@@ -114,7 +114,7 @@ CountsObserveNumbers =
     → ((((turn_of client clock next_id o).sent ≡ [])
     ⊎ ((turn_of client clock next_id o).sent ≡ option_to_list (open_notification o))) × (p ≡ o))
     ⊎ (((turn_of client clock next_id o).sent
-    ≡ datagram_of (notified_kind client) o next_id (Some p.number) (present client o) ∷ [])
+    ≡ datagram_of (notified_kind client) o next_id (Some p.number) (present_answer client o) ∷ [])
     × (p.number ≡ (o.number + 1) % 16777216))
 
 -- a datagram is a message of this observation, or its open notification once more
@@ -226,7 +226,8 @@ CountsMessageIds =
 abbrev pub QuietSecondsChangeNothing : Type 0
 QuietSecondsChangeNothing =
     (client : Client) (clock n next_id : ℕ) (os : List Observation)
-    → AreAtRest os (outlooks_of client os) clock (clock + n) → seconds client clock n next_id os ≡ quiet next_id os
+    → AreAtRest os (outlooks_of client os) clock (clock + n)
+    → seconds client clock n next_id os ≡ quiet_sweep next_id os
 
 -- a second is the first after this one, below 2^64, in which something is sent or an observation is removed; those
 -- before it change nothing
@@ -235,7 +236,7 @@ pub record IsFirstSending (client : Client) (now next_id : ℕ) (os : List Obser
   pub fits : first < 2 ^ 64
   pub acts : ((second client first next_id os).sent ≢ [])
       ⊎ (length (second client first next_id os).left < length os)
-  pub quiet_before : (clock : ℕ) → now < clock → clock < first → second client clock next_id os ≡ quiet next_id os
+  pub quiet_before : (clock : ℕ) → now < clock → clock < first → second client clock next_id os ≡ quiet_sweep next_id os
 
 -- that is the second which is found by what the present answers are
 abbrev pub FindsTheFirstSending : Type 0
@@ -248,7 +249,7 @@ abbrev pub FindsNoSending : Type 0
 FindsNoSending =
     (client : Client) (now next_id : ℕ) (os : List Observation)
     → IsNeverDue now os (outlooks_of client os)
-    ↔ ((clock : ℕ) → now < clock → clock < 2 ^ 64 → second client clock next_id os ≡ quiet next_id os)
+    ↔ ((clock : ℕ) → now < clock → clock < 2 ^ 64 → second client clock next_id os ≡ quiet_sweep next_id os)
 
 -- seconds are the first of them in which something is due, and those after it
 abbrev pub SecondsJump : Type 0

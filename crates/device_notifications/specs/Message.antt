@@ -36,9 +36,9 @@ datagram_of kind o mid number answer =
     record { server = o.server; bytes = spelling (notification kind o mid number answer) }
 
 -- bytes that an observation's notification is sent again with, on their way to its server
-abbrev pub resent : Observation → Timer → Datagram
-resent o timer = record { server = o.server; bytes = timer.bytes }
+abbrev pub resent_datagram : Observation → Timer → Datagram
+resent_datagram o timer = record { server = o.server; bytes = timer.bytes }
 
 -- the open notification of an observation, if it has one
 abbrev pub open_notification : Observation → Option Datagram
-open_notification o = option_map (resent o) o.timer
+open_notification o = option_map (resent_datagram o) o.timer

@@ -16,9 +16,9 @@ abbrev pub id_after : ℕ → ℕ
 id_after next_id = (next_id + 1) % 65536
 
 -- with one datagram more
-abbrev pub posted : Outbox → Datagram → Outbox
-posted box datagram = record { sent = box.sent ++ datagram ∷ []; next_id = id_after box.next_id }
+abbrev pub after_post : Outbox → Datagram → Outbox
+after_post box datagram = record { sent = box.sent ++ datagram ∷ []; next_id = id_after box.next_id }
 
 -- with one more that is sent again: it has its message ID already
-abbrev pub reposted : Outbox → Datagram → Outbox
-reposted box datagram = record box { sent = box.sent ++ datagram ∷ [] }
+abbrev pub after_repost : Outbox → Datagram → Outbox
+after_repost box datagram = record box { sent = box.sent ++ datagram ∷ [] }

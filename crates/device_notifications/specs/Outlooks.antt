@@ -13,7 +13,7 @@ use Rattle.device_requests.specs.Answer.{code_byte, is_content}
 use Rattle.device_requests.specs.Client.{Client}
 use Rattle.device_requests.specs.declared.answer.Answer.{Answer}
 use Rattle.device_notifications.specs.Period.{pmin_of, pmax_of}
-use Rattle.device_notifications.specs.Second.{present, triggers_on}
+use Rattle.device_notifications.specs.Second.{present_answer, triggers_on}
 
 -- this is pending of a server's observation of a path, and these are the periods that have effect
 abbrev pub outlook_with : Client → ℕ → Path → Pending → Outlook
@@ -32,7 +32,7 @@ outlook_on client o answer =
 
 -- what an observation's present answer is, and its periods
 abbrev pub outlook_of : Client → Observation → Outlook
-outlook_of client o = outlook_on client o (present client o)
+outlook_of client o = outlook_on client o (present_answer client o)
 
 -- and those of all of them, in their order
 abbrev pub outlooks_of : Client → List Observation → List Outlook

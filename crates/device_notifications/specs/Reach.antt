@@ -10,7 +10,7 @@ use Rattle.device_requests.specs.Client.{Client, with_stored}
 use Rattle.device_requests.specs.Depending.{AgreeWhere, is_read_by}
 use Rattle.device_notifications.specs.Outlooks.{outlook_of}
 use Rattle.device_notifications.specs.Period.{pmin_of, pmax_of}
-use Rattle.device_notifications.specs.Second.{present}
+use Rattle.device_notifications.specs.Second.{present_answer}
 
 -- a value of Server by which periods are found: the Short Server ID, and the two default periods
 abbrev pub is_of_periods : FullPath → Bool
@@ -38,7 +38,7 @@ pub record DifferAt (qs : List FullPath) (old new : Stored) : Type 0 where
 
 -- the present answer of an observation and its periods are the same, and so is what is said of it
 pub record StaysSaid (old new : Client) (o : Observation) : Type 0 where
-  pub answer : present new o ≡ present old o
+  pub answer : present_answer new o ≡ present_answer old o
   pub pmin : pmin_of new o.server o.path ≡ pmin_of old o.server o.path
   pub pmax : pmax_of new o.server o.path ≡ pmax_of old o.server o.path
   pub outlook : outlook_of new o ≡ outlook_of old o

@@ -4,8 +4,8 @@ use Rattle.std.specs.Prelude.{if◌then◌else◌}
 use Rattle.std.specs.Option.{option_to_list}
 use Rattle.coap_codec.specs.declared.kind.Kind.{Kind}
 use Rattle.coap_codec.specs.declared.kind.Kind.TheVariants.{Con, Non}
-use Rattle.notifier.specs.Attributes.{assigned}
-use Rattle.notifier.specs.Observed.{next_number, notified}
+use Rattle.notifier.specs.Attributes.{assigned_number}
+use Rattle.notifier.specs.Observed.{after_notification, next_number}
 use Rattle.notifier.specs.Resending.{turn_at}
 use Rattle.notifier.specs.Trigger.{is_due, is_triggered}
 use Rattle.notifier.specs.declared.attribute.Name.TheVariants as name
@@ -28,16 +28,16 @@ use Rattle.device_notifications.specs.Outbox.{id_after}
 use Rattle.device_notifications.specs.Report.{number_at, report_of}
 
 -- the present answer of an observation: that of its GET by its server
-abbrev pub present : Client → Observation → Answer
-present client o = read_answer client o.server o.path o.accept
+abbrev pub present_answer : Client → Observation → Answer
+present_answer client o = read_answer client o.server o.path o.accept
 
 -- whether content with this payload triggers, compared with the last report of a server's observation of a path
 abbrev pub triggers_on : Client → ℕ → Path → Report → List ℕ → Bool
 triggers_on client server path report payload =
     is_triggered
-    (assigned client.attributes server path name.Gt)
-    (assigned client.attributes server path name.Lt)
-    (assigned client.attributes server path name.St)
+    (assigned_number client.attributes server path name.Gt)
+    (assigned_number client.attributes server path name.Lt)
+    (assigned_number client.attributes server path name.St)
     report.number (number_at client path)
     report.payload payload
 
@@ -62,7 +62,7 @@ evaluation_on client clock o answer =
     else Gone answer
 
 abbrev pub evaluation_of : Client → ℕ → Observation → Evaluation
-evaluation_of client clock o = evaluation_on client clock o (present client o)
+evaluation_of client clock o = evaluation_on client clock o (present_answer client o)
 
 -- what is sent, the observations that are left, and the device's next message ID then
 pub record Sweep : Type 0 where
@@ -71,8 +71,8 @@ pub record Sweep : Type 0 where
   pub next_id : ℕ
 
 -- nothing is sent, and nothing changes
-abbrev pub quiet : ℕ → List Observation → Sweep
-quiet next_id os = record { sent = []; left = os; next_id = next_id }
+abbrev pub quiet_sweep : ℕ → List Observation → Sweep
+quiet_sweep next_id os = record { sent = []; left = os; next_id = next_id }
 
 -- whether notifications of content are Non-confirmable
 abbrev pub sends_nons : Client → Bool
@@ -92,50 +92,50 @@ next_notification client next_id o answer =
     datagram_of (notified_kind client) o next_id (Some (next_number o.number)) answer
 
 -- an observation after it: a Confirmable one opens it
-abbrev pub told : Client → ℕ → ℕ → Observation → Answer → Observation
-told client clock next_id o answer =
-    notified clock next_id (report_of client o.path answer.payload)
+abbrev pub after_next_notification : Client → ℕ → ℕ → Observation → Answer → Observation
+after_next_notification client clock next_id o answer =
+    after_notification clock next_id (report_of client o.path answer.payload)
     (timer_of client (next_notification client next_id o answer).bytes) o
 
 -- content is notified, and keeps the observation; an answer that ends it is sent once, as a Non-confirmable message
 -- without an Observe number
 abbrev pub turn_by : Client → ℕ → ℕ → Observation → Evaluation → Sweep
-turn_by client clock next_id o Quiet = quiet next_id (o ∷ [])
+turn_by client clock next_id o Quiet = quiet_sweep next_id (o ∷ [])
 turn_by client clock next_id o (Sends answer) =
     record {
       sent = next_notification client next_id o answer ∷ [];
-      left = told client clock next_id o answer ∷ [];
+      left = after_next_notification client clock next_id o answer ∷ [];
       next_id = id_after next_id;
     }
 turn_by client clock next_id o (Gone answer) =
     record { sent = datagram_of Non o next_id None answer ∷ []; left = []; next_id = id_after next_id }
 
 -- what an observation does that is evaluated
-abbrev pub evaluated : Client → ℕ → ℕ → Observation → Sweep
-evaluated client clock next_id o = turn_by client clock next_id o (evaluation_of client clock o)
+abbrev pub turn_of_evaluated : Client → ℕ → ℕ → Observation → Sweep
+turn_of_evaluated client clock next_id o = turn_by client clock next_id o (evaluation_of client clock o)
 
 -- one that is open is not: its notification is sent again with the same bytes, and so with its message ID and its
 -- Observe number, or the observation ends with no message (RFC 7252 section 4.2; RFC 7641 section 4.5)
 abbrev pub turn_as : Client → ℕ → ℕ → Observation → Turn → Sweep
-turn_as client clock next_id o Evaluate = evaluated client clock next_id o
-turn_as client clock next_id o Wait = quiet next_id (o ∷ [])
+turn_as client clock next_id o Evaluate = turn_of_evaluated client clock next_id o
+turn_as client clock next_id o Wait = quiet_sweep next_id (o ∷ [])
 turn_as client clock next_id o Resend =
     record { sent = option_to_list (open_notification o); left = o ∷ []; next_id = next_id }
-turn_as client clock next_id o Expire = quiet next_id []
+turn_as client clock next_id o Expire = quiet_sweep next_id []
 
 -- what one observation does in the second that the clock shows
 abbrev pub turn_of : Client → ℕ → ℕ → Observation → Sweep
 turn_of client clock next_id o = turn_as client clock next_id o (turn_at o clock)
 
 -- one after the other: what both send, and leave
-abbrev pub beside : Sweep → Sweep → Sweep
-beside a b = record { sent = a.sent ++ b.sent; left = a.left ++ b.left; next_id = b.next_id }
+abbrev pub sweep_of_both : Sweep → Sweep → Sweep
+sweep_of_both a b = record { sent = a.sent ++ b.sent; left = a.left ++ b.left; next_id = b.next_id }
 
 -- what all of them do in this second, each in its turn
 abbrev pub second : Client → ℕ → ℕ → List Observation → Sweep
-second client clock next_id [] = quiet next_id []
+second client clock next_id [] = quiet_sweep next_id []
 second client clock next_id (o ∷ os) =
-    beside (turn_of client clock next_id o) (second client clock (turn_of client clock next_id o).next_id os)
+    sweep_of_both (turn_of client clock next_id o) (second client clock (turn_of client clock next_id o).next_id os)
 
 -- one second after the other: what is sent in both, and what the later one leaves
 abbrev pub and_then : Sweep → Sweep → Sweep
@@ -143,7 +143,7 @@ and_then a b = record { sent = a.sent ++ b.sent; left = b.left; next_id = b.next
 
 -- what they do in n seconds, where the clock shows this before: it goes up by one, then each of them has its turn
 abbrev pub seconds : Client → ℕ → ℕ → ℕ → List Observation → Sweep
-seconds client clock zero next_id os = quiet next_id os
+seconds client clock zero next_id os = quiet_sweep next_id os
 seconds client clock (suc n) next_id os =
     and_then (second client (clock + 1) next_id os)
     (seconds client (clock + 1) n (second client (clock + 1) next_id os).next_id

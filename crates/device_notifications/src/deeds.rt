@@ -3,10 +3,10 @@
 
 ghost use Rattle.std.specs.Prelude.{◌≡◌, ◌<◌, ◌≤◌, ◌+◌, length, slice_get, IfOk, Some};
 ghost use Rattle.notifier.specs.declared.observation.Observation.{Observation};
-ghost use Rattle.notifier.specs.declared.pending.Outlook.{Outlook as Said};
+ghost use Rattle.notifier.specs.declared.pending.Outlook.{Outlook as OutlookModel};
 ghost use Rattle.device_notifications.specs.Deeds.{Does, Plans, Replaces, left_by, left_by_all, said_by, said_by_all};
 ghost use Rattle.device_notifications.specs.Outlooks.{IsKnown};
-ghost use Rattle.device_notifications.specs.Second.{evaluated, turn_of};
+ghost use Rattle.device_notifications.specs.Second.{turn_of, turn_of_evaluated};
 
 use crate::evaluation::{Evaluation, judge};
 use crate::notification::{datagram_of, next_notification, resend, timer_of};
@@ -50,7 +50,8 @@ fn evaluate(
     requires within { place < length observations.now.list }
     requires known { IsKnown client.now observations.now }
     ensures { IfOk result (λ deed. (o : Observation) → slice_get observations.now.list place ≡ Some o
-        → Does client.now clock o (evaluated client.now clock outbox.old.next_id o) deed outbox.old outbox.new) }
+        → Does client.now clock o (turn_of_evaluated client.now clock outbox.old.next_id o) deed outbox.old
+        outbox.new) }
 {
     let Some(observation) = observations.at(place) else {
         return Ok(Deed::Stays);
@@ -134,7 +135,7 @@ fn carry_out_one(observations: &mut Observations, clock: u64, place: usize, deed
     ensures next { result ≤ place + 1 }
     ensures list { (o : Observation) → slice_get observations.old.list place ≡ Some o
         → Replaces observations.old.list observations.new.list (left_by clock o deed) place result }
-    ensures said { (s : Said) → slice_get observations.old.said place ≡ Some s
+    ensures said { (s : OutlookModel) → slice_get observations.old.said place ≡ Some s
         → Replaces observations.old.said observations.new.said (said_by s deed) place result }
 {
     match deed {

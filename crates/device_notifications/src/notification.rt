@@ -6,7 +6,7 @@ ghost use Rattle.coap_codec.specs.Message.{IsOptionList, spelling};
 ghost use Rattle.notifier.specs.Observed.{HasToken};
 ghost use Rattle.notifier.specs.declared.observation.Observation.{Observation};
 ghost use Rattle.device_notifications.specs.Message.{datagram_of, format_options, notification, observe_options};
-ghost use Rattle.device_notifications.specs.Message.{open_notification, resent};
+ghost use Rattle.device_notifications.specs.Message.{open_notification, resent_datagram};
 ghost use Rattle.device_notifications.specs.Second.{next_notification, notified_kind, timer_of};
 
 use crate::datagram::Datagram;
@@ -118,7 +118,7 @@ pub(crate) fn timer_of(client: &Client, datagram: &Datagram) -> Result<Option<Ti
 
 /// The notification that an observation has open, with the same bytes.
 fn resent(observation: &Observation, timer: &Timer) -> Result<Datagram, AllocError>
-    ensures { IfOk result (λ d. d ≡ resent observation.now timer.now) }
+    ensures { IfOk result (λ d. d ≡ resent_datagram observation.now timer.now) }
 {
     let bytes = timer.bytes.clone()?;
     Ok(Datagram {

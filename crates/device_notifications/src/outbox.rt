@@ -1,5 +1,5 @@
 ghost use Rattle.std.specs.Prelude.{◌≡◌, OnErr, OnOk};
-ghost use Rattle.device_notifications.specs.Outbox.{empty, posted, reposted};
+ghost use Rattle.device_notifications.specs.Outbox.{after_post, after_repost, empty};
 
 use crate::datagram::Datagram;
 use std::alloc::{AllocError, Global};
@@ -40,7 +40,7 @@ impl Outbox {
 
     /// Adds a datagram after the others, and counts the message ID on, modulo 65,536.
     pub(crate) fn post(&mut self, datagram: Datagram) -> Result<(), AllocError>
-        ensures posted { OnOk result (self.new ≡ posted self.old datagram) }
+        ensures posted { OnOk result (self.new ≡ after_post self.old datagram) }
         ensures unchanged { OnErr result (self.new ≡ self.old) }
     {
         self.items.push(datagram)?;
@@ -50,7 +50,7 @@ impl Outbox {
 
     /// Adds a datagram that is sent again, which has its message ID, after the others.
     pub(crate) fn repost(&mut self, resent: Datagram) -> Result<(), AllocError>
-        ensures posted { OnOk result (self.new ≡ reposted self.old resent) }
+        ensures posted { OnOk result (self.new ≡ after_repost self.old resent) }
         ensures unchanged { OnErr result (self.new ≡ self.old) }
     {
         self.items.push(resent)?;

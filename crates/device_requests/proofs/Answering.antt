@@ -40,7 +40,7 @@ use Rattle.device_requests.specs.Refusals.{refusals_of, rules_of, to_delete, to_
 use Rattle.device_requests.specs.Request.{outcome_at, outcome_for, outcome_of, purpose_of, request_by, request_on}
 use Rattle.device_requests.specs.Request.{request_with}
 use Rattle.device_requests.specs.Access.{may_read, rights_on}
-use Rattle.device_requests.specs.Write.{event_of, left, mode_at, new_values, write_unless}
+use Rattle.device_requests.specs.Write.{after_write_with_event, event_of, mode_at, new_values, write_unless}
 use Rattle.device_requests.specs.Client.{Client}
 use Rattle.device_requests.specs.Laws.{lines_by, lines_on, request_lines}
 
@@ -128,7 +128,7 @@ write_says : (client : Client) (server : ℕ) (mode : Mode) (path : Path) (numbe
 write_says client server mode path number payload =
     ended (refusals_of client server path (to_write mode number payload)) Changed
     ∙ ap Some (write_code (refusal_of client server path (to_write mode number payload)) client
-    (left (mode_at mode path) client path (new_values client path number payload)
+    (after_write_with_event (mode_at mode path) client path (new_values client path number payload)
     (event_of path (new_values client path number payload))))
 
 says_at : (client : Client) (server : ℕ) (m : Message) (path : Path) (operation : Operation)

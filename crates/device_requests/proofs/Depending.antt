@@ -10,7 +10,7 @@ use Rattle.std.proofs.lemmas.Bool.{and_from, or_left, or_right}
 use Rattle.lemmas.proofs.Numbers.{eqb_itself}
 use Rattle.lemmas.proofs.Tests.{and_first}
 use Rattle.lwm2m_values.specs.Tlv.{shortest_tlv}
-use Rattle.lwm2m_values.specs.Tree.{instance, listed, part, single}
+use Rattle.lwm2m_values.specs.Tree.{instance, part, single, trees_of_list}
 use Rattle.lwm2m_values.specs.Value.{is_integer}
 use Rattle.lwm2m_values.specs.declared.value.Value.{Value}
 use Rattle.object_defs.specs.Catalog.{definition_of, object_of}
@@ -42,7 +42,7 @@ use Rattle.device_requests.specs.Client.{Client, with_stored}
 use Rattle.device_requests.specs.Depending.{ReadsDependOnTheirValues, is_of_rights}
 use Rattle.device_requests.specs.Read.{content_in, format_at, one_payload, payload_in}
 use Rattle.device_requests.specs.Refusals.{can_be_read, is_oversized}
-use Rattle.device_requests.specs.Targets.{defined, exists, is_multiple, place_of, resource_place}
+use Rattle.device_requests.specs.Targets.{exists, is_multiple, place_of, resource_place, resources_defined}
 
 -- ---- values
 
@@ -192,16 +192,17 @@ same_payload : (client : Client) (stored : Stored) (server : ℕ) (path : Path) 
     → SameControls stored client.store → SameIn path stored client.store
     → payload_in (with_stored client stored) server path format ≡ payload_in client server path format
 same_payload client stored server (Object o) format c h =
-    λ j. shortest_tlv (listed (map (λ i. same_node stored client.store (defined client.catalog o) o i h j)
+    λ j. shortest_tlv (trees_of_list (map (λ i. same_node stored client.store
+    (resources_defined client.catalog o) o i h j)
     (filter (λ i. same_reads stored client.store (length client.accounts) server o i c j)
     (same_list stored client.store o c.instances j))))
 same_payload client stored server (Instance o i) format c h =
-    ap (shown_by (defined client.catalog o)) (same_values stored client.store (Instance o i) h)
+    ap (shown_by (resources_defined client.catalog o)) (same_values stored client.store (Instance o i) h)
 same_payload client stored server (Resource o i r) format c h =
     let all = same_values stored client.store (Resource o i r) h in
     let one = h (single_of (resource_place o i r)) (single_in o i r) in
     λ j. if is_multiple (definition_of client.catalog o r)
-    then shown_by (defined client.catalog o) (all j) else one_payload format (single r) (one j)
+    then shown_by (resources_defined client.catalog o) (all j) else one_payload format (single r) (one j)
 same_payload client stored server (Part o i r n) format c h =
     ap (one_payload format (part n)) (h (part_of (resource_place o i r) n) (part_in o i r n))
 

@@ -18,8 +18,7 @@ use Rattle.device_requests.specs.Inside.{value_rules}
 use Rattle.device_requests.specs.Outcomes.{write_outcome}
 use Rattle.device_requests.specs.Read.{format_at}
 use Rattle.device_requests.specs.Refusals.{can_be_written, is_refused_now, is_target, unless_taken}
-use Rattle.device_requests.specs.Write.{event_of, exceeds, left, mode_at, new_values}
-use Rattle.device_requests.specs.Write.{write_unless}
+use Rattle.device_requests.specs.Write.{after_write_with_event, event_of, exceeds, mode_at, new_values, write_unless}
 
 -- what an error says, said otherwise
 pub of_error : {X E : Type 0} (r : Result X E) (P Q : Type 0) → (P → Q) → OnErr r P → OnErr r Q
@@ -76,7 +75,7 @@ pub write_takes_memory : (client : Client) (server : ℕ) (mode : Mode) (path : 
     → takes_memory (write_outcome client server mode path number payload).answer.code ≡ true
 write_takes_memory client server mode path number payload other target may can served =
     let values = new_values client path number payload in
-    let stored = left (mode_at mode path) client path values (event_of path values) in
+    let stored = after_write_with_event (mode_at mode path) client path values (event_of path values) in
     ap (λ code. takes_memory (write_unless code client stored).answer.code)
     (late_write (object_in path == 0) (is_target client.catalog client.store path)
     (rights_on client server path).write

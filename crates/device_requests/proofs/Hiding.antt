@@ -4,7 +4,7 @@ use Rattle.std.proofs.Common.{inr, Option, is_some, refl, ap, ◌∙◌}
 use Rattle.std.specs.List.{filter, list_any}
 use Rattle.std.specs.Option.{option_map, unwrap_or}
 use Rattle.lwm2m_values.specs.Tlv.{shortest_tlv}
-use Rattle.lwm2m_values.specs.Tree.{Tree, listed}
+use Rattle.lwm2m_values.specs.Tree.{Tree, trees_of_list}
 use Rattle.object_defs.specs.Catalog.{object_of}
 use Rattle.object_defs.specs.Lines.{first_line}
 use Rattle.object_defs.specs.Path.{object_in}
@@ -22,7 +22,7 @@ use Rattle.device_requests.specs.Hiding.{UnreadableIsHidden, UnreadableIsRefused
 use Rattle.device_requests.specs.Client.{Client, with_stored}
 use Rattle.device_requests.specs.Read.{content_in, format_at, read_payload}
 use Rattle.device_requests.specs.Refusals.{can_be_read, is_oversized}
-use Rattle.device_requests.specs.Targets.{defined, exists}
+use Rattle.device_requests.specs.Targets.{exists, resources_defined}
 
 stopped : (a b s : Bool) (lines : List (Bool × Code)) (answer : Answer) → s ≡ false
     → let said = refused_or (first_line ((a, Unauthorized) ∷ (b, NotFound) ∷ (not s, Unauthorized) ∷ lines)) answer in
@@ -64,13 +64,13 @@ answer_with client o accept may payload =
     (content_in format shown)
 
 abbrev payload_with : ℕ → List ℕ → (ℕ → Bool) → (ℕ → Tree) → List ℕ
-payload_with o instances p node = shortest_tlv (listed (map node (filter p instances)))
+payload_with o instances p node = shortest_tlv (trees_of_list (map node (filter p instances)))
 
 pub hidden : UnreadableIsHidden
 hidden client stored server o accept h =
     let p = reads client.store (length client.accounts) server o in
-    let new = instance_node stored (defined client.catalog o) o in
-    let old = instance_node client.store (defined client.catalog o) o in
+    let new = instance_node stored (resources_defined client.catalog o) o in
+    let old = instance_node client.store (resources_defined client.catalog o) o in
     let tests : reads stored (length client.accounts) server o ≡ p = λ j i. h.rights i j in
     let may : may_read (with_stored client stored) server (Object o) ≡ may_read client server (Object o) =
     ap (λ (t : (ℕ → Bool) × List ℕ). length t.1 == 0 || list_any t.0 t.1) (λ j. (tests j, h.instances j)) in
@@ -79,7 +79,7 @@ hidden client stored server o accept h =
     ap (λ (t : (ℕ → Bool) × List ℕ). payload_with o t.1 t.0 new) (λ j. (tests j, h.instances j)) in
     let nodes : payload_with o (instances_of client.store o) p new
     ≡ payload_with o (instances_of client.store o) p old =
-    ap (λ ts. shortest_tlv (listed ts))
+    ap (λ ts. shortest_tlv (trees_of_list ts))
     (same_map p new old (λ i r. ap (λ pairs. instance i (nodes_of pairs)) (h.values i r))
     (instances_of client.store o)) in
     ap (λ (t : Bool × List ℕ). answer_with client o accept t.0 t.1) (λ j. (may j, (lists ∙ nodes) j))

@@ -26,7 +26,7 @@ use Rattle.device_requests.specs.Options.{queries_of, segments_of, path_of}
 use Rattle.device_requests.specs.Outcomes.{write_outcome}
 use Rattle.device_requests.specs.Refusals.{refusal_of, to_create, to_delete, to_execute, to_write, to_write_attributes}
 use Rattle.device_requests.specs.Request.{outcome_at, outcome_for, outcome_of, request_by, request_on, request_with}
-use Rattle.device_requests.specs.Write.{event_of, left, mode_at, new_values, write_unless}
+use Rattle.device_requests.specs.Write.{after_write_with_event, event_of, mode_at, new_values, write_unless}
 use Rattle.device_requests.specs.Laws.{KeepsFrame}
 
 unless_keeps : (code : Option Code) (client : Client) (stored : Stored)
@@ -41,7 +41,7 @@ write_keeps : (client : Client) (server : ℕ) (mode : Mode) (path : Path) (numb
     → KeepsFrame client (write_outcome client server mode path number payload).client
 write_keeps client server mode path number payload =
     unless_keeps (refusal_of client server path (to_write mode number payload)) client
-    (left (mode_at mode path) client path (new_values client path number payload)
+    (after_write_with_event (mode_at mode path) client path (new_values client path number payload)
     (event_of path (new_values client path number payload)))
 
 create_keeps : (code : Option Code) (client : Client) (server o : ℕ) (new : Option Newborn)

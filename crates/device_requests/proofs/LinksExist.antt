@@ -21,8 +21,8 @@ use Rattle.object_defs.proofs.PathOrder.{instance_total, instance_exact}
 use Rattle.instance_store.specs.Existence.{exists_as}
 use Rattle.instance_store.specs.Stored.{Stored, has_instance, instances_of}
 use Rattle.device_requests.specs.Laws.{IsAmong, LinksWhatExists, is_part, lies_at}
-use Rattle.device_requests.specs.Discover.{instance_paths, linked, paths_below, resources_below}
-use Rattle.device_requests.specs.Targets.{defined, exists, place_of, resource_place, resources_as}
+use Rattle.device_requests.specs.Discover.{instance_paths, linked_paths, paths_below, resources_below}
+use Rattle.device_requests.specs.Targets.{exists, place_of, resource_place, resources_as, resources_defined}
 use Rattle.device_requests.proofs.Among.{among-any, among-filter, among-flat, among-map, any_found, filtered, flattened}
 use Rattle.device_requests.proofs.Among.{found, mapped}
 
@@ -75,19 +75,19 @@ resource_listed catalog stored o i r h =
     let known = resource_exists stored (resource_place o i r) (definition_of catalog o r)
     (has_instance stored (place_of o i)) h in
     let d = known.1.0 in
-    let f = found (λ d. d.id == r) d (defined catalog o)
+    let f = found (λ d. d.id == r) d (resources_defined catalog o)
     (sym (definition_in (object_of catalog o) r) ∙ known.1.1) in
     let e : d.id ≡ r = eqb-true d.id r f.1 in
-    among-filter (exists catalog stored) (Resource o i r) (map (λ d. Resource o i d.id) (defined catalog o)) h
-    (subst (λ n. IsAmong (Resource o i n) (map (λ d. Resource o i d.id) (defined catalog o))) e
-    (among-map (λ d. Resource o i d.id) d (defined catalog o) f.0))
+    among-filter (exists catalog stored) (Resource o i r) (map (λ d. Resource o i d.id) (resources_defined catalog o)) h
+    (subst (λ n. IsAmong (Resource o i n) (map (λ d. Resource o i d.id) (resources_defined catalog o))) e
+    (among-map (λ d. Resource o i d.id) d (resources_defined catalog o) f.0))
 
 listed_resource : (catalog : List ObjectDef) (stored : Stored) (o i : ℕ) (q : Path)
     → IsAmong q (resources_below catalog stored o i)
     → (r : ℕ) × (Resource o i r ≡ q) × (exists catalog stored q ≡ true)
 listed_resource catalog stored o i q h =
-    let f = filtered (exists catalog stored) q (map (λ d. Resource o i d.id) (defined catalog o)) h in
-    let m = mapped (λ d. Resource o i d.id) q (defined catalog o) f.0 in
+    let f = filtered (exists catalog stored) q (map (λ d. Resource o i d.id) (resources_defined catalog o)) h in
+    let m = mapped (λ d. Resource o i d.id) q (resources_defined catalog o) f.0 in
     (m.0.id, m.2, f.1)
 
 -- ---- the links
@@ -119,20 +119,20 @@ below_shown catalog stored (Resource o i r) q e h = absurd h
 below_shown catalog stored (Part o i r n) q e h = absurd h
 
 linked_shown : (catalog : List ObjectDef) (stored : Stored) (path q : Path) → exists catalog stored path ≡ true
-    → is_part path ≡ false → IsAmong q (linked catalog stored path) → Shown catalog stored path q
+    → is_part path ≡ false → IsAmong q (linked_paths catalog stored path) → Shown catalog stored path q
 linked_shown catalog stored path q e k (inl h) = subst (Shown catalog stored path) h (lies_itself path k, e)
 linked_shown catalog stored path q e k (inr h) = below_shown catalog stored path q e h
 
 shown_linked : (catalog : List ObjectDef) (stored : Stored) (path q : Path) → lies_at path q ≡ true
-    → exists catalog stored q ≡ true → IsAmong q (linked catalog stored path)
+    → exists catalog stored q ≡ true → IsAmong q (linked_paths catalog stored path)
 shown_linked catalog stored (Object o) (Object p) h e = inl (ap Object (sym (eqb-true p o h)))
 shown_linked catalog stored (Object o) (Instance p j) h e =
-    subst (λ n. IsAmong (Instance p j) (linked catalog stored (Object n))) (eqb-true p o h)
+    subst (λ n. IsAmong (Instance p j) (linked_paths catalog stored (Object n))) (eqb-true p o h)
     (inr (among-flat (instance_paths catalog stored p) j (Instance p j) (instances_of stored p)
     (has_listed stored p j (and_parts (is_some (object_of catalog p)) (has_instance stored (place_of p j)) e).1)
     (inl refl)))
 shown_linked catalog stored (Object o) (Resource p j r) h e =
-    subst (λ n. IsAmong (Resource p j r) (linked catalog stored (Object n))) (eqb-true p o h)
+    subst (λ n. IsAmong (Resource p j r) (linked_paths catalog stored (Object n))) (eqb-true p o h)
     (inr (among-flat (instance_paths catalog stored p) j (Resource p j r) (instances_of stored p)
     (has_listed stored p j (resource_exists stored (resource_place p j r) (definition_of catalog p r)
     (has_instance stored (place_of p j)) e).0)
@@ -143,8 +143,8 @@ shown_linked catalog stored (Instance o i) (Instance p j) h e =
     let k = and_parts (p == o) (j == i) h in inl (λ t. Instance (sym (eqb-true p o k.0) t) (sym (eqb-true j i k.1) t))
 shown_linked catalog stored (Instance o i) (Resource p j r) h e =
     let k = and_parts (p == o) (j == i) h in
-    subst (λ n. IsAmong (Resource p j r) (linked catalog stored (Instance n i))) (eqb-true p o k.0)
-    (subst (λ n. IsAmong (Resource p j r) (linked catalog stored (Instance p n))) (eqb-true j i k.1)
+    subst (λ n. IsAmong (Resource p j r) (linked_paths catalog stored (Instance n i))) (eqb-true p o k.0)
+    (subst (λ n. IsAmong (Resource p j r) (linked_paths catalog stored (Instance p n))) (eqb-true j i k.1)
     (inr (resource_listed catalog stored p j r e)))
 shown_linked catalog stored (Instance o i) (Part p j r n) h e = cc
 shown_linked catalog stored (Resource o i r) (Object p) h e = cc

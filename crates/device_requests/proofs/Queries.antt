@@ -8,7 +8,7 @@ use Rattle.notifier.specs.declared.attribute.Level.{Level}
 use Rattle.notifier.specs.declared.fault.QueryFault.{QueryFault}
 use Rattle.notifier.specs.Query.{BeginsWithChange, changes_of, reading_of}
 use Rattle.notifier.proofs.QueryLaws.{after_first, fault_first, one_spelled}
-use Rattle.device_requests.specs.WriteAttributes.{spelled}
+use Rattle.device_requests.specs.WriteAttributes.{changes_or_none}
 use Rattle.device_requests.specs.Options.{queries_of}
 
 -- an option that is no query, and one that is
@@ -18,17 +18,17 @@ skipped o os e = rw e refl
 pub taken : (o : Opt) (os : List Opt) → (o.number == 15) ≡ true → queries_of (o ∷ os) ≡ o.value ∷ queries_of os
 taken o os e = rw e refl
 
-spelled_some : (r : Result (List Change) QueryFault) (c : List Change) → spelled r ≡ Some c → r ≡ Ok c
+spelled_some : (r : Result (List Change) QueryFault) (c : List Change) → changes_or_none r ≡ Some c → r ≡ Ok c
 spelled_some (Ok x) c h = let same : x ≡ c = cc in ap Ok same
 spelled_some (Err e) c h = cc
 
-spelled_none : (r : Result (List Change) QueryFault) → spelled r ≡ None → (e : QueryFault) × (r ≡ Err e)
+spelled_none : (r : Result (List Change) QueryFault) → changes_or_none r ≡ None → (e : QueryFault) × (r ≡ Err e)
 spelled_none (Ok x) h = cc
 spelled_none (Err e) h = (e, refl)
 
 -- where the first option spells no fault, the others follow it
 next_of : (before c : List Change) (level : Level) (o : Opt) (os : List Opt) (b : Bool) → (o.number == 15) ≡ b
-    → spelled (changes_of before level (queries_of (o ∷ []))) ≡ Some c → changes_of c level (queries_of os)
+    → changes_or_none (changes_of before level (queries_of (o ∷ []))) ≡ Some c → changes_of c level (queries_of os)
     ≡ changes_of before level (queries_of (o ∷ os))
 next_of before c level o os true e h =
     let first : changes_of before level (o.value ∷ []) ≡ Ok c = spelled_some _ c (rw (taken o [] e) at h) in
@@ -39,18 +39,18 @@ next_of before c level o os false e h =
 
 -- where it spells a fault, all do
 fault_of : (before : List Change) (level : Level) (o : Opt) (os : List Opt) (b : Bool) → (o.number == 15) ≡ b
-    → spelled (changes_of before level (queries_of (o ∷ []))) ≡ None
-    → spelled (changes_of before level (queries_of (o ∷ os))) ≡ None
+    → changes_or_none (changes_of before level (queries_of (o ∷ []))) ≡ None
+    → changes_or_none (changes_of before level (queries_of (o ∷ os))) ≡ None
 fault_of before level o os true e h =
     let first = spelled_none (changes_of before level (o.value ∷ [])) (rw (taken o [] e) at h) in
-    ap (λ qs. spelled (changes_of before level qs)) (taken o os e)
-    ∙ ap spelled (fault_first before level o.value (queries_of os) first.0 first.1)
+    ap (λ qs. changes_or_none (changes_of before level qs)) (taken o os e)
+    ∙ ap changes_or_none (fault_first before level o.value (queries_of os) first.0 first.1)
 fault_of before level o os false e h = let k = rw (skipped o [] e) at h in cc
 
 -- the option at an index, and those after it
 pub read_at : (before c : List Change) (level : Level) (options : List Opt) (i : ℕ) (o : Opt) → i < length options → o
     ≡ get_or options i o
-    → spelled (changes_of before level (queries_of (o ∷ []))) ≡ Some c
+    → changes_or_none (changes_of before level (queries_of (o ∷ []))) ≡ Some c
     → changes_of c level (queries_of (drop (i + 1) options)) ≡ changes_of before level (queries_of (drop i options))
 read_at before c level options i o h e k =
     next_of before c level o (drop (i + 1) options) (o.number == 15) refl k
@@ -59,10 +59,10 @@ read_at before c level options i o h e k =
 
 pub refused_at : (before : List Change) (level : Level) (options : List Opt) (i : ℕ) (o : Opt) → i < length options
     → o ≡ get_or options i o
-    → spelled (changes_of before level (queries_of (o ∷ []))) ≡ None
-    → spelled (changes_of before level (queries_of (drop i options))) ≡ None
+    → changes_or_none (changes_of before level (queries_of (o ∷ []))) ≡ None
+    → changes_or_none (changes_of before level (queries_of (drop i options))) ≡ None
 refused_at before level options i o h e k =
-    ap (λ os. spelled (changes_of before level (queries_of os)))
+    ap (λ os. changes_or_none (changes_of before level (queries_of os)))
     (drop_more options i o h ∙ ap (λ x. x ∷ drop (i + 1) options) (sym e))
     ∙ fault_of before level o (drop (i + 1) options) (o.number == 15) refl k
 
@@ -82,7 +82,7 @@ begins changes level o left all e (inl none) spells =
 
 begun_behind : (changes c : List Change) (level : Level) (o : Opt) (left all : List Opt) (b : Bool)
     → (o.number == 15) ≡ b → IsBegun changes level (o ∷ left) all
-    → spelled (changes_of changes level (queries_of (o ∷ []))) ≡ Some c → IsBegun c level left all
+    → changes_or_none (changes_of changes level (queries_of (o ∷ []))) ≡ Some c → IsBegun c level left all
 begun_behind changes c level o left all true e begun h =
     inr (begins changes level o left all e begun
     (one_spelled changes c level o.value (spelled_some _ c (rw (taken o [] e) at h))))
@@ -107,7 +107,7 @@ begins_at changes level options i o h e query begun spells =
 
 pub begun_at : (changes c : List Change) (level : Level) (options : List Opt) (i : ℕ) (o : Opt) → i < length options
     → o ≡ get_or options i o → IsBegun changes level (drop i options) options
-    → spelled (changes_of changes level (queries_of (o ∷ []))) ≡ Some c
+    → changes_or_none (changes_of changes level (queries_of (o ∷ []))) ≡ Some c
     → IsBegun c level (drop (i + 1) options) options
 begun_at changes c level options i o h e begun k =
     begun_behind changes c level o (drop (i + 1) options) options (o.number == 15) refl
@@ -115,11 +115,12 @@ begun_at changes c level options i o h e begun k =
 
 -- where queries spell changes, the first does
 pub first_begins : (level : Level) (queries : List (List ℕ)) (c : List Change)
-    → spelled (changes_of [] level queries) ≡ Some c → c ≢ [] → BeginsWithChange level queries
+    → changes_or_none (changes_of [] level queries) ≡ Some c → c ≢ [] → BeginsWithChange level queries
 first_begins level [] c h some = let none : c ≡ [] = cc in some none
 first_begins level (q ∷ qs) c h some =
     elim (reading_of [] level q) as (λ r.
-    spelled (elim r as (λ _. Result (List Change) QueryFault) [ Ok x ↦ changes_of (x ∷ []) level qs | Err e ↦ Err e ])
+    changes_or_none (elim r as (λ _. Result (List Change) QueryFault)
+    [ Ok x ↦ changes_of (x ∷ []) level qs | Err e ↦ Err e ])
     ≡ Some c → IsOk r) [
       | Ok x ↦ λ k. refl
       | Err e ↦ λ k. cc

@@ -45,9 +45,8 @@ use Rattle.device_requests.specs.Read.{content_in, format_at, payload_in, read_p
 use Rattle.device_requests.specs.Refusals.{can_be_written, is_oversized, is_refused_now, is_target, unless_taken}
 use Rattle.device_requests.specs.Client.{Client, with_stored}
 use Rattle.device_requests.specs.Targets.{is_readable, place_of, resource_place}
-use Rattle.device_requests.specs.Write.{event_of, exceeds, left, values_given}
-use Rattle.device_requests.specs.Write.{given_to_resource, resource_written, new_values, write_unless}
-use Rattle.device_requests.specs.Write.{written}
+use Rattle.device_requests.specs.Write.{after_write_with_event, event_of, exceeds, values_given, given_to_resource}
+use Rattle.device_requests.specs.Write.{resource_written, new_values, write_unless, after_write}
 use Rattle.device_requests.specs.Laws.{IsReadBack, WrittenIsRead, content_within}
 
 -- one value is given
@@ -203,7 +202,7 @@ behind : (client : Client) (o i r : ℕ) (d : ResourceDef) (number : Option ℕ)
     → not (is_target client.catalog client.store (Resource o i r)) ≡ false
     → not (is_some (format_at client.catalog (Resource o i r) number)) ≡ false
     → not (is_some (new_values client (Resource o i r) number payload)) ≡ false
-    → stored ≡ written Replace client.catalog client.store (Resource o i r)
+    → stored ≡ after_write Replace client.catalog client.store (Resource o i r)
     (new_values client (Resource o i r) number payload)
     → IsReadBack client o i r d number payload stored
 behind client o i r d number payload stored defined alone readable object target served good is =
@@ -217,7 +216,7 @@ behind client o i r d number payload stored defined alone readable object target
     let g = of_one (resource_given d format.0 payload) values.0 given in
     let v = gives_one d format.0 payload g.0 alone g.1 in
     let stored_is : stored ≡ with_value client.store (single_of p) v.0 =
-    is ∙ ap (written Replace client.catalog client.store path) (values.1 ∙ ap Some (g.2 ∙ ap One v.1))
+    is ∙ ap (after_write Replace client.catalog client.store path) (values.1 ∙ ap Some (g.2 ∙ ap One v.1))
     ∙ ap (λ e. resource_written Replace e client.store p (Single v.0)) defined
     ∙ ap (λ b. if b then with_value client.store (single_of p) v.0 else client.store) readable in
     record {
@@ -255,7 +254,7 @@ turned client server o i r number payload event =
     ∷ (not (is_some values), BadRequest)
     ∷ (is_refused_now client.store event, MethodNotAllowed)
     ∷ (unless_taken event (exceeds Replace client.catalog client.store path values), InternalServerError)
-    ∷ [])) client (left Replace client path values event)
+    ∷ [])) client (after_write_with_event Replace client path values event)
 
 pub read_back : WrittenIsRead
 read_back client server o i r d number payload defined alone readable other h =
@@ -267,5 +266,5 @@ read_back client server o i r d number payload defined alone readable other h =
     (λ done.
     let p = passes (o == 0) _ _ _ (not (is_some (format_at client.catalog path number))) (not (is_some values))
     (exceeds Replace client.catalog client.store path values)
-    client (written Replace client.catalog client.store path values) done in
+    client (after_write Replace client.catalog client.store path values) done in
     behind client o i r d number payload _ defined alone readable p.object p.target p.served p.good p.store) h

@@ -14,7 +14,7 @@ use Rattle.device_requests.specs.declared.operation.Operation.TheVariants.{Delet
 use Rattle.device_requests.specs.declared.request.Request.{Request}
 use Rattle.notifier.specs.Attributes.{Numbers}
 use Rattle.device_requests.specs.WriteAttributes.{annotate_unless, attributes_given}
-use Rattle.device_requests.specs.Answer.{Outcome, answered, bare, content, refused_or}
+use Rattle.device_requests.specs.Answer.{Outcome, answer_alone, bare, content, refused_or}
 use Rattle.device_requests.specs.Discover.{discover_payload}
 use Rattle.device_requests.specs.Read.{content_in, format_at, read_payload}
 use Rattle.lwm2m_payloads.specs.declared.format.Format.{Format}
@@ -31,13 +31,13 @@ use Rattle.device_requests.specs.Outcomes.{write_outcome}
 use Rattle.device_requests.specs.Refusals.{refusal_of, to_create, to_delete, to_discover, to_execute, to_read, to_write}
 use Rattle.device_requests.specs.Refusals.{to_write_attributes}
 use Rattle.device_requests.specs.Request.{outcome_at, outcome_for, outcome_of, request_by, request_on, request_with}
-use Rattle.device_requests.specs.Write.{event_of, left, mode_at, new_values, write_unless}
+use Rattle.device_requests.specs.Write.{after_write_with_event, event_of, mode_at, new_values, write_unless}
 use Rattle.device_requests.specs.Client.{Client}
 use Rattle.device_requests.specs.Laws.{RefusalIsCodeAlone, RefusalKeeps, is_refusal}
 
 -- a refusal is its code
 abbrev Keeps : Client → Outcome → Type 0
-Keeps client outcome = is_refusal outcome.answer.code ≡ true → outcome ≡ answered client (bare outcome.answer.code)
+Keeps client outcome = is_refusal outcome.answer.code ≡ true → outcome ≡ answer_alone client (bare outcome.answer.code)
 
 unless_refused : (code : Option Code) (client : Client) (stored : Stored)
     → Keeps client (write_unless code client stored)
@@ -48,7 +48,7 @@ refused_write : (client : Client) (server : ℕ) (mode : Mode) (path : Path) (nu
     → Keeps client (write_outcome client server mode path number payload)
 refused_write client server mode path number payload =
     unless_refused (refusal_of client server path (to_write mode number payload)) client
-    (left (mode_at mode path) client path (new_values client path number payload)
+    (after_write_with_event (mode_at mode path) client path (new_values client path number payload)
     (event_of path (new_values client path number payload)))
 
 refused_create : (code : Option Code) (client : Client) (server o : ℕ) (new : Option Newborn)
@@ -72,13 +72,13 @@ refused_attributes None client (Some m) h = cc
 refused_attributes (Some code) client given h = refl
 
 refused_read : (code : Option Code) (client : Client) (format : Option Format) (payload : List ℕ)
-    → Keeps client (answered client (refused_or code (content_in format payload)))
+    → Keeps client (answer_alone client (refused_or code (content_in format payload)))
 refused_read None client None payload h = refl
 refused_read None client (Some format) payload h = cc
 refused_read (Some code) client format payload h = refl
 
 refused_discover : (code : Option Code) (client : Client) (payload : List ℕ)
-    → Keeps client (answered client (refused_or code (content 40 payload)))
+    → Keeps client (answer_alone client (refused_or code (content 40 payload)))
 refused_discover None client payload h = cc
 refused_discover (Some code) client payload h = refl
 

@@ -20,7 +20,7 @@ use Rattle.device_requests.specs.Outcomes.{write_outcome}
 use Rattle.device_requests.specs.Refusals.{refusal_of, to_create, to_delete, to_execute, to_write}
 use Rattle.device_requests.specs.Refusals.{to_write_attributes}
 use Rattle.device_requests.specs.Request.{outcome_at, outcome_for, outcome_of, request_by, request_on, request_with}
-use Rattle.device_requests.specs.Write.{event_of, left, mode_at, new_values, write_unless}
+use Rattle.device_requests.specs.Write.{after_write_with_event, event_of, mode_at, new_values, write_unless}
 use Rattle.device_requests.specs.WriteAttributes.{annotate_unless, attributes_given}
 use Rattle.device_requests.specs.declared.answer.Code.{Code}
 use Rattle.device_requests.specs.declared.answer.Code.TheVariants.{BadOption}
@@ -42,7 +42,7 @@ write : (client : Client) (server : ℕ) (mode : Mode) (path : Path) (number : O
     → Keeps client (write_outcome client server mode path number payload)
 write client server mode path number payload =
     written (refusal_of client server path (to_write mode number payload)) client
-    (left (mode_at mode path) client path (new_values client path number payload)
+    (after_write_with_event (mode_at mode path) client path (new_values client path number payload)
     (event_of path (new_values client path number payload)))
 
 created : (code : Option Code) (client : Client) (server o : ℕ) (new : Option Newborn)

@@ -14,7 +14,8 @@ use Rattle.device_requests.specs.Inside.{give, value_rules}
 use Rattle.device_requests.specs.Outcomes.{write_outcome}
 use Rattle.device_requests.specs.Read.{format_at}
 use Rattle.device_requests.specs.Refusals.{can_be_written, is_target}
-use Rattle.device_requests.specs.Write.{event_of, left, mode_at, new_values, values_given, write_unless}
+use Rattle.device_requests.specs.Write.{after_write_with_event, event_of, mode_at, new_values, values_given}
+use Rattle.device_requests.specs.Write.{write_unless}
 use Rattle.device_requests.proofs.Growing.{early_lines}
 
 -- the format is served
@@ -41,7 +42,7 @@ pub write_refuses : (client new : Client) (server : ℕ) (mode : Mode) (path : P
     → is_change (write_outcome client server mode path number payload).answer.code ≡ false → new ≡ client
 write_refuses client new server mode path number payload other target may can k h =
     let values = new_values client path number payload in
-    let stored = left (mode_at mode path) client path values (event_of path values) in
+    let stored = after_write_with_event (mode_at mode path) client path values (event_of path values) in
     k (ap (λ code. is_change (write_unless code client stored).answer.code)
     (sym (early_lines (object_in path == 0) (is_target client.catalog client.store path)
     (rights_on client server path).write (can_be_written client.catalog path)

@@ -63,12 +63,12 @@ abbrev pub content : ℕ → List ℕ → Answer
 content format payload = record { code = Content; location = None; format = Some format; payload = payload; act = None }
 
 -- Changed, after which the device may act
-abbrev pub done : Option Act → Answer
-done act = record { code = Changed; location = None; format = None; payload = []; act = act }
+abbrev pub done_answer : Option Act → Answer
+done_answer act = record { code = Changed; location = None; format = None; payload = []; act = act }
 
 -- Created, with the place of the new instance
-abbrev pub created : InstancePath → Answer
-created place = record { code = Created; location = Some place; format = None; payload = []; act = None }
+abbrev pub created_answer : InstancePath → Answer
+created_answer place = record { code = Created; location = Some place; format = None; payload = []; act = None }
 
 -- an answer of this code may take memory; what refuses a server, an option, a path or a format takes none
 abbrev pub takes_memory : Code → Bool
@@ -91,8 +91,8 @@ pub record Outcome : Type 0 where
   pub client : Client
 
 -- an answer alone: nothing changes
-abbrev pub answered : Client → Answer → Outcome
-answered client answer = record { answer = answer; client = client }
+abbrev pub answer_alone : Client → Answer → Outcome
+answer_alone client answer = record { answer = answer; client = client }
 
 -- this answer is the outcome's, and so is what is managed now
 pub record Leaves (answer : Answer) (new : Client) (outcome : Outcome) : Type 0 where

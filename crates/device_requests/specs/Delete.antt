@@ -8,16 +8,16 @@ use Rattle.notifier.specs.Attributes.{Numbers, without_under}
 use Rattle.device_instances.specs.Deletions.{without_deleted}
 use Rattle.device_requests.specs.declared.answer.Code.{Code}
 use Rattle.device_requests.specs.declared.answer.Code.TheVariants.{Deleted}
-use Rattle.device_requests.specs.Answer.{Outcome, answered, bare}
+use Rattle.device_requests.specs.Answer.{Outcome, answer_alone, bare}
 use Rattle.device_requests.specs.Client.{Client, with_attributes, with_stored}
 use Rattle.device_requests.specs.Targets.{place_of}
 
 -- the instance is removed, and each instance of Access Control for it
-abbrev pub deleted : Stored → Path → Stored
-deleted stored (Object o) = stored
-deleted stored (Instance o i) = without_deleted stored (place_of o i)
-deleted stored (Resource o i r) = stored
-deleted stored (Part o i r n) = stored
+abbrev pub after_delete : Stored → Path → Stored
+after_delete stored (Object o) = stored
+after_delete stored (Instance o i) = without_deleted stored (place_of o i)
+after_delete stored (Resource o i r) = stored
+after_delete stored (Part o i r n) = stored
 
 -- the instances of Access Control that were there and are not any more
 abbrev pub taken_away : Stored → Stored → List ℕ
@@ -31,16 +31,16 @@ without_controls m [] = m
 without_controls m (j ∷ js) = without_controls (without_under m (Instance access_control_object j)) js
 
 -- attributes go with what they are set for
-abbrev pub forgotten : Client → Path → Numbers
-forgotten client path =
-    without_controls (without_under client.attributes path) (taken_away client.store (deleted client.store path))
+abbrev pub attributes_after_delete : Client → Path → Numbers
+attributes_after_delete client path =
+    without_controls (without_under client.attributes path) (taken_away client.store (after_delete client.store path))
 
 -- a refusal changes nothing
 abbrev pub delete_unless : Option Code → Client → Path → Outcome
-delete_unless (Some code) client path = answered client (bare code)
+delete_unless (Some code) client path = answer_alone client (bare code)
 delete_unless None client path =
     record {
       answer = bare Deleted;
-      client = with_attributes (with_stored client (deleted client.store path))
-          (forgotten client path);
+      client = with_attributes (with_stored client (after_delete client.store path))
+          (attributes_after_delete client path);
     }

@@ -8,7 +8,7 @@ use Rattle.std.specs.Int.{is_negative}
 use Rattle.notifier.specs.declared.attribute.Name.{Name}
 use Rattle.notifier.specs.declared.attribute.Name.TheVariants.{Pmin, Pmax, Gt, Lt, St}
 use Rattle.notifier.specs.declared.attribute.Name.TheVariants as name
-use Rattle.notifier.specs.Attributes.{Numbers, assigned, effective}
+use Rattle.notifier.specs.Attributes.{Numbers, assigned_number, effective}
 use Rattle.object_defs.specs.Catalog.{definition_of}
 use Rattle.object_defs.specs.declared.definition.ObjectDef.{ObjectDef}
 use Rattle.object_defs.specs.declared.definition.ResourceDef.{ResourceDef}
@@ -16,16 +16,17 @@ use Rattle.object_defs.specs.declared.path.Path.{Path}
 use Rattle.object_defs.specs.declared.path.Path.TheVariants.{Object, Instance, Resource, Part}
 use Rattle.instance_store.specs.Stored.{Stored, instances_of, parts_of}
 use Rattle.device_requests.specs.Client.{Client}
-use Rattle.device_requests.specs.Targets.{defined, exists, is_multiple, resource_place}
+use Rattle.device_requests.specs.Targets.{exists, is_multiple, resource_place, resources_defined}
 use Rattle.object_defs.specs.Path.{path_text}
 
 -- those of these resources of an instance that exist
-abbrev pub existing : List ObjectDef → Stored → ℕ → ℕ → List ResourceDef → List Path
-existing catalog stored o i definitions = filter (exists catalog stored) (map (λ d. Resource o i d.id) definitions)
+abbrev pub existing_resources : List ObjectDef → Stored → ℕ → ℕ → List ResourceDef → List Path
+existing_resources catalog stored o i definitions =
+    filter (exists catalog stored) (map (λ d. Resource o i d.id) definitions)
 
 -- the resources of an instance that exist, in the catalog's order
 abbrev pub resources_below : List ObjectDef → Stored → ℕ → ℕ → List Path
-resources_below catalog stored o i = existing catalog stored o i (defined catalog o)
+resources_below catalog stored o i = existing_resources catalog stored o i (resources_defined catalog o)
 
 -- an instance, followed by its resources
 abbrev pub instance_paths : List ObjectDef → Stored → ℕ → ℕ → List Path
@@ -39,8 +40,8 @@ paths_below catalog stored (Resource o i r) = []
 paths_below catalog stored (Part o i r n) = []
 
 -- the paths that a Discover shows
-abbrev pub linked : List ObjectDef → Stored → Path → List Path
-linked catalog stored path = path ∷ paths_below catalog stored path
+abbrev pub linked_paths : List ObjectDef → Stored → Path → List Path
+linked_paths catalog stored path = path ∷ paths_below catalog stored path
 
 -- how many parts a multiple resource holds
 abbrev pub dimension : List ObjectDef → Stored → Path → ℕ
@@ -102,7 +103,7 @@ inherits_at (Part _ _ _ _) = false
 -- the number of an attribute of a server that a link shows: that of its path itself, or the one that has effect there
 abbrev pub shown_number : Numbers → ℕ → Bool → Path → Name → Option ℤ
 shown_number m server inherits path n =
-    if inherits && is_period n then effective m server path n else assigned m server path n
+    if inherits && is_period n then effective m server path n else assigned_number m server path n
 
 abbrev pub shown_attribute : Numbers → ℕ → Bool → Path → Name → List ℕ
 shown_attribute m server inherits path n = attribute_text n (shown_number m server inherits path n)
@@ -117,14 +118,14 @@ attributes_text m server inherits path =
     ++ shown_attribute m server inherits path name.St)))
 
 -- what stands after a link's target: `;dim=N` for a multiple resource that is held, and the server's attributes
-abbrev pub behind : Client → ℕ → Bool → Path → List ℕ
-behind client server inherits path =
+abbrev pub link_parameters : Client → ℕ → Bool → Path → List ℕ
+link_parameters client server inherits path =
     dimension_text (dimension client.catalog client.store path)
     ++ attributes_text client.attributes server inherits path
 
 -- a link: its target in angle brackets, and what stands after it
 abbrev pub link : Client → ℕ → Bool → Path → List ℕ
-link client server inherits path = 60 ∷ path_text path ++ 62 ∷ behind client server inherits path
+link client server inherits path = 60 ∷ path_text path ++ 62 ∷ link_parameters client server inherits path
 
 abbrev pub more_links : Client → ℕ → List Path → List ℕ
 more_links client server paths = flat_map (λ p. 44 ∷ link client server false p) paths
@@ -136,4 +137,4 @@ links_text client server (p ∷ ps) = link client server (inherits_at p) p ++ mo
 
 -- the links of a path and of what lies below it
 abbrev pub discover_payload : Client → ℕ → Path → List ℕ
-discover_payload client server path = links_text client server (linked client.catalog client.store path)
+discover_payload client server path = links_text client server (linked_paths client.catalog client.store path)

@@ -17,7 +17,7 @@ use Rattle.lwm2m_payloads.specs.Scanning.{are_arguments}
 use Rattle.device_requests.specs.declared.answer.Act.{Act}
 use Rattle.device_requests.specs.declared.answer.Act.TheVariants.{Reboot, FactoryReset, RegUpdate, Disable}
 use Rattle.device_requests.specs.declared.answer.Code.{Code}
-use Rattle.device_requests.specs.Answer.{Outcome, answered, bare, done}
+use Rattle.device_requests.specs.Answer.{Outcome, answer_alone, bare, done_answer}
 use Rattle.device_requests.specs.Client.{Client, with_stored}
 use Rattle.device_requests.specs.Targets.{is_resource, resource_place}
 
@@ -51,14 +51,14 @@ with_no_error stored (Resource o i r) =
 with_no_error stored (Part o i r n) = stored
 
 -- Update begins the update, Reset Error Code resets the error codes, the others change nothing
-abbrev pub executed : Stored → Path → Stored
-executed stored path =
+abbrev pub after_execute : Stored → Path → Stored
+after_execute stored path =
     if is_resource firmware_update_object update path then unwrap_or (firmware_after stored Update) stored
     else if is_resource device_object reset_error_code path then with_no_error stored path
     else stored
 
 -- a refusal changes nothing; else it is done, and the device acts
 abbrev pub execute_unless : Option Code → Client → Path → Outcome
-execute_unless (Some code) client path = answered client (bare code)
+execute_unless (Some code) client path = answer_alone client (bare code)
 execute_unless None client path =
-    record { answer = done (act_of path); client = with_stored client (executed client.store path) }
+    record { answer = done_answer (act_of path); client = with_stored client (after_execute client.store path) }

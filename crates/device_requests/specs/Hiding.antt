@@ -9,7 +9,7 @@ use Rattle.device_requests.specs.Access.{may_read, reads}
 use Rattle.device_requests.specs.Answer.{bare}
 use Rattle.device_requests.specs.Client.{Client, with_stored}
 use Rattle.device_requests.specs.Outcomes.{read_answer}
-use Rattle.device_requests.specs.Targets.{defined}
+use Rattle.device_requests.specs.Targets.{resources_defined}
 
 -- where a server may not read, the answer to its Read is a code alone
 abbrev pub UnreadableIsRefused : Type 0
@@ -25,8 +25,8 @@ pub record IsAlike (client : Client) (stored : Stored) (server o : ℕ) : Type 0
   pub rights : (i : ℕ)
       → reads stored (length client.accounts) server o i ≡ reads client.store (length client.accounts) server o i
   pub values : (i : ℕ) → reads client.store (length client.accounts) server o i ≡ true
-      → shown_in stored (defined client.catalog o) (Instance o i)
-      ≡ shown_in client.store (defined client.catalog o) (Instance o i)
+      → shown_in stored (resources_defined client.catalog o) (Instance o i)
+      ≡ shown_in client.store (resources_defined client.catalog o) (Instance o i)
 
 -- a Read of the object has the same answer then, whatever the other instances hold
 abbrev pub UnreadableIsHidden : Type 0

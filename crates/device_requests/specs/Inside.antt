@@ -16,7 +16,7 @@ use Rattle.device_requests.specs.Answer.{Outcome}
 use Rattle.device_requests.specs.Client.{Client}
 use Rattle.device_requests.specs.Refusals.{is_refused_now, unless_taken}
 use Rattle.device_requests.specs.Targets.{place_of}
-use Rattle.device_requests.specs.Write.{event_of, exceeds, left, mode_at, write_unless}
+use Rattle.device_requests.specs.Write.{after_write_with_event, event_of, exceeds, mode_at, write_unless}
 
 -- the option is a Uri-Path of a length that it may have
 abbrev pub is_segment : Opt → Bool
@@ -55,4 +55,5 @@ value_rules client mode path values =
 -- what is given is written, where none of these rules refuses it
 abbrev pub give : List (Bool × Code) → Client → Mode → Path → Option NewValues → Outcome
 give rules client mode path values =
-    write_unless (first_line rules) client (left (mode_at mode path) client path values (event_of path values))
+    write_unless (first_line rules) client (after_write_with_event (mode_at mode path) client path values
+    (event_of path values))

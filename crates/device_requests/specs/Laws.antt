@@ -23,7 +23,7 @@ use Rattle.device_requests.specs.declared.answer.Code.TheVariants.{InternalServe
 use Rattle.device_requests.specs.declared.operation.Operation.{Operation}
 use Rattle.device_requests.specs.Access.{may_read}
 use Rattle.device_requests.specs.Answer.{bare, code_byte, content, is_change}
-use Rattle.device_requests.specs.Discover.{linked}
+use Rattle.device_requests.specs.Discover.{linked_paths}
 use Rattle.object_defs.specs.Lines.{first_line}
 use Rattle.device_requests.specs.Operation.{operation_of}
 use Rattle.device_requests.specs.Options.{accept_of, has_query, has_unrecognized_critical, path_of, segments_of}
@@ -148,4 +148,4 @@ abbrev pub LinksWhatExists : Type 0
 LinksWhatExists =
     (catalog : List ObjectDef) (stored : Stored) (path q : Path) → exists catalog stored path ≡ true
     → is_part path ≡ false
-    → IsAmong q (linked catalog stored path) ↔ ((lies_at path q ≡ true) × (exists catalog stored q ≡ true))
+    → IsAmong q (linked_paths catalog stored path) ↔ ((lies_at path q ≡ true) × (exists catalog stored q ≡ true))

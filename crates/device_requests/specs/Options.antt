@@ -11,24 +11,24 @@ use Rattle.object_defs.specs.declared.path.Path.{Path}
 use Rattle.object_defs.specs.declared.path.Path.TheVariants.{Object, Instance, Resource, Part}
 
 -- a recognized option, with the least and the greatest length of its value
-pub record Known : Type 0 where
+pub record RecognizedOption : Type 0 where
   pub number : ℕ
   pub least : ℕ
   pub most : ℕ
 
-abbrev pub known : ℕ → ℕ → ℕ → Known
-known number least most = record { number = number; least = least; most = most }
+abbrev pub recognized_option : ℕ → ℕ → ℕ → RecognizedOption
+recognized_option number least most = record { number = number; least = least; most = most }
 
 -- the recognized options
-abbrev pub known_options : List Known
+abbrev pub known_options : List RecognizedOption
 known_options =
-    known uri_host_option 1 255
-    ∷ known observe_option 0 3
-    ∷ known uri_port_option 0 2
-    ∷ known uri_path_option 0 255
-    ∷ known content_format_option 0 2
-    ∷ known uri_query_option 0 255
-    ∷ known accept_option 0 2
+    recognized_option uri_host_option 1 255
+    ∷ recognized_option observe_option 0 3
+    ∷ recognized_option uri_port_option 0 2
+    ∷ recognized_option uri_path_option 0 255
+    ∷ recognized_option content_format_option 0 2
+    ∷ recognized_option uri_query_option 0 255
+    ∷ recognized_option accept_option 0 2
     ∷ []
 
 -- the option is a recognized one, and its value has a length that this one may have

@@ -15,7 +15,7 @@ use Rattle.device_requests.specs.Operation.{link_format}
 use Rattle.device_requests.specs.Read.{content_in, format_at, read_payload}
 use Rattle.device_requests.specs.Refusals.{refusal_of, to_create, to_delete, to_discover, to_execute, to_read}
 use Rattle.device_requests.specs.Refusals.{to_write, to_write_attributes}
-use Rattle.device_requests.specs.Write.{event_of, left, mode_at, new_values, write_unless}
+use Rattle.device_requests.specs.Write.{after_write_with_event, event_of, mode_at, new_values, write_unless}
 use Rattle.device_requests.specs.WriteAttributes.{annotate_unless, attributes_given}
 
 -- the answer to a Read at a path, with the format that Accept names
@@ -34,7 +34,7 @@ abbrev pub write_outcome : Client → ℕ → Mode → Path → Option ℕ → L
 write_outcome client server mode path number payload =
     let values = new_values client path number payload in
     write_unless (refusal_of client server path (to_write mode number payload)) client
-    (left (mode_at mode path) client path values (event_of path values))
+    (after_write_with_event (mode_at mode path) client path values (event_of path values))
 
 -- a Write-Attributes at a path
 abbrev pub attributes_outcome : Client → ℕ → Path → List (List ℕ) → Outcome

@@ -18,7 +18,7 @@ use Rattle.device_requests.specs.declared.answer.Code.TheVariants.{NotAcceptable
 use Rattle.device_requests.specs.Access.{shown_instances}
 use Rattle.device_requests.specs.Answer.{bare, content}
 use Rattle.device_requests.specs.Client.{Client}
-use Rattle.device_requests.specs.Targets.{defined, definition_at, is_multiple, resource_place}
+use Rattle.device_requests.specs.Targets.{definition_at, is_multiple, resource_place, resources_defined}
 
 -- the format of this number at the path, or the default one without a number, where it is served there
 abbrev pub format_at : List ObjectDef → Path → Option ℕ → Option Format
@@ -26,12 +26,12 @@ format_at catalog path number = format_for (extent_of path (definition_at catalo
 
 -- what is held at or below the path and can be read, as TLV
 abbrev pub values_payload : Client → ℕ → Path → List ℕ
-values_payload client o path = shortest_tlv (nodes_of (shown_in client.store (defined client.catalog o) path))
+values_payload client o path = shortest_tlv (nodes_of (shown_in client.store (resources_defined client.catalog o) path))
 
 -- an Object Instance for each instance on which the server has R, also for one that shows nothing
 abbrev pub object_payload : Client → ℕ → ℕ → List ℕ
 object_payload client server o =
-    shortest_tlv (object_nodes client.store (defined client.catalog o) o
+    shortest_tlv (object_nodes client.store (resources_defined client.catalog o) o
     (shown_instances client.store (length client.accounts) server o))
 
 -- one value in a format, where it is there

@@ -10,7 +10,7 @@ use Rattle.device_requests.specs.declared.operation.Operation.TheVariants.{Read,
 use Rattle.device_requests.specs.declared.operation.Operation.TheVariants.{WriteReplace, WritePartial, Create, Execute}
 use Rattle.device_requests.specs.declared.operation.Operation.TheVariants.{Delete}
 use Rattle.device_requests.specs.declared.request.Request.{Request}
-use Rattle.device_requests.specs.Answer.{Outcome, answered, bare}
+use Rattle.device_requests.specs.Answer.{Outcome, answer_alone, bare}
 use Rattle.device_requests.specs.Operation.{operation_of}
 use Rattle.device_requests.specs.Options.{accept_of, content_format_of, has_query, has_unrecognized_critical}
 use Rattle.device_requests.specs.Options.{observe_of, queries_of, segments_of, path_of}
@@ -75,8 +75,8 @@ purpose_of m Delete = to_delete
 
 -- what an operation answers and changes, with the queries and the payload of its message
 abbrev pub outcome_by : Client → ℕ → Message → Request → Operation → Outcome
-outcome_by client server m r Read = answered client (read_answer client server r.path r.accept)
-outcome_by client server m r Discover = answered client (discover_answer client server r.path)
+outcome_by client server m r Read = answer_alone client (read_answer client server r.path r.accept)
+outcome_by client server m r Discover = answer_alone client (discover_answer client server r.path)
 outcome_by client server m r WriteReplace = write_outcome client server Replace r.path r.content_format m.payload
 outcome_by client server m r WritePartial = write_outcome client server Update r.path r.content_format m.payload
 outcome_by client server m r WriteAttributes = attributes_outcome client server r.path (queries_of m.options)
@@ -89,7 +89,7 @@ outcome_at client server m r = outcome_by client server m r r.operation
 
 -- a message that is refused as it is read changes nothing
 abbrev pub outcome_for : Client → ℕ → Message → Result Request Code → Outcome
-outcome_for client server m (Err code) = answered client (bare code)
+outcome_for client server m (Err code) = answer_alone client (bare code)
 outcome_for client server m (Ok r) = outcome_at client server m r
 
 -- what a request answers and changes

@@ -17,8 +17,8 @@ resources_as None = []
 resources_as (Some o) = o.resources
 
 -- the definitions of an object's resources; none where the object is not known
-abbrev pub defined : List ObjectDef → ℕ → List ResourceDef
-defined catalog object = resources_as (object_of catalog object)
+abbrev pub resources_defined : List ObjectDef → ℕ → List ResourceDef
+resources_defined catalog object = resources_as (object_of catalog object)
 
 -- the definition of the resource that a path names
 abbrev pub definition_at : List ObjectDef → Path → Option ResourceDef

@@ -24,10 +24,10 @@ use Rattle.device_requests.specs.declared.write.NewValues.{NewValues}
 use Rattle.device_requests.specs.declared.write.NewValues.TheVariants.{Several, One}
 use Rattle.device_requests.specs.declared.answer.Code.{Code}
 use Rattle.device_requests.specs.declared.answer.Code.TheVariants.{Changed}
-use Rattle.device_requests.specs.Answer.{Outcome, answered, bare}
+use Rattle.device_requests.specs.Answer.{Outcome, answer_alone, bare}
 use Rattle.device_requests.specs.Read.{format_at}
 use Rattle.device_requests.specs.Client.{Client, with_stored}
-use Rattle.device_requests.specs.Targets.{defined, is_resource, place_of, resource_place}
+use Rattle.device_requests.specs.Targets.{is_resource, place_of, resource_place, resources_defined}
 
 abbrev pub given_to_resource : Option ResourceDef → Format → List ℕ → Option Given
 given_to_resource None format payload = None
@@ -41,7 +41,7 @@ given_to_part (Some d) n format payload = part_given d n format payload
 abbrev pub values_given : List ObjectDef → Path → List ℕ → Format → Option NewValues
 values_given catalog (Object o) payload format = None
 values_given catalog (Instance o i) payload format =
-    option_map Several (instance_given (defined catalog o) i payload)
+    option_map Several (instance_given (resources_defined catalog o) i payload)
 values_given catalog (Resource o i r) payload format =
     option_map One (given_to_resource (definition_of catalog o r) format payload)
 values_given catalog (Part o i r n) payload format =
@@ -64,7 +64,7 @@ resource_exceeds mode definition stored p given = is_kept_as definition && is_to
 
 abbrev pub values_exceed : Mode → List ObjectDef → Stored → Path → NewValues → Bool
 values_exceed mode catalog stored (Instance o i) (Several given) =
-    has_too_many mode (defined catalog o) stored (place_of o i) given
+    has_too_many mode (resources_defined catalog o) stored (place_of o i) given
 values_exceed mode catalog stored (Resource o i r) (One given) =
     resource_exceeds mode (definition_of catalog o r) stored (resource_place o i r) given
 values_exceed mode catalog stored (Part o i r n) (One given) =
@@ -82,7 +82,7 @@ resource_written mode definition stored p given =
 
 abbrev pub values_written : Mode → List ObjectDef → Stored → Path → NewValues → Stored
 values_written mode catalog stored (Instance o i) (Several given) =
-    instance_written mode (defined catalog o) stored (place_of o i) given
+    instance_written mode (resources_defined catalog o) stored (place_of o i) given
 values_written mode catalog stored (Resource o i r) (One given) =
     resource_written mode (definition_of catalog o r) stored (resource_place o i r) given
 values_written mode catalog stored (Part o i r n) (One given) =
@@ -90,9 +90,9 @@ values_written mode catalog stored (Part o i r n) (One given) =
 values_written mode catalog stored path values = stored
 
 -- the store after a Write that is not refused
-abbrev pub written : Mode → List ObjectDef → Stored → Path → Option NewValues → Stored
-written mode catalog stored path None = stored
-written mode catalog stored path (Some values) = values_written mode catalog stored path values
+abbrev pub after_write : Mode → List ObjectDef → Stored → Path → Option NewValues → Stored
+after_write mode catalog stored path None = stored
+after_write mode catalog stored path (Some values) = values_written mode catalog stored path values
 
 -- what a Package is to the firmware, and what a Package URI is
 abbrev pub package_in : NewValues → Option FirmwareEvent
@@ -113,11 +113,11 @@ event_of path (Some values) =
 
 -- a refusal changes nothing; else what is given is written
 abbrev pub write_unless : Option Code → Client → Stored → Outcome
-write_unless (Some code) client stored = answered client (bare code)
+write_unless (Some code) client stored = answer_alone client (bare code)
 write_unless None client stored = record { answer = bare Changed; client = with_stored client stored }
 
 -- the store after a Write that is not refused: a Package is not kept, it is for the firmware, and so is a Package
 -- URI
-abbrev pub left : Mode → Client → Path → Option NewValues → Option FirmwareEvent → Stored
-left mode client path values (Some event) = unwrap_or (firmware_after client.store event) client.store
-left mode client path values None = written mode client.catalog client.store path values
+abbrev pub after_write_with_event : Mode → Client → Path → Option NewValues → Option FirmwareEvent → Stored
+after_write_with_event mode client path values (Some event) = unwrap_or (firmware_after client.store event) client.store
+after_write_with_event mode client path values None = after_write mode client.catalog client.store path values

@@ -7,7 +7,7 @@ use Rattle.notifier.specs.declared.attribute.Change.{Change}
 use Rattle.notifier.specs.declared.attribute.Level.{Level}
 use Rattle.notifier.specs.declared.attribute.Level.TheVariants as level
 use Rattle.notifier.specs.declared.fault.QueryFault.{QueryFault}
-use Rattle.notifier.specs.Attributes.{Numbers, is_consistent, written}
+use Rattle.notifier.specs.Attributes.{Numbers, is_consistent, with_changes}
 use Rattle.notifier.specs.Query.{changes_of}
 use Rattle.object_defs.specs.Catalog.{definition_of}
 use Rattle.object_defs.specs.declared.definition.ObjectDef.{ObjectDef}
@@ -16,7 +16,7 @@ use Rattle.object_defs.specs.declared.path.Path.{Path}
 use Rattle.object_defs.specs.declared.path.Path.TheVariants.{Object, Instance, Resource, Part}
 use Rattle.device_requests.specs.declared.answer.Code.{Code}
 use Rattle.device_requests.specs.declared.answer.Code.TheVariants.{Changed, BadRequest}
-use Rattle.device_requests.specs.Answer.{Outcome, answered, bare}
+use Rattle.device_requests.specs.Answer.{Outcome, answer_alone, bare}
 use Rattle.device_requests.specs.Client.{Client, with_attributes}
 
 -- Integers and Times are numbers
@@ -41,17 +41,18 @@ level_at catalog (Resource o i r) = if is_numeric (definition_of catalog o r) th
 level_at catalog (Part o i r n) = level.Resource
 
 -- the changes, where the queries spell some
-abbrev pub spelled : Result (List Change) QueryFault → Option (List Change)
-spelled (Ok changes) = Some changes
-spelled (Err fault) = None
+abbrev pub changes_or_none : Result (List Change) QueryFault → Option (List Change)
+changes_or_none (Ok changes) = Some changes
+changes_or_none (Err fault) = None
 
 abbrev pub changes_given : List ObjectDef → Path → List (List ℕ) → Option (List Change)
-changes_given catalog path queries = spelled (changes_of [] (level_at catalog path) queries)
+changes_given catalog path queries = changes_or_none (changes_of [] (level_at catalog path) queries)
 
 -- the attributes with changes of a server on a path, where its numbers there agree then
 abbrev pub new_numbers : Numbers → ℕ → Path → List Change → Option Numbers
 new_numbers m server path changes =
-    if is_consistent (written m server path changes) server path then Some (written m server path changes) else None
+    if is_consistent (with_changes m server path changes) server path then Some (with_changes m server path changes)
+    else None
 
 -- the attributes with the changes that queries spell, where they may stand so
 abbrev pub attributes_given : Client → ℕ → Path → List (List ℕ) → Option Numbers
@@ -60,6 +61,6 @@ attributes_given client server path queries =
 
 -- a refusal changes nothing; else the attributes are these
 abbrev pub annotate_unless : Option Code → Client → Option Numbers → Outcome
-annotate_unless (Some code) client given = answered client (bare code)
-annotate_unless None client None = answered client (bare BadRequest)
+annotate_unless (Some code) client given = answer_alone client (bare code)
+annotate_unless None client None = answer_alone client (bare BadRequest)
 annotate_unless None client (Some m) = record { answer = bare Changed; client = with_attributes client m }

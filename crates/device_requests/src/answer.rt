@@ -1,5 +1,5 @@
 ghost use Rattle.std.specs.Prelude.{◌≡◌, [], None, Some};
-ghost use Rattle.device_requests.specs.Answer.{bare, code_byte, content, created, done, is_change};
+ghost use Rattle.device_requests.specs.Answer.{bare, code_byte, content, created_answer, done_answer, is_change};
 ghost use Rattle.device_requests.specs.Answer.{is_bad_option, is_content};
 
 use object_defs::InstancePath;
@@ -148,7 +148,7 @@ impl Answer {
 
     /// Changed, after which the device may act.
     pub(crate) fn done(alloc: Global, act: Option<Act>) -> Answer
-        ensures { result ≡ done act }
+        ensures { result ≡ done_answer act }
     {
         Answer {
             code: Code::Changed,
@@ -161,7 +161,7 @@ impl Answer {
 
     /// Created, with the place of the new instance.
     pub(crate) fn created(alloc: Global, place: InstancePath) -> Answer
-        ensures { result ≡ created place }
+        ensures { result ≡ created_answer place }
     {
         Answer {
             code: Code::Created,

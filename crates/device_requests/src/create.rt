@@ -7,7 +7,7 @@ ghost use Rattle.device_requests.specs.Create.{create_unless, lacks_room, newbor
 ghost use Rattle.device_requests.specs.Outcomes.{create_outcome};
 ghost use Rattle.device_requests.specs.Client.{with_stored};
 ghost use Rattle.device_requests.specs.Refusals.{is_fixed, is_tlv};
-ghost use Rattle.device_requests.specs.Targets.{defined, place_of};
+ghost use Rattle.device_requests.specs.Targets.{place_of, resources_defined};
 ghost use Rattle.device_instances.specs.Creations.{with_created};
 ghost use Rattle.instance_store.specs.Stored.{has_instance};
 ghost use Rattle.object_defs.specs.Numbers.{access_control_object};
@@ -57,7 +57,7 @@ impl Client {
             ≡ false }
         ensures made { OnOk result (self.new ≡ with_stored self.old
             (with_created self.old.store (length self.old.accounts) server
-            (defined self.old.catalog place.object) (place_of place.object place.instance) given)) }
+            (resources_defined self.old.catalog place.object) (place_of place.object place.instance) given)) }
         ensures unchanged { OnErr result (self.new ≡ self.old) }
     {
         let accounts = self.accounts.len();

@@ -6,7 +6,7 @@ ghost use Rattle.instance_store.specs.Stored.{has_instance};
 ghost use Rattle.notifier.specs.Attributes.{without_under};
 ghost use Rattle.object_defs.specs.Path.{object_in};
 ghost use Rattle.device_requests.specs.Answer.{Leaves};
-ghost use Rattle.device_requests.specs.Delete.{deleted, taken_away, without_controls};
+ghost use Rattle.device_requests.specs.Delete.{after_delete, taken_away, without_controls};
 ghost use Rattle.device_requests.specs.Inside.{has_place};
 ghost use Rattle.device_requests.specs.Outcomes.{delete_outcome};
 ghost use Rattle.device_requests.specs.Refusals.{is_fixed, refusal_of, to_delete};
@@ -24,7 +24,7 @@ use std::alloc::{AllocError, Global};
 /// Removes an instance that exists, and each instance of Access Control for it.
 fn take_away(store: &mut Store, path: Path)
     requires { has_place store.old path ≡ true }
-    ensures { store.new ≡ deleted store.old path }
+    ensures { store.new ≡ after_delete store.old path }
 {
     match path {
         Path::Instance(object, instance) => {
@@ -62,9 +62,9 @@ fn delete_at(
     path: Path,
 ) -> Result<(), AllocError>
     requires { has_place store.old path ≡ true }
-    ensures store { OnOk result (store.new ≡ deleted store.old path) }
+    ensures store { OnOk result (store.new ≡ after_delete store.old path) }
     ensures attributes { OnOk result (attributes.new
-        ≡ without_controls (without_under attributes.old path) (taken_away store.old (deleted store.old path))) }
+        ≡ without_controls (without_under attributes.old path) (taken_away store.old (after_delete store.old path))) }
     ensures store_left { OnErr result (store.new ≡ store.old) }
     ensures attributes_left { OnErr result (attributes.new ≡ attributes.old) }
 {

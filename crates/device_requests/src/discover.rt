@@ -3,11 +3,11 @@
 ghost use Rattle.std.specs.Prelude.{◌≡◌, ◌++◌, ◌∷◌, [], true, false, IfOk, OnErr, OnOk, string_bytes};
 ghost use Rattle.std.specs.List.{filter, flat_map};
 ghost use Rattle.device_requests.specs.Answer.{takes_memory};
-ghost use Rattle.device_requests.specs.Discover.{attribute_text, attributes_text, behind, dimension, dimension_text};
-ghost use Rattle.device_requests.specs.Discover.{existing, fraction_text, inherits_at, instance_paths};
-ghost use Rattle.device_requests.specs.Discover.{is_period, link, linked, links_text, more_links, name_text};
-ghost use Rattle.device_requests.specs.Discover.{number_text, paths_below, shown_attribute, shown_number};
-ghost use Rattle.device_requests.specs.Discover.{thousandths_text, unsigned_text};
+ghost use Rattle.device_requests.specs.Discover.{attribute_text, attributes_text, dimension, dimension_text};
+ghost use Rattle.device_requests.specs.Discover.{existing_resources, fraction_text, inherits_at, instance_paths};
+ghost use Rattle.device_requests.specs.Discover.{is_period, link, link_parameters, linked_paths, links_text};
+ghost use Rattle.device_requests.specs.Discover.{more_links, name_text, number_text, paths_below, shown_attribute};
+ghost use Rattle.device_requests.specs.Discover.{shown_number, thousandths_text, unsigned_text};
 ghost use Rattle.device_requests.specs.Outcomes.{discover_answer};
 ghost use Rattle.device_requests.specs.Targets.{exists};
 
@@ -214,7 +214,7 @@ impl<'a> Listing<'a> {
     /// What stands after the target of a link.
     fn put_behind(&self, text: &mut Vec<u8>, inherits: bool, path: Path) -> Result<(), AllocError>
         ensures { OnOk result (text.new.items ≡ text.old.items
-            ++ behind self.now.client.now self.now.server inherits path) }
+            ++ link_parameters self.now.client.now self.now.server inherits path) }
     {
         let count = dimension(self.client.catalog(), self.client.store(), path);
         put_dimension(self.alloc, text, count)?;
@@ -262,7 +262,7 @@ impl<'a> Listing<'a> {
     ) -> Result<(), AllocError>
         ensures { OnOk result (let client = self.now.client.now in text.new.items ≡ text.old.items
             ++ more_links client self.now.server
-            (existing client.catalog client.store place.object place.instance resources.now)) }
+            (existing_resources client.catalog client.store place.object place.instance resources.now)) }
     {
         for definition in resources {
             let path = Path::Resource(place.object, place.instance, definition.id);
@@ -319,7 +319,7 @@ impl<'a> Listing<'a> {
     /// The links of a path and of what lies below it, joined by commas.
     fn links(&self, path: Path) -> Result<Bytes, AllocError>
         ensures { IfOk result (λ b. let client = self.now.client.now in
-            b ≡ links_text client self.now.server (linked client.catalog client.store path)) }
+            b ≡ links_text client self.now.server (linked_paths client.catalog client.store path)) }
     {
         let mut text = Vec::new(self.alloc);
         self.put_link(&mut text, inherits_at(path), path)?;

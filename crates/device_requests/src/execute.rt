@@ -9,8 +9,7 @@ ghost use Rattle.instance_store.specs.Stored.{has_instance, instance_of, is_full
 ghost use Rattle.instance_store.specs.Stored.{without_values};
 ghost use Rattle.device_requests.specs.Answer.{Leaves};
 ghost use Rattle.lwm2m_payloads.specs.Scanning.{are_arguments};
-ghost use Rattle.device_requests.specs.Execute.{act_of, executed};
-ghost use Rattle.device_requests.specs.Execute.{with_no_error, without_errors};
+ghost use Rattle.device_requests.specs.Execute.{act_of, after_execute, with_no_error, without_errors};
 ghost use Rattle.device_requests.specs.Inside.{has_place};
 ghost use Rattle.device_requests.specs.Outcomes.{execute_outcome};
 ghost use Rattle.device_requests.specs.Refusals.{is_executable, is_plain, is_untimely, refusal_of, to_execute};
@@ -123,7 +122,7 @@ fn reset_errors(store: &mut Store, path: Path) -> Result<(), AllocError>
 /// codes, and Update has changed nothing.
 fn execute_at(alloc: Global, store: &mut Store, path: Path) -> Result<(), AllocError>
     requires { has_place store.old path ≡ true }
-    ensures done { OnOk result (store.new ≡ executed store.old path) }
+    ensures done { OnOk result (store.new ≡ after_execute store.old path) }
     ensures may_lack_memory { OnErr result ((is_resource firmware_update_object update path
         || is_resource device_object reset_error_code path) ≡ true) }
     ensures left { OnErr result ((store.new ≡ store.old)

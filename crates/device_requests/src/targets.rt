@@ -2,8 +2,8 @@
 
 ghost use Rattle.std.specs.Prelude.{◌≡◌};
 ghost use Rattle.device_requests.specs.Refusals.{is_fixed};
-ghost use Rattle.device_requests.specs.Targets.{defined, definition_at, exists, is_multiple, is_readable};
-ghost use Rattle.device_requests.specs.Targets.{is_resource, resource_place};
+ghost use Rattle.device_requests.specs.Targets.{definition_at, exists, is_multiple, is_readable, is_resource};
+ghost use Rattle.device_requests.specs.Targets.{resource_place, resources_defined};
 
 use instance_store::Store;
 use object_defs::object_number::{ACCESS_CONTROL, DEVICE, FIRMWARE_UPDATE, SERVER};
@@ -39,7 +39,7 @@ pub fn is_fixed(object: u16) -> bool
 
 /// The definitions of an object's resources; none where the object is not known.
 pub fn defined(catalog: &Catalog, object: u16) -> &[ResourceDef]
-    ensures { result.now ≡ defined catalog.now object }
+    ensures { result.now ≡ resources_defined catalog.now object }
 {
     match catalog.object(object) {
         None => &[],

@@ -8,8 +8,8 @@ ghost use Rattle.device_requests.specs.Answer.{Leaves, takes_memory};
 ghost use Rattle.device_requests.specs.Options.{queries_of};
 ghost use Rattle.device_requests.specs.Outcomes.{attributes_outcome};
 ghost use Rattle.device_requests.specs.Refusals.{annotates, annotates_at};
-ghost use Rattle.device_requests.specs.WriteAttributes.{new_numbers, annotate_unless};
-ghost use Rattle.device_requests.specs.WriteAttributes.{changes_given, is_numeric, is_numeric_kind, level_at, spelled};
+ghost use Rattle.device_requests.specs.WriteAttributes.{new_numbers, annotate_unless, changes_given, changes_or_none};
+ghost use Rattle.device_requests.specs.WriteAttributes.{is_numeric, is_numeric_kind, level_at};
 
 use crate::answer::{Answer, Code};
 use crate::client::Client;
@@ -87,7 +87,7 @@ fn annotates_at(rights: Rights, path: Path) -> bool
 /// These changes with that of an option after them, where it is a query, or none where it has a
 /// fault.
 fn with_option(changes: Changes, level: Level, option: &Opt) -> Result<Option<Changes>, AllocError>
-    ensures read { IfOk result (λ c. c ≡ spelled (changes_of changes level (queries_of (option.now ∷ [])))) }
+    ensures read { IfOk result (λ c. c ≡ changes_or_none (changes_of changes level (queries_of (option.now ∷ [])))) }
 
     // Only a query that spells a change takes memory.
     ensures query { OnErr result (option.now.number ≡ 15) }
@@ -107,7 +107,7 @@ fn with_option(changes: Changes, level: Level, option: &Opt) -> Result<Option<Ch
 /// The changes that the queries among options spell at a level, or none where one of them has a
 /// fault.
 fn changes_at(alloc: Global, level: Level, options: &[Opt]) -> Result<Option<Changes>, AllocError>
-    ensures read { IfOk result (λ c. c ≡ spelled (changes_of [] level (queries_of options.now))) }
+    ensures read { IfOk result (λ c. c ≡ changes_or_none (changes_of [] level (queries_of options.now))) }
 
     // Neither no query nor a first one with a fault takes memory.
     ensures may_lack_memory { OnErr result (BeginsWithChange level (queries_of options.now)) }

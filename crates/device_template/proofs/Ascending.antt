@@ -11,7 +11,7 @@ use Rattle.std.proofs.lemmas.Map.Keys.{IsStrictlyIncreasing-from_sorted}
 use Rattle.lemmas.proofs.Numbers.{above_from_tests}
 use Rattle.lemmas.proofs.Tests.{or_first, or_second}
 use Rattle.object_defs.specs.Lines.{first_line}
-use Rattle.object_defs.specs.Vendor.{inserted}
+use Rattle.object_defs.specs.Vendor.{with_inserted}
 use Rattle.device_template.specs.Template.{Template}
 use Rattle.device_template.specs.Built.{IsBuilt}
 use Rattle.device_template.specs.Built.IsBuilt.{nothing, account, object, resource, instance, value, notify}
@@ -36,10 +36,10 @@ below_all x y [] h k = tt
 below_all x y (z ∷ zs) h k = (omega (arith, h, k.0), below_all x y zs h k.1)
 
 all_inserted : (P : ℕ → Type 0) (x : ℕ) (ys : List ℕ) → P x → AllByRecursion P ys
-    → AllByRecursion P (inserted (λ a. a) x ys)
+    → AllByRecursion P (with_inserted (λ a. a) x ys)
 all_inserted P x [] h k = (h, tt)
 all_inserted P x (y ∷ ys) h k =
-    elim (ltb x y) as (λ b. AllByRecursion P (cond b (x ∷ y ∷ ys) (y ∷ inserted (λ a. a) x ys))) [
+    elim (ltb x y) as (λ b. AllByRecursion P (cond b (x ∷ y ∷ ys) (y ∷ with_inserted (λ a. a) x ys))) [
       | true ↦ (h, k)
       | false ↦ (k.0, all_inserted P x ys h k.1)
     ]
@@ -47,15 +47,15 @@ all_inserted P x (y ∷ ys) h k =
 below : (x y : ℕ) → ltb x y ≡ true → x < y
 below x y h = grind (arith, nat_tests)
 
-pub rises-inserted : (x : ℕ) (xs : List ℕ) → list_any (λ a. eqb a x) xs ≡ false → Rises xs
-    → Rises (inserted (λ a. a) x xs)
-rises-inserted x [] new h = (tt, tt)
-rises-inserted x (y ∷ ys) new h =
-    elim (ltb x y) as (λ b. ltb x y ≡ b → Rises (cond b (x ∷ y ∷ ys) (y ∷ inserted (λ a. a) x ys))) [
+pub rises-with_inserted : (x : ℕ) (xs : List ℕ) → list_any (λ a. eqb a x) xs ≡ false → Rises xs
+    → Rises (with_inserted (λ a. a) x xs)
+rises-with_inserted x [] new h = (tt, tt)
+rises-with_inserted x (y ∷ ys) new h =
+    elim (ltb x y) as (λ b. ltb x y ≡ b → Rises (cond b (x ∷ y ∷ ys) (y ∷ with_inserted (λ a. a) x ys))) [
       | true ↦ λ e. let l = below x y e in ((l, below_all x y ys l h.0), h)
       | false ↦ λ e. (
         all_inserted (λ z. y < z) x ys (above_from_tests x y e (or_first (eqb y x) _ new)) h.0,
-        rises-inserted x ys (or_second (eqb y x) _ new) h.1,
+        rises-with_inserted x ys (or_second (eqb y x) _ new) h.1,
       )
     ] refl
 
@@ -67,7 +67,7 @@ is_new false false c h = refl
 pub rises : (class : Template) → IsBuilt class → Rises class.accounts
 rises _ nothing = tt
 rises _ (account {class} server built free) =
-    rises-inserted server class.accounts (is_new _ _ _ free) (rises class built)
+    rises-with_inserted server class.accounts (is_new _ _ _ free) (rises class built)
 rises _ (object {class} id built free) = rises class built
 rises _ (resource {class} id d short built free) = rises class built
 rises _ (instance {class} place short built free) = rises class built

@@ -5,7 +5,7 @@ use Rattle.lemmas.proofs.Options.{not_refused}
 use Rattle.lwm2m_values.specs.declared.value.Value.{Value}
 use Rattle.lwm2m_values.specs.Value.{IsGood}
 use Rattle.object_defs.specs.Base.{base}
-use Rattle.object_defs.specs.Vendor.{inserted, with_object, with_resource, vendor_fault, resource_fault}
+use Rattle.object_defs.specs.Vendor.{with_inserted, with_object, with_resource, vendor_fault, resource_fault}
 use Rattle.object_defs.specs.declared.definition.ObjectDef.{ObjectDef}
 use Rattle.object_defs.specs.declared.definition.ResourceDef.{ResourceDef}
 use Rattle.object_defs.specs.declared.fault.CatalogFault.{CatalogFault}
@@ -29,7 +29,7 @@ by_nothing a c s ea ec es =
 
 pub by_account : (a new : List ℕ) (c : List ObjectDef) (s : Stored) (n : ℕ) (class : Template) (server : ℕ)
     → IsBuilt (made a c s n) → made a c s n ≡ class
-    → account_fault class server ≡ None → new ≡ inserted (λ a. a) server a → IsBuilt (made new c s n)
+    → account_fault class server ≡ None → new ≡ with_inserted (λ a. a) server a → IsBuilt (made new c s n)
 by_account a new c s n class server built same free more =
     subst (λ x. IsBuilt (made x c s n)) (sym more) (account server built (ap (λ k. account_fault k server) same ∙ free))
 

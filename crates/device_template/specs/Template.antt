@@ -10,7 +10,7 @@ use Rattle.object_defs.specs.Base.{base}
 use Rattle.object_defs.specs.Catalog.{object_of, definition_of}
 use Rattle.object_defs.specs.Numbers.{security_object, device_object, firmware_update_object}
 use Rattle.object_defs.specs.Numbers.{package_uri, update_state, update_result}
-use Rattle.object_defs.specs.Vendor.{inserted, resource_fault, vendor_fault}
+use Rattle.object_defs.specs.Vendor.{resource_fault, vendor_fault, with_inserted}
 use Rattle.object_defs.specs.declared.definition.ResourceDef.{ResourceDef}
 use Rattle.object_defs.specs.declared.fault.CatalogFault.{CatalogFault}
 use Rattle.object_defs.specs.declared.fault.CatalogFault.TheVariants as catalog_faults
@@ -38,7 +38,7 @@ empty_class = record { accounts = []; catalog = base; store = empty; notify = 0 
 
 -- with one account more, in ascending order
 abbrev pub with_account : Template → ℕ → Template
-with_account class server = record class { accounts = inserted (λ a. a) server class.accounts }
+with_account class server = record class { accounts = with_inserted (λ a. a) server class.accounts }
 
 abbrev pub with_catalog : Template → List ObjectDef → Template
 with_catalog class catalog = record class { catalog = catalog }

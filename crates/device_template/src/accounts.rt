@@ -1,6 +1,6 @@
 ghost use Rattle.std.specs.Prelude.{◌≡◌, ◌==◌, nat_lt, length, position, [], IfOk, OnOk, OnErr};
 ghost use Rattle.std.specs.List.{list_any, position_or_len};
-ghost use Rattle.object_defs.specs.Vendor.{inserted};
+ghost use Rattle.object_defs.specs.Vendor.{with_inserted};
 
 use std::alloc::{AllocError, Global};
 use std::marker::Model;
@@ -75,7 +75,7 @@ impl Accounts {
 
     /// Adds an account in the order of the numbers.
     pub(crate) fn insert(&mut self, server: u16) -> Result<(), AllocError>
-        ensures ok { OnOk result (self.new ≡ inserted (λ a. a) server self.old) }
+        ensures ok { OnOk result (self.new ≡ with_inserted (λ a. a) server self.old) }
         ensures unchanged { OnErr result (self.new ≡ self.old) }
     {
         let place = self.place_for(server);

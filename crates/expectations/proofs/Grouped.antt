@@ -9,7 +9,7 @@ use Rattle.expectations.specs.declared.expectation.ExpectedCase.{ExpectedCase}
 use Rattle.expectations.specs.declared.grouping.OpenCase.{OpenCase}
 use Rattle.expectations.specs.declared.line.Line.{Line}
 use Rattle.expectations.specs.declared.line.Numbered.{Numbered}
-use Rattle.expectations.specs.ExpectedCases.{before, numbered, onto_line}
+use Rattle.expectations.specs.ExpectedCases.{line_before_others, numbered_lines, onto_line}
 use Rattle.expectations.specs.ExpectedLines.{line_of}
 
 -- a case whose lines are being grouped, with more lines
@@ -40,20 +40,20 @@ ahead_more xs n l (Err f) = refl
 -- a line is read
 pub goes_on : (text first : List ℕ) (more : List (List ℕ)) (n : ℕ) (all : List Numbered) (l : Line)
     (total : Result (List Numbered) CaseFault) → lines text ≡ first ∷ more → line_of first ≡ Ok l
-    → ahead all (numbered (lines text) n) ≡ total
-    → ahead (all ++ numbered_line (n + 1) l ∷ []) (numbered more (n + 1)) ≡ total
+    → ahead all (numbered_lines (lines text) n) ≡ total
+    → ahead (all ++ numbered_line (n + 1) l ∷ []) (numbered_lines more (n + 1)) ≡ total
 goes_on text first more n all l total cut read so_far =
-    sym (ahead_more all (n + 1) l (numbered more (n + 1)))
-    ∙ sym (ap (λ ls. ahead all (numbered ls n)) cut
-    ∙ ap (λ r. ahead all (before (n + 1) r (numbered more (n + 1)))) read)
+    sym (ahead_more all (n + 1) l (numbered_lines more (n + 1)))
+    ∙ sym (ap (λ ls. ahead all (numbered_lines ls n)) cut
+    ∙ ap (λ r. ahead all (line_before_others (n + 1) r (numbered_lines more (n + 1)))) read)
     ∙ so_far
 
 -- a line cannot be read
 pub stops : (text first : List ℕ) (more : List (List ℕ)) (n : ℕ) (all : List Numbered) (w : Why)
     (total : Result (List Numbered) CaseFault) → lines text ≡ first ∷ more → line_of first ≡ Err w
-    → ahead all (numbered (lines text) n) ≡ total → total ≡ Err (record { line = n + 1; why = w })
+    → ahead all (numbered_lines (lines text) n) ≡ total → total ≡ Err (record { line = n + 1; why = w })
 stops text first more n all w total cut refused so_far =
-    sym so_far ∙ (ap (λ ls. ahead all (numbered ls n)) cut
-    ∙ ap (λ r. ahead all (before (n + 1) r (numbered more (n + 1)))) refused)
+    sym so_far ∙ (ap (λ ls. ahead all (numbered_lines ls n)) cut
+    ∙ ap (λ r. ahead all (line_before_others (n + 1) r (numbered_lines more (n + 1)))) refused)
 
 pub ruleset line_by_line = (goes_on, stops)

@@ -14,8 +14,8 @@ use Rattle.expectations.specs.declared.expectation.Expected.{Expected}
 use Rattle.expectations.specs.declared.expectation.Expected.TheVariants.{Message, Silence}
 use Rattle.expectations.specs.declared.what.What.{What}
 use Rattle.expectations.specs.Expecting.{is_expected}
-use Rattle.expectations.specs.Inside.{after, greatest, is_hit, is_within, later, limit_of, limits_of, reached}
-use Rattle.expectations.specs.Inside.{silent, start, unreached, waited}
+use Rattle.expectations.specs.Inside.{after, greatest, is_hit, is_within, later, limit_of, limits_of, place_after_wait}
+use Rattle.expectations.specs.Inside.{places_reached, places_unreached, silent, start}
 use Rattle.expectations.specs.Laying.{AreMet, CanBeLaid, IsLaid, IsMissedAt, IsSent, IsSilent, IsWithin, More}
 
 -- what holds at a place, if it is reached: of the datagrams after it, from its second on
@@ -212,14 +212,14 @@ place_hit more n ds false h = absurd h
 sent_reaches : (server : ℕ) (w : What) (within : Option ℕ) (more : More) (latest : Option ℕ) (xs : List (Option ℕ))
     (ds : List Arrival) → length xs ≡ suc (length ds)
     → Here (IsSent server w within more) latest ds ⊎ AtSome (IsSent server w within more) xs ds
-    → AtSome more (None ∷ reached server w within latest xs ds) ds
+    → AtSome more (None ∷ places_reached server w within latest xs ds) ds
 sent_reaches server w within more latest [] ds count h = absurd (omega (arith, count))
 sent_reaches server w within more latest (x ∷ xs) [] count (inl h) = absurd (none_sent server w within more latest h)
 sent_reaches server w within more latest (x ∷ xs) [] count (inr h) = absurd (none_sent server w within more x h)
 sent_reaches server w within more latest (x ∷ xs) (a ∷ ds) count h =
     let now : Option ℕ = later latest x in
     let fewer : length xs ≡ suc (length ds) = omega (arith, count) in
-    let others : List (Option ℕ) = reached server w within (later latest x) xs ds in
+    let others : List (Option ℕ) = places_reached server w within (later latest x) xs ds in
     let by_now : Here (IsSent server w within more) (later latest x) (a ∷ ds)
     ⊎ AtSome (IsSent server w within more) xs ds =
     elim h [
@@ -231,7 +231,7 @@ sent_reaches server w within more latest (x ∷ xs) (a ∷ ds) count h =
     ] in
     let place : Option ℕ = if is_hit server w within (later latest x) a then Some a.second else None in
     inr (put more (if is_hit server w within (later latest x) a then Some a.second else None)
-    (reached server w within (later latest x) xs ds) ds (elim by_now [
+    (places_reached server w within (later latest x) xs ds) ds (elim by_now [
       | inl here ↦ elim (hit_or server w within more a ds (later latest x) here) [
         | inl is ↦ inl (hit_place more a.second ds (is_hit server w within (later latest x) a) is.0 is.1)
         | inr there ↦ inr (sent_reaches server w within more (later latest x) xs ds fewer (inl there))
@@ -240,7 +240,8 @@ sent_reaches server w within more latest (x ∷ xs) (a ∷ ds) count h =
     ]))
 
 reached_sent : (server : ℕ) (w : What) (within : Option ℕ) (more : More) (latest : Option ℕ) (xs : List (Option ℕ))
-    (ds : List Arrival) → length xs ≡ suc (length ds) → AtSome more (None ∷ reached server w within latest xs ds) ds
+    (ds : List Arrival) → length xs ≡ suc (length ds)
+    → AtSome more (None ∷ places_reached server w within latest xs ds) ds
     → Here (IsSent server w within more) latest ds ⊎ AtSome (IsSent server w within more) xs ds
 reached_sent server w within more latest [] ds count h = absurd (omega (arith, count))
 reached_sent server w within more latest (x ∷ xs) [] count h = absurd h
@@ -250,7 +251,7 @@ reached_sent server w within more latest (x ∷ xs) (a ∷ ds) count (inr h) =
     let by_now : Here (IsSent server w within more) (later latest x) (a ∷ ds)
     ⊎ AtSome (IsSent server w within more) xs ds =
     elim (got more (if is_hit server w within (later latest x) a then Some a.second else None)
-    (reached server w within (later latest x) xs ds) ds h) [
+    (places_reached server w within (later latest x) xs ds) ds h) [
       | inl here ↦
           let is : (is_hit server w within (later latest x) a ≡ true) × more ds a.second =
           place_hit more a.second ds (is_hit server w within (later latest x) a) here in
@@ -288,14 +289,14 @@ to_limit n end (a ∷ ds) h k =
     below_least n a.second (limit_of end ds) (nat_le a.second (limit_of end ds)) k.0 (to_limit n end ds h k.1)
 
 waits : (end n : ℕ) (more : More) (x : Option ℕ) (ds : List Arrival) → Here (IsSilent end n more) x ds
-    → Here more (waited n x (limit_of end ds)) ds
+    → Here more (place_after_wait n x (limit_of end ds)) ds
 waits end n more None ds h = absurd h
 waits end n more (Some s) ds h =
     hit_place more (s + n) ds (nat_le (s + n) (limit_of end ds))
     (le-leb (s + n) (limit_of end ds) (to_limit (s + n) end ds h.passed h.silent)) h.rest
 
 has_waited : (end n : ℕ) (more : More) (x : Option ℕ) (ds : List Arrival)
-    → Here more (waited n x (limit_of end ds)) ds → Here (IsSilent end n more) x ds
+    → Here more (place_after_wait n x (limit_of end ds)) ds → Here (IsSilent end n more) x ds
 has_waited end n more None ds h = absurd h
 has_waited end n more (Some s) ds h =
     let is : (nat_le (s + n) (limit_of end ds) ≡ true) × more ds (s + n) =
@@ -344,7 +345,7 @@ line_reached end (Silence n) more xs ds count h = reached_silent end n more xs d
 
 -- there is a place before each datagram, and one after the last
 reached_count : (server : ℕ) (w : What) (within : Option ℕ) (latest : Option ℕ) (xs : List (Option ℕ))
-    (ds : List Arrival) → length xs ≡ suc (length ds) → length (reached server w within latest xs ds) ≡ length ds
+    (ds : List Arrival) → length xs ≡ suc (length ds) → length (places_reached server w within latest xs ds) ≡ length ds
 reached_count server w within latest [] ds count = absurd (omega (arith, count))
 reached_count server w within latest (x ∷ xs) [] count = refl
 reached_count server w within latest (x ∷ xs) (a ∷ ds) count =
@@ -365,11 +366,11 @@ line_count end (Silence n) xs ds count = silent_count end n xs ds count
 
 -- ---- the first place, and whether there is one
 
-pub start_count : (ds : List Arrival) → length (unreached ds) ≡ length ds
+pub start_count : (ds : List Arrival) → length (places_unreached ds) ≡ length ds
 start_count [] = refl
 start_count (a ∷ ds) = ap (λ k. suc k) (start_count ds)
 
-none_reached : (more : More) (ds : List Arrival) (bs : List Arrival) → AtSome more (unreached ds) bs → ⊥
+none_reached : (more : More) (ds : List Arrival) (bs : List Arrival) → AtSome more (places_unreached ds) bs → ⊥
 none_reached more [] bs h = h
 none_reached more (a ∷ ds) [] h = h
 none_reached more (a ∷ ds) (b ∷ bs) (inl h) = h
@@ -404,23 +405,23 @@ reached_at end (None ∷ xs) (a ∷ ds) count h = inr (reached_at end xs ds (ome
 reached_at end (Some s ∷ xs) (a ∷ ds) count h = inl tt
 
 unreached_here : (ds : List Arrival) (k : ℕ) → k < length ds
-    → unreached (drop k ds) ≡ None ∷ unreached (drop (suc k) ds)
+    → places_unreached (drop k ds) ≡ None ∷ places_unreached (drop (suc k) ds)
 unreached_here [] k h = absurd (omega (arith, h))
 unreached_here (a ∷ ds) zero h = refl
 unreached_here (a ∷ ds) (suc k) h = unreached_here ds k (omega (arith, h))
 
 -- one more place
 pub unreached_more : (ds : List Arrival) (k : ℕ) (places all : List (Option ℕ)) → k < length ds
-    → places ++ unreached (drop k ds) ≡ all → (places ++ None ∷ []) ++ unreached (drop (k + 1) ds) ≡ all
+    → places ++ places_unreached (drop k ds) ≡ all → (places ++ None ∷ []) ++ places_unreached (drop (k + 1) ds) ≡ all
 unreached_more ds k places all within so_far =
     let more : suc k ≡ k + 1 = omega arith in
-    append_assoc places (None ∷ []) (unreached (drop (k + 1) ds))
-    ∙ ap (λ n. places ++ None ∷ unreached (drop n ds)) (sym more)
+    append_assoc places (None ∷ []) (places_unreached (drop (k + 1) ds))
+    ∙ ap (λ n. places ++ None ∷ places_unreached (drop n ds)) (sym more)
     ∙ ap (λ l. places ++ l) (sym (unreached_here ds k within)) ∙ so_far
 
 -- no place is left
 pub reached_none : (server : ℕ) (w : What) (within : Option ℕ) (latest : Option ℕ) (xs : List (Option ℕ))
-    (ds : List Arrival) → length xs < 1 → reached server w within latest xs ds ≡ []
+    (ds : List Arrival) → length xs < 1 → places_reached server w within latest xs ds ≡ []
 reached_none server w within latest xs [] h = refl
 reached_none server w within latest [] (a ∷ ds) h = refl
 reached_none server w within latest (x ∷ xs) (a ∷ ds) h = absurd (omega (arith, h))

@@ -20,14 +20,15 @@ abbrev pub onto_line : Numbered → Result (List Numbered) CaseFault → Result 
 onto_line x (Ok xs) = Ok (x ∷ xs)
 onto_line x (Err f) = Err f
 
-abbrev pub before : ℕ → Result Line Why → Result (List Numbered) CaseFault → Result (List Numbered) CaseFault
-before n (Ok l) others = onto_line (record { number = n; line = l }) others
-before n (Err e) others = Err (record { line = n; why = e })
+abbrev pub line_before_others : ℕ → Result Line Why → Result (List Numbered) CaseFault
+    → Result (List Numbered) CaseFault
+line_before_others n (Ok l) others = onto_line (record { number = n; line = l }) others
+line_before_others n (Err e) others = Err (record { line = n; why = e })
 
 -- what lines are, of which n stand before them
-abbrev pub numbered : List (List ℕ) → ℕ → Result (List Numbered) CaseFault
-numbered [] n = Ok []
-numbered (l ∷ ls) n = before (n + 1) (line_of l) (numbered ls (n + 1))
+abbrev pub numbered_lines : List (List ℕ) → ℕ → Result (List Numbered) CaseFault
+numbered_lines [] n = Ok []
+numbered_lines (l ∷ ls) n = line_before_others (n + 1) (line_of l) (numbered_lines ls (n + 1))
 
 -- ---- cases
 
@@ -58,9 +59,9 @@ begun_by is.Remark n more = more
 begun_by (is.Title t) n more = Ok tt
 begun_by (is.Expected e) n more = Err (record { line = n; why = why.BeforeFirstCase })
 
-abbrev pub begun : List Numbered → Result (Unit {0}) CaseFault
-begun [] = Err (record { line = 1; why = why.NoCase })
-begun (x ∷ xs) = begun_by x.line x.number (begun xs)
+abbrev pub check_of_start : List Numbered → Result (Unit {0}) CaseFault
+check_of_start [] = Err (record { line = 1; why = why.NoCase })
+check_of_start (x ∷ xs) = begun_by x.line x.number (check_of_start xs)
 
 abbrev pub has_title : List ℕ → List ExpectedCase → Bool
 has_title title cases = list_any (λ c. bytes_eq c.title title) cases
@@ -80,9 +81,9 @@ unless (Some f) more = Err f
 unless None more = more
 
 -- the first case that is refused, if any
-abbrev pub checked : List ExpectedCase → List ExpectedCase → Result (Unit {0}) CaseFault
-checked above [] = Ok tt
-checked above (c ∷ cs) = unless (fault_of above c) (checked (above ++ c ∷ []) cs)
+abbrev pub check_of_cases : List ExpectedCase → List ExpectedCase → Result (Unit {0}) CaseFault
+check_of_cases above [] = Ok tt
+check_of_cases above (c ∷ cs) = unless (fault_of above c) (check_of_cases (above ++ c ∷ []) cs)
 
 -- ---- a file
 
@@ -93,13 +94,13 @@ if_checked (Ok u) cs = Ok cs
 if_checked (Err f) cs = Err f
 
 abbrev pub if_begun : Result (Unit {0}) CaseFault → List ExpectedCase → Result (List ExpectedCase) CaseFault
-if_begun (Ok u) cs = if_checked (checked [] cs) cs
+if_begun (Ok u) cs = if_checked (check_of_cases [] cs) cs
 if_begun (Err f) cs = Err f
 
 abbrev pub cases_from : Result (List Numbered) CaseFault → Result (List ExpectedCase) CaseFault
-cases_from (Ok ls) = if_begun (begun ls) (cases_of ls)
+cases_from (Ok ls) = if_begun (check_of_start ls) (cases_of ls)
 cases_from (Err f) = Err f
 
 -- the cases of a file
 abbrev pub expected_cases_in : List ℕ → Result (List ExpectedCase) CaseFault
-expected_cases_in text = cases_from (numbered (lines text) 0)
+expected_cases_in text = cases_from (numbered_lines (lines text) 0)

@@ -20,16 +20,16 @@ expectation_by (Ok e) = Ok (is.Expected e)
 expectation_by (Err cause) = Err (why.NotAnExpectation cause)
 
 -- a title, as a file of cases has it
-abbrev pub titled : Result CaseLine Why → Result Line Why
-titled (Ok (of_case.Title t)) = Ok (is.Title t)
-titled (Ok l) = Err why.NoSuchLine
-titled (Err e) = Err e
+abbrev pub title_line : Result CaseLine Why → Result Line Why
+title_line (Ok (of_case.Title t)) = Ok (is.Title t)
+title_line (Ok l) = Err why.NoSuchLine
+title_line (Err e) = Err e
 
 -- a line with words
 abbrev pub worded_of : List ℕ → Result Line Why
 worded_of line =
     if begins (codes "<= ") line then expectation_by (expected_at (words (behind (codes "<= ") line)))
-    else (if begins (codes "case") line then titled (case_line_of above_none line) else Err why.NoSuchLine)
+    else (if begins (codes "case") line then title_line (case_line_of above_none line) else Err why.NoSuchLine)
 
 abbrev pub line_by : List (List ℕ) → List ℕ → Result Line Why
 line_by [] line = Ok is.Remark

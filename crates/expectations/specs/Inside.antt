@@ -24,13 +24,13 @@ abbrev pub limits_of : ℕ → List Arrival → List ℕ
 limits_of end [] = end ∷ []
 limits_of end (a ∷ arrivals) = limit_of end (a ∷ arrivals) ∷ limits_of end arrivals
 
-abbrev pub unreached : List Arrival → List (Option ℕ)
-unreached [] = []
-unreached (a ∷ arrivals) = None ∷ unreached arrivals
+abbrev pub places_unreached : List Arrival → List (Option ℕ)
+places_unreached [] = []
+places_unreached (a ∷ arrivals) = None ∷ places_unreached arrivals
 
 -- at first only the place before all is reached, in second 0
 abbrev pub start : List Arrival → List (Option ℕ)
-start arrivals = Some 0 ∷ unreached arrivals
+start arrivals = Some 0 ∷ places_unreached arrivals
 
 abbrev pub later : Option ℕ → Option ℕ → Option ℕ
 later None other = other
@@ -46,26 +46,27 @@ is_hit server what within None a = false
 is_hit server what within (Some since) a = is_within within since a.second && is_expected server what a
 
 -- the places after each of these, where something is sent, and before which this second is the latest so far
-abbrev pub reached : ℕ → What → Option ℕ → Option ℕ → List (Option ℕ) → List Arrival → List (Option ℕ)
-reached server what within latest places [] = []
-reached server what within latest [] (a ∷ arrivals) = []
-reached server what within latest (x ∷ places) (a ∷ arrivals) =
+abbrev pub places_reached : ℕ → What → Option ℕ → Option ℕ → List (Option ℕ) → List Arrival → List (Option ℕ)
+places_reached server what within latest places [] = []
+places_reached server what within latest [] (a ∷ arrivals) = []
+places_reached server what within latest (x ∷ places) (a ∷ arrivals) =
     (if is_hit server what within (later latest x) a then Some a.second else None)
-    ∷ reached server what within (later latest x) places arrivals
+    ∷ places_reached server what within (later latest x) places arrivals
 
-abbrev pub waited : ℕ → Option ℕ → ℕ → Option ℕ
-waited seconds None limit = None
-waited seconds (Some since) limit = if nat_le (since + seconds) limit then Some (since + seconds) else None
+abbrev pub place_after_wait : ℕ → Option ℕ → ℕ → Option ℕ
+place_after_wait seconds None limit = None
+place_after_wait seconds (Some since) limit = if nat_le (since + seconds) limit then Some (since + seconds) else None
 
 -- the places after silence
 abbrev pub silent : ℕ → List (Option ℕ) → List ℕ → List (Option ℕ)
 silent seconds places [] = []
 silent seconds [] (limit ∷ limits) = []
-silent seconds (x ∷ places) (limit ∷ limits) = waited seconds x limit ∷ silent seconds places limits
+silent seconds (x ∷ places) (limit ∷ limits) = place_after_wait seconds x limit ∷ silent seconds places limits
 
 -- the places after a line
 abbrev pub after : Expected → List Arrival → List ℕ → List (Option ℕ) → List (Option ℕ)
-after (Message server what within) arrivals limits places = None ∷ reached server what within None places arrivals
+after (Message server what within) arrivals limits places =
+    None ∷ places_reached server what within None places arrivals
 after (Silence seconds) arrivals limits places = silent seconds places limits
 
 -- ---- what may yet come

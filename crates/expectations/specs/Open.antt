@@ -4,6 +4,6 @@ use Rattle.expectations.specs.declared.expectation.ExpectedCase.{ExpectedCase}
 use Rattle.expectations.specs.declared.grouping.OpenCase.{OpenCase}
 
 -- as a case, if there is one
-abbrev pub finished : Option OpenCase → List ExpectedCase
-finished None = []
-finished (Some c) = record { title = c.title; line = c.line; lines = c.lines.items } ∷ []
+abbrev pub cases_of_open : Option OpenCase → List ExpectedCase
+cases_of_open None = []
+cases_of_open (Some c) = record { title = c.title; line = c.line; lines = c.lines.items } ∷ []

@@ -1,6 +1,6 @@
 //! What is refused of lines and of cases that were read.
 ghost use Rattle.std.specs.Prelude.{◌≡◌, []};
-ghost use Rattle.expectations.specs.ExpectedCases.{begun, checked, empty_fault, fault_of, has_title};
+ghost use Rattle.expectations.specs.ExpectedCases.{check_of_cases, check_of_start, empty_fault, fault_of, has_title};
 
 use crate::expectation::{Expectation, ExpectedCase};
 use crate::line::{Line, Numbered};
@@ -8,7 +8,7 @@ use case_text::{CaseFault, Why};
 
 /// Refuses lines of which none begins a case, or where something but remarks stands before the first.
 pub(crate) fn begun(lines: &[Numbered]) -> Result<(), CaseFault>
-    ensures { result ≡ begun lines.now }
+    ensures { result ≡ check_of_start lines.now }
 {
     for next in lines {
         match &next.line {
@@ -61,7 +61,7 @@ fn fault_of(above: &[ExpectedCase], case: &ExpectedCase) -> Option<CaseFault>
 
 /// Refuses the first case that has the title of one above it, or has no line `<=`.
 pub(crate) fn checked(cases: &[ExpectedCase]) -> Result<(), CaseFault>
-    ensures { result ≡ checked [] cases.now }
+    ensures { result ≡ check_of_cases [] cases.now }
 {
     for (place, case) in cases.iter().enumerate() {
         if let Some(fault) = fault_of(&cases[..place], case) {

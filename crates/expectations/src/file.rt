@@ -7,8 +7,8 @@ ghost use Rattle.case_text.specs.Above.{above_none};
 ghost use Rattle.case_text.specs.AnyLine.{line_of as case_line_of};
 ghost use Rattle.case_text.specs.Cases.{Finds as FindsCases};
 ghost use Rattle.case_text.specs.Marks.{Finds, begins, behind};
-ghost use Rattle.expectations.specs.ExpectedCases.{expected_cases_in, numbered};
-ghost use Rattle.expectations.specs.ExpectedLines.{expectation_by, line_of, titled, worded_of};
+ghost use Rattle.expectations.specs.ExpectedCases.{expected_cases_in, numbered_lines};
+ghost use Rattle.expectations.specs.ExpectedLines.{expectation_by, line_of, title_line, worded_of};
 ghost use Rattle.expectations.specs.ExpectationWords.{expected_at};
 
 use crate::checking::{begun, checked};
@@ -51,7 +51,7 @@ fn expectation(alloc: Global, line: &[u8]) -> Result<Line, Why>
 
 /// The title that a line of a file of cases is.
 fn title(alloc: Global, line: &[u8]) -> Result<Line, Why>
-    ensures { Finds (λ l. l) result (titled (case_line_of above_none line.now)) }
+    ensures { Finds (λ l. l) result (title_line (case_line_of above_none line.now)) }
 {
     match read_line(alloc, Above::none(), line)? {
         CaseLine::Title(title) => Ok(Line::Title(title)),
@@ -88,7 +88,7 @@ fn line_of(alloc: Global, line: &[u8]) -> Result<Line, Why>
 /// The lines of a text, or the first that cannot be read.
 #[tactic(auto, using(crate::proofs::Grouped::line_by_line))]
 fn numbered(alloc: Global, text: &[u8]) -> Result<Vec<Numbered>, CaseFault>
-    ensures { FindsCases (λ v. v.items) result (numbered (lines text.now) 0) }
+    ensures { FindsCases (λ v. v.items) result (numbered_lines (lines text.now) 0) }
 {
     let mut all = Vec::new(alloc);
     let mut number = 0;

@@ -1,7 +1,7 @@
 //! The lines of a file as its cases.
 ghost use Rattle.std.specs.Prelude.{◌≡◌, ◌++◌, IfOk, OnOk};
 ghost use Rattle.expectations.specs.ExpectedCases.{cases_of};
-ghost use Rattle.expectations.specs.Open.{finished};
+ghost use Rattle.expectations.specs.Open.{cases_of_open};
 
 use crate::expectation::{Expectation, Expectations, ExpectedCase};
 use crate::line::{Line, Numbered};
@@ -18,7 +18,7 @@ pub(crate) struct OpenCase {
 
 /// Adds the case that ends here, if there is one.
 fn finish(cases: &mut Vec<ExpectedCase>, current: Option<OpenCase>) -> Result<(), AllocError>
-    ensures { OnOk result (cases.new.items ≡ cases.old.items ++ finished current) }
+    ensures { OnOk result (cases.new.items ≡ cases.old.items ++ cases_of_open current) }
 {
     if let Some(OpenCase { title, line, lines }) = current {
         cases.push(ExpectedCase {

@@ -5,7 +5,8 @@
 //! the place are passed. It is the same however they are laid.
 ghost use Rattle.std.specs.Prelude.{◌≡◌, ◌∷◌, is_some, IfOk, None};
 ghost use Rattle.std.specs.List.{list_any};
-ghost use Rattle.expectations.specs.Inside.{after, greatest, is_hit, is_within, later, reached, silent, start, waited};
+ghost use Rattle.expectations.specs.Inside.{after, greatest, is_hit, is_within, later, place_after_wait};
+ghost use Rattle.expectations.specs.Inside.{places_reached, silent, start};
 ghost use Rattle.expectations.specs.Laying.{IsVerdict};
 
 use crate::arrival::Arrival;
@@ -83,7 +84,7 @@ fn sent(
     arrivals: &[Arrival],
     places: &[Option<u64>],
 ) -> Result<Vec<Option<u64>>, AllocError>
-    ensures { IfOk result (λ v. v.items ≡ None ∷ reached server what.now within None places.now arrivals.now) }
+    ensures { IfOk result (λ v. v.items ≡ None ∷ places_reached server what.now within None places.now arrivals.now) }
 {
     let mut next = Vec::new(alloc);
     next.push(None)?;
@@ -106,7 +107,7 @@ fn sent(
 
 /// The second after so many that are silent, where these end within the limit.
 fn waited(seconds: u32, since: Option<u64>, limit: u64) -> Option<u64>
-    ensures { result ≡ waited seconds since limit }
+    ensures { result ≡ place_after_wait seconds since limit }
 {
     let since = since?;
     if since <= limit && u64::from(seconds) <= limit - since {

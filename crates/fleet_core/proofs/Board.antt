@@ -17,7 +17,7 @@ use Rattle.fleet_core.specs.declared.next.Next.{Next}
 use Rattle.fleet_core.specs.Next.{next_of, may_pass}
 use Rattle.fleet_core.specs.Run.{step_at, made_by, posts_to, is_post, posts_of, is_enabled, entry_of, out_at}
 use Rattle.fleet_core.specs.Run.{outputs_before, outputs_with, outputs_in_row}
-use Rattle.fleet_core.specs.Board.{Seen, IsBoard, AreParked, HoldsAfter, Holding, IsFleet, posts_after}
+use Rattle.fleet_core.specs.Board.{FleetModel, IsBoard, AreParked, HoldsAfter, Holding, IsFleet, posts_after}
 use Rattle.fleet_core.proofs.Posts.{one, run_push, made_same, made_other, posts-push, enabled_fits}
 use Rattle.fleet_core.proofs.Valid.{IsStep, step_is, post_group, posts_within}
 use Rattle.fleet_core.proofs.Ends.{enabled_by}
@@ -160,7 +160,7 @@ get_or_any (z ∷ zs) zero x y h = refl
 get_or_any (z ∷ zs) (suc i) x y h = get_or_any zs i x y (omega (arith, h))
 
 -- the table of a fleet says whether a device is enabled
-pub table_enabled : (v : Seen) (s : Scenario) (es : List Entry) (spent : Bool) (made posts l : List ℕ) (d : ℕ)
+pub table_enabled : (v : FleetModel) (s : Scenario) (es : List Entry) (spent : Bool) (made posts l : List ℕ) (d : ℕ)
     (n : Next) (b : Bool) → record { scenario = s; entries = es; spent = spent } ≡ v → IsBoard s es made posts
     → l ≡ posts → n ≡ next_of (step_at v.scenario d (made_by d v.entries)) → b ≡ may_pass (λ g. slice_index l g) n
     → b ≡ is_enabled v.scenario v.entries d
@@ -181,7 +181,7 @@ pub record Reads (s : Scenario) (es : List Entry) (devices : List Holding) (d pl
   pub holds : HoldsAfter s d place old
   pub parked : AreParked s es devices
 
-pub reads : (v : Seen) (s : Scenario) (es : List Entry) (spent : Bool) (made posts : List ℕ)
+pub reads : (v : FleetModel) (s : Scenario) (es : List Entry) (spent : Bool) (made posts : List ℕ)
     (devices : List Holding) (d at place : ℕ) (step : Step) (old : Holding)
     → record { scenario = s; entries = es; spent = spent } ≡ v → IsFleet s es made posts devices spent → spent ≡ false
     → Some step ≡ step_at v.scenario d (made_by d v.entries)
@@ -238,7 +238,7 @@ pub entry_is : (s : Scenario) (es : List Entry) (devices : List Holding) (worker
 entry_is s es devices worker d place step old e r made =
     made ∙ ap (λ k. record { worker = worker; device = d; step = k; outputs = out_at s d k }) r.place_is
 
-pub added : (v : Seen) (s : Scenario) (es new : List Entry) (spent : Bool) (worker d : ℕ) (e : Entry)
+pub added : (v : FleetModel) (s : Scenario) (es new : List Entry) (spent : Bool) (worker d : ℕ) (e : Entry)
     → record { scenario = s; entries = es; spent = spent } ≡ v
     → new ≡ es ++ e ∷ [] → e ≡ entry_of s worker d es → new ≡ v.entries ++ entry_of v.scenario worker d v.entries ∷ []
 added v s es new spent worker d e view is same =

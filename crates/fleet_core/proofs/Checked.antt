@@ -6,19 +6,20 @@ use Rattle.lemmas.proofs.Lists.{take_none}
 use Rattle.scenario_image.specs.Scenario.{Scenario}
 use Rattle.trace_file.specs.declared.entry.Entry.{Entry}
 use Rattle.fleet_core.specs.Run.{entry_of, is_enabled, Fits, IsRun}
-use Rattle.fleet_core.specs.Board.{Seen, Replays}
+use Rattle.fleet_core.specs.Board.{FleetModel, Replays}
 use Rattle.fleet_core.specs.Verdict.{BreaksAt}
 use Rattle.fleet_core.proofs.Posts.{run_push, run_last, enabled_fits, fits_enabled, fits_is}
 
 -- ---- one entry
 
 -- the device can't go
-pub stands_still : (v new : Seen) (e : Entry) → is_enabled v.scenario v.entries e.device ≡ false → Replays v new e false
+pub stands_still : (v new : FleetModel) (e : Entry) → is_enabled v.scenario v.entries e.device ≡ false
+    → Replays v new e false
 stands_still v new e blocked fits = let e2 : true ≡ false =
     sym (fits_enabled v.scenario v.entries e fits) ∙ blocked in cc
 
 -- the device went, and made this entry
-pub went : (v new : Seen) (made e : Entry) (same : Bool) → is_enabled v.scenario v.entries e.device ≡ true
+pub went : (v new : FleetModel) (made e : Entry) (same : Bool) → is_enabled v.scenario v.entries e.device ≡ true
     → new.entries ≡ v.entries ++ entry_of v.scenario e.worker e.device v.entries ∷ [] → new.scenario ≡ v.scenario
     → new.spent ≡ false
     → made ≡ entry_of v.scenario e.worker e.device v.entries → (IsTrue same ↔ (made ≡ e)) → Replays v new e same
@@ -36,7 +37,7 @@ went v new made e false go entries scenario ready last same = λ fits.
 -- ---- the list
 
 -- the first entries are a run, and have been added
-pub record IsReplayed (s : Scenario) (es : List Entry) (n : ℕ) (v : Seen) : Type 0 where
+pub record IsReplayed (s : Scenario) (es : List Entry) (n : ℕ) (v : FleetModel) : Type 0 where
   pub scenario : v.scenario ≡ s
   pub ready : v.spent ≡ false
   pub entries : v.entries ≡ take n es
@@ -51,7 +52,8 @@ at_none s es = record {
       subst (IsRun s) (sym (take_none es)) (record { along = tt });
 }
 
-pub begins : (s : Scenario) (es : List Entry) (v : Seen) → v ≡ record { scenario = s; entries = []; spent = false }
+pub begins : (s : Scenario) (es : List Entry) (v : FleetModel)
+    → v ≡ record { scenario = s; entries = []; spent = false }
     → IsReplayed s es 0 v
 begins s es v e = subst (λ w. IsReplayed s es 0 w) (sym e) (at_none s es)
 
@@ -59,7 +61,7 @@ pub next_take : {X : Type 0} (xs : List X) (n : ℕ) (x : X) → n < length xs �
     → take (n + 1) xs ≡ take n xs ++ x ∷ []
 next_take xs n x within is = (take_at_read xs n x within).1 ∙ ap (λ y. take n xs ++ y ∷ []) (sym is)
 
-pub replays_on : (s : Scenario) (es : List Entry) (n : ℕ) (v new : Seen) (e : Entry) → IsReplayed s es n v
+pub replays_on : (s : Scenario) (es : List Entry) (n : ℕ) (v new : FleetModel) (e : Entry) → IsReplayed s es n v
     → n < length es → e ≡ get_or es n e → Replays v new e true
     → IsReplayed s es (n + 1) new
 replays_on s es n v new e so_far within is more =
@@ -73,7 +75,8 @@ replays_on s es n v new e so_far within is more =
       run = subst (IsRun s) (sym next) (run_push s (take n es) e so_far.run fits);
     }
 
-pub breaks : (s : Scenario) (es : List Entry) (n : ℕ) (v new : Seen) (e : Entry) → IsReplayed s es n v → n < length es
+pub breaks : (s : Scenario) (es : List Entry) (n : ℕ) (v new : FleetModel) (e : Entry) → IsReplayed s es n v
+    → n < length es
     → e ≡ get_or es n e → Replays v new e false
     → BreaksAt s es n
 breaks s es n v new e so_far within is other =

@@ -16,7 +16,7 @@ use Rattle.lwm2m_values.specs.declared.value.Value.{Value}
 use Rattle.object_defs.specs.Path.{full_path}
 use Rattle.object_defs.specs.declared.path.Path.{Path}
 use Rattle.device_machine.specs.declared.recorded.Recorded.{Recorded}
-use Rattle.device_machine.specs.Observing.{noted}
+use Rattle.device_machine.specs.Observing.{observe_result}
 use Rattle.device_machine.specs.State.{Machine, with_client, with_observations}
 use Rattle.device_machine.specs.Reactions.{Reaction, reply_to, repeat_of, on_request, on_message}
 use Rattle.device_machine.specs.Reactions.{on_datagram, on_firmware, is_request, claims_confirmable, flat_after}
@@ -32,7 +32,7 @@ request_keeps : (f : Machine) (server : ℕ) (m : Message) (r : Option Recorded)
     → (on_request f server m r).flat.kept.clock ≡ f.kept.clock
 request_keeps f server m None =
     let o = outcome_of f.kept.client server m in
-    let n = noted (with_client f.kept o.client) server m o.answer in
+    let n = observe_result (with_client f.kept o.client) server m o.answer in
     clock_after (with_observations (with_client f.kept o.client) n.left) m.kind
     (reply_to f.kept.next_id m m.kind n.number o.answer)
 request_keeps f server m (Some r) = refl

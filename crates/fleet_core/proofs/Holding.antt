@@ -6,7 +6,7 @@ use Rattle.lemmas.proofs.Lists.{pushed_cases}
 use Rattle.device_template.specs.Template.{Template}
 use Rattle.device_machine.specs.State.{Device, Shows}
 use Rattle.scenario_image.specs.declared.step.Step.{Step}
-use Rattle.scenario_image.specs.Play.{start, shown, IsRowOf}
+use Rattle.scenario_image.specs.Play.{start, device_showing, IsRowOf}
 use Rattle.scenario_image.specs.Scenario.{Scenario}
 use Rattle.fleet_core.specs.Run.{step_at}
 use Rattle.fleet_core.specs.Board.{ShowsAfter, HoldsAfter, Holding, AreParked}
@@ -28,9 +28,9 @@ started s d k held x holds fresh shows = subst (λ i. ShowsAfter s d i x) (sym (
 
 -- before its first step there is the start of its class
 pub fresh_holds : (s : Scenario) (d : ℕ) (v class : Template) → IsClassOf s d class → v ≡ class
-    → HoldsAfter s d 0 (record { shown = shown (start v); fresh = true; gone = false })
+    → HoldsAfter s d 0 (record { shown = device_showing (start v); fresh = true; gone = false })
 fresh_holds s d v class is same = record {
-  shows = λ c steps row. subst (λ t. Shows (shown (start v)) (start t)) (same ∙ is c steps row)
+  shows = λ c steps row. subst (λ t. Shows (device_showing (start v)) (start t)) (same ∙ is c steps row)
       (record { ready = refl; holds = refl });
   fresh = λ e. refl;
   gone = λ e. absurd (false≢true e);

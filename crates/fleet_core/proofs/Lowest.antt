@@ -13,7 +13,7 @@ use Rattle.fleet_core.specs.Along.{Along}
 use Rattle.fleet_core.specs.Next.{next_of, may_pass}
 use Rattle.fleet_core.specs.Run.{steps_in, step_in, step_at, made_by, is_post, posts_of, is_enabled, entry_of}
 use Rattle.fleet_core.specs.Run.{Fits, IsLowest, IsSerial}
-use Rattle.fleet_core.specs.Board.{Seen, with_entry}
+use Rattle.fleet_core.specs.Board.{FleetModel, with_entry}
 use Rattle.fleet_core.specs.Cursor.{cursor_after, marks_after, marks_with}
 use Rattle.fleet_core.proofs.Along.{along-append, along_weaker}
 use Rattle.fleet_core.proofs.Posts.{one, made_same, made_other, posts-push, fits_enabled, enabled_fits, blocked_ended}
@@ -64,7 +64,7 @@ pub record IsBlocked (s : Scenario) (es : List Entry) (wake : List ℕ) (d : ℕ
   pub marked : (g n : ℕ) → step_at s d (made_by d es) ≡ Some (Need g n) → slice_index wake g ≤ d
 
 -- the entries so far are always the lowest, and the devices below the cursor are blocked
-pub record IsOnWay (s : Scenario) (low : ℕ) (wake : List ℕ) (v : Seen) : Type 0 where
+pub record IsOnWay (s : Scenario) (low : ℕ) (wake : List ℕ) (v : FleetModel) : Type 0 where
   pub scenario : v.scenario ≡ s
   pub ready : v.spent ≡ false
   pub along : Along (IsLowest s) [] v.entries
@@ -72,7 +72,8 @@ pub record IsOnWay (s : Scenario) (low : ℕ) (wake : List ℕ) (v : Seen) : Typ
   pub groups : length wake ≡ 256
   pub blocked : (d : ℕ) → d < low → IsBlocked s v.entries wake d
 
-pub sets_out : (s : Scenario) (wake : List ℕ) (v : Seen) → v ≡ record { scenario = s; entries = []; spent = false }
+pub sets_out : (s : Scenario) (wake : List ℕ) (v : FleetModel)
+    → v ≡ record { scenario = s; entries = []; spent = false }
     → length wake ≡ 256 → IsOnWay s 0 wake v
 sets_out s wake v e groups = subst (λ w. IsOnWay s 0 wake w) (sym e)
     (record {
@@ -157,7 +158,7 @@ either a b (inl h) = inr h
 either a b (inr h) = inl h
 
 -- the device at the cursor goes
-pub goes_on : (s : Scenario) (low next : ℕ) (wake marks : List ℕ) (v new : Seen) → IsOnWay s low wake v
+pub goes_on : (s : Scenario) (low next : ℕ) (wake marks : List ℕ) (v new : FleetModel) → IsOnWay s low wake v
     → true ≡ is_enabled v.scenario v.entries low
     → next ≡ cursor_after wake (step_at v.scenario low (made_by low v.entries)) low
     → marks ≡ marks_after wake (step_at v.scenario low (made_by low v.entries))
@@ -221,7 +222,7 @@ below_more s es wake low d blocked here (inr h) within =
     (record { stands = here; marked = λ g n at. here_marked s es wake low g n at })
 
 -- the device at the cursor can't go
-pub passes_on : (s : Scenario) (low : ℕ) (wake marks : List ℕ) (v : Seen) → IsOnWay s low wake v
+pub passes_on : (s : Scenario) (low : ℕ) (wake marks : List ℕ) (v : FleetModel) → IsOnWay s low wake v
     → false ≡ is_enabled v.scenario v.entries low
     → marks ≡ marks_with wake (step_at v.scenario low (made_by low v.entries)) low → low < length s.rows
     → IsOnWay s (low + 1) marks v
@@ -245,7 +246,7 @@ all_blocked s es low d blocked past (inl h) = blocked d h
 all_blocked s es low d blocked past (inr h) = past_rows s es d (omega (arith, past, h))
 
 -- the cursor is past the last device
-pub arrives : (s : Scenario) (low : ℕ) (wake : List ℕ) (v : Seen) → IsOnWay s low wake v → length s.rows ≤ low
+pub arrives : (s : Scenario) (low : ℕ) (wake : List ℕ) (v : FleetModel) → IsOnWay s low wake v → length s.rows ≤ low
     → IsSerial s v.entries
 arrives s low wake v way past =
     record {
@@ -282,19 +283,19 @@ left-next m n (r ∷ rs) (suc d) step at here others =
     omega (arith, e, f)
 
 -- how far the serial run is from its end
-abbrev pub distance : Scenario → ℕ → Seen → ℕ
+abbrev pub distance : Scenario → ℕ → FleetModel → ℕ
 distance s low v = left (λ d. made_by d v.entries) s.rows * (length s.rows + 1) + (length s.rows - low)
 
 less : (a b r low next : ℕ) → a ≡ suc b → low < r → b * (r + 1) + (r - next) < a * (r + 1) + (r - low)
 less a b r low next h within = let e : a * (r + 1) ≡ suc b * (r + 1) = ap (λ n. n * (r + 1)) h in omega (arith, e)
 
 -- a fleet that has passed a device, and is as it was, is nearer to the end
-pub goes_along : (s : Scenario) (low : ℕ) (v new : Seen) → new ≡ v → low < length s.rows
+pub goes_along : (s : Scenario) (low : ℕ) (v new : FleetModel) → new ≡ v → low < length s.rows
     → distance s (low + 1) new < distance s low v
 goes_along s low v new same within =
     subst (λ w. distance s (low + 1) w < distance s low v) (sym same) (omega (arith, within))
 
-pub goes_down : (s : Scenario) (low next : ℕ) (v new : Seen) → v.scenario ≡ s
+pub goes_down : (s : Scenario) (low next : ℕ) (v new : FleetModel) → v.scenario ≡ s
     → true ≡ is_enabled v.scenario v.entries low → new ≡ with_entry v 0 low → low < length s.rows
     → distance s next new < distance s low v
 goes_down s low next v new scenario can is within =

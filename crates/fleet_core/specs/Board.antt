@@ -12,7 +12,7 @@ use Rattle.trace_file.specs.declared.entry.Entry.{Entry}
 use Rattle.fleet_core.specs.Run.{made_by, posts_of, step_at, entry_of, Fits, IsRun}
 
 -- what contracts see of a fleet: the scenario, the entries, and whether a lack of memory has spent it
-pub record Seen : Type 0 where
+pub record FleetModel : Type 0 where
   pub scenario : Scenario
   pub entries : List Entry
   pub spent : Bool
@@ -67,18 +67,18 @@ posts_after posts (Post group) = slice_set posts group (slice_index posts group 
 posts_after posts (Need group count) = posts
 
 -- with the device's next entry, under this worker
-abbrev pub with_entry : Seen → ℕ → ℕ → Seen
+abbrev pub with_entry : FleetModel → ℕ → ℕ → FleetModel
 with_entry v worker d =
     record { scenario = v.scenario; entries = v.entries ++ entry_of v.scenario worker d v.entries ∷ []; spent = false }
 
 -- the entry came next, and has been added
-pub record Continues (old new : Seen) (e : Entry) : Type 0 where
+pub record Continues (old new : FleetModel) (e : Entry) : Type 0 where
   pub fits : Fits old.scenario old.entries e
   pub entries : new.entries ≡ old.entries ++ e ∷ []
   pub scenario : new.scenario ≡ old.scenario
   pub ready : new.spent ≡ false
 
 -- whether the entry came next
-abbrev pub Replays : Seen → Seen → Entry → Bool → Type 0
+abbrev pub Replays : FleetModel → FleetModel → Entry → Bool → Type 0
 Replays old new e true = Continues old new e
 Replays old new e false = Fits old.scenario old.entries e → ⊥

@@ -10,5 +10,5 @@ abbrev pub is_waiting : Scenario → List Entry → ℕ → Bool
 is_waiting s es d = nat_lt (made_by d es) (length (steps_in (slice_get s.rows d)))
 
 -- the devices that have, in ascending order
-abbrev pub waiting : Scenario → List Entry → List ℕ
-waiting s es = filter (is_waiting s es) (range_with_len 0 (length s.rows))
+abbrev pub waiting_devices : Scenario → List Entry → List ℕ
+waiting_devices s es = filter (is_waiting s es) (range_with_len 0 (length s.rows))

@@ -28,9 +28,9 @@ pub struct Fleet<'a> {
 impl<'a> Model for Fleet<'a> {
     ghost use Rattle.std.specs.Coded.{codes};
     ghost use Rattle.instance_store.specs.Stored.{stored_code};
-    ghost use Rattle.fleet_core.specs.Board.{Seen, IsFleet};
+    ghost use Rattle.fleet_core.specs.Board.{FleetModel, IsFleet};
 
-    ghost Value = { Seen };
+    ghost Value = { FleetModel };
 
     ghost coded = { Prim.hlevel (codes, stored_code) };
 

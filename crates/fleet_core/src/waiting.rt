@@ -2,7 +2,7 @@
 
 ghost use Rattle.std.specs.Prelude.{◌≡◌, ℕ, ◌+◌, ◌^◌, ◌<◌, length, slice_get, slice_index, slice_set, IfOk};
 ghost use Rattle.fleet_core.specs.Run.{steps_in, made_by};
-ghost use Rattle.fleet_core.specs.Waiting.{waiting};
+ghost use Rattle.fleet_core.specs.Waiting.{waiting_devices};
 
 use scenario_image::Scenario;
 use std::alloc::{AllocError, Global};
@@ -47,7 +47,7 @@ pub fn unfinished(
     scenario: &Scenario,
     entries: &[Entry],
 ) -> Result<Vec<u16>, AllocError>
-    ensures { IfOk result (λ v. v.items ≡ waiting scenario.now entries.now) }
+    ensures { IfOk result (λ v. v.items ≡ waiting_devices scenario.now entries.now) }
 {
     let rows = scenario.rows();
     let made = count_entries(alloc, rows, entries)?;

@@ -9,26 +9,27 @@ use Rattle.fleet_link.specs.declared.udp.Counts.{Counts}
 use Rattle.fleet_wire.specs.declared.happened.Happened.{Happened}
 use Rattle.fleet_wire.specs.declared.note.Note.{Note}
 use Rattle.fleet_wire.specs.Happened.{happened_in}
-use Rattle.fleet_wire.specs.Over.{Fixed, IsOverWire}
+use Rattle.fleet_wire.specs.Over.{FixedWire, IsOverWire}
 use Rattle.fleet_lines.specs.declared.counted.Account.{Account}
 use Rattle.fleet_lines.specs.declared.tape.Tape.{Tape}
-use Rattle.fleet_lines.specs.Counting.{IsAccount, IsMadeOf, Wired, watched_on, with_notes}
+use Rattle.fleet_lines.specs.Counting.{IsAccount, IsMadeOf, PlannedWire, watched_on, with_notes}
 use Rattle.fleet_lines.specs.Shown.{AreShown, AreShownOf, all_shown, taken_shown, while_whole}
 
 -- ---- what is watched
 
-pub same_watched : (a b : Fixed) → a ≡ b → watched_on a ≡ watched_on b
+pub same_watched : (a b : FixedWire) → a ≡ b → watched_on a ≡ watched_on b
 same_watched a b same = ap watched_on same
 
 -- notes that were taken are among what is watched
-pub notes_watched : (old new : Fixed) (notes : List Note) → new ≡ record old { taken = old.taken ++ notes }
+pub notes_watched : (old new : FixedWire) (notes : List Note) → new ≡ record old { taken = old.taken ++ notes }
     → watched_on new ≡ with_notes (watched_on old) notes
 notes_watched old new notes same = ap watched_on same
 
 -- ---- an account
 
 -- what is counted on a wire, all notes of which were taken
-pub wired_account : (wired : Wired) (taken items : List Note) (carried near : ℕ → Traffic) (told : ℕ → Option Traffic)
+pub wired_account : (wired : PlannedWire) (taken items : List Note) (carried near : ℕ → Traffic)
+    (told : ℕ → Option Traffic)
     (counts : Counts) (happened : Happened) → items ≡ [] → AreCountsOf (λ e. Some (carried e)) counts
     → ((e : ℕ) → told e ≡ Some (near e)) → ∥ IsOverWire wired.plan wired.devices (taken ++ items) carried near ∥₁
     → happened ≡ happened_in taken
@@ -48,7 +49,7 @@ wired_account wired taken items carried near told counts happened none counted a
       happened = ap Some same;
     }
 
-made_as : (wire : Option Wired) (notes : List Note) (carried told same : ℕ → Option Traffic)
+made_as : (wire : Option PlannedWire) (notes : List Note) (carried told same : ℕ → Option Traffic)
     → ((e : ℕ) → same e ≡ told e) → IsMadeOf wire notes carried told → IsMadeOf wire notes carried same
 made_as None notes carried told same are made = (made.0, λ e. are e ∙ made.1 e)
 made_as (Some wired) notes carried told same are made = record {
@@ -60,7 +61,7 @@ made_as (Some wired) notes carried told same are made = record {
 }
 
 -- ports that tell the same have the same account
-pub account_as : (wire : Option Wired) (told same : ℕ → Option Traffic) (notes : List Note) (account : Account)
+pub account_as : (wire : Option PlannedWire) (told same : ℕ → Option Traffic) (notes : List Note) (account : Account)
     → ((e : ℕ) → same e ≡ told e) → IsAccount wire told notes account → IsAccount wire same notes account
 account_as wire told same notes account are h = record {
   carried = h.carried;
@@ -69,7 +70,8 @@ account_as wire told same notes account are h = record {
   happened = h.happened;
 }
 
-pub account_if : (wire : Option Wired) (told same : ℕ → Option Traffic) (notes : List Note) (found : Option Account)
+pub account_if : (wire : Option PlannedWire) (told same : ℕ → Option Traffic) (notes : List Note)
+    (found : Option Account)
     → ((e : ℕ) → same e ≡ told e) → IfSome found (IsAccount wire told notes) → IfSome found (IsAccount wire same notes)
 account_if wire told same notes None are h = tt
 account_if wire told same notes (Some account) are h = account_as wire told same notes account are h

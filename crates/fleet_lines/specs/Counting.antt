@@ -6,7 +6,7 @@ use Rattle.fleet_wire.specs.declared.happened.Happened.{Happened}
 use Rattle.fleet_wire.specs.declared.note.Note.{Note}
 use Rattle.fleet_wire.specs.declared.plan.Plan.{Plan}
 use Rattle.fleet_wire.specs.Happened.{happened_in}
-use Rattle.fleet_wire.specs.Over.{Fixed, IsOverWire}
+use Rattle.fleet_wire.specs.Over.{FixedWire, IsOverWire}
 use Rattle.fleet_lines.specs.declared.counted.Account.{Account}
 use Rattle.fleet_lines.specs.declared.shown.Shown.{Shown}
 use Rattle.fleet_lines.specs.Shown.{AreShown}
@@ -14,24 +14,24 @@ use Rattle.fleet_lines.specs.Shown.{AreShown}
 -- ---- what is taken
 
 -- a wire with this plan, for n devices
-pub record Wired : Type 0 where
+pub record PlannedWire : Type 0 where
   pub plan : Plan
   pub devices : ℕ
 
 -- Of ports: the wire between the devices and them, if there is one; what they told when they began to be shown, if they
 -- are; and what was taken since, what the wire did and what devices received and sent.
-pub record Watched : Type 0 where
-  pub wire : Option Wired
+pub record WatchedPorts : Type 0 where
+  pub wire : Option PlannedWire
   pub began : Option (ℕ → Option Traffic)
   pub notes : List Note
   pub shown : List Shown
 
 -- without a wire, and not shown
-abbrev pub unwatched : Watched
-unwatched = record { wire = None; began = None; notes = []; shown = [] }
+abbrev pub unwatched_ports : WatchedPorts
+unwatched_ports = record { wire = None; began = None; notes = []; shown = [] }
 
 -- with a wire of which this is fixed, and not shown
-abbrev pub watched_on : Fixed → Watched
+abbrev pub watched_on : FixedWire → WatchedPorts
 watched_on fixed =
     record {
       wire = Some (record { plan = fixed.plan; devices = fixed.devices });
@@ -41,16 +41,16 @@ watched_on fixed =
     }
 
 -- the same, shown: this was told at the beginning, and that was taken since
-abbrev pub shown_over : Watched → (ℕ → Option Traffic) → List Shown → Watched
+abbrev pub shown_over : WatchedPorts → (ℕ → Option Traffic) → List Shown → WatchedPorts
 shown_over watched began shown =
     record { wire = watched.wire; began = Some began; notes = watched.notes; shown = shown }
 
 -- these notes were taken too
-abbrev pub with_notes : Watched → List Note → Watched
+abbrev pub with_notes : WatchedPorts → List Note → WatchedPorts
 with_notes watched notes = record watched { notes = watched.notes ++ notes }
 
 -- these datagrams were taken too
-abbrev pub with_shown : Watched → List Shown → Watched
+abbrev pub with_shown : WatchedPorts → List Shown → WatchedPorts
 with_shown watched shown = record watched { shown = watched.shown ++ shown }
 
 -- these are all datagrams that went through since ports are shown; none, if they are not
@@ -62,7 +62,7 @@ AreAllShown (Some began) told shown = AreShown began told shown
 
 -- The ports carried this, and the devices received and sent that: it is what the wire made of the one by its plan; and
 -- these are its notes.
-pub record IsMadeBy (wired : Wired) (notes : List Note) (carried told : ℕ → Option Traffic) : Type 0 where
+pub record IsMadeBy (wired : PlannedWire) (notes : List Note) (carried told : ℕ → Option Traffic) : Type 0 where
   pub below : ℕ → Traffic
   pub below_is : (e : ℕ) → carried e ≡ Some (below e)
   pub near : ℕ → Traffic
@@ -70,18 +70,18 @@ pub record IsMadeBy (wired : Wired) (notes : List Note) (carried told : ℕ → 
   pub over : ∥ IsOverWire wired.plan wired.devices notes below near ∥₁
 
 -- without a wire the devices received and sent what the ports carried, and nothing is noted
-abbrev pub IsMadeOf : Option Wired → List Note → (ℕ → Option Traffic) → (ℕ → Option Traffic) → Type 0
+abbrev pub IsMadeOf : Option PlannedWire → List Note → (ℕ → Option Traffic) → (ℕ → Option Traffic) → Type 0
 IsMadeOf None notes carried told = (notes ≡ []) × ((e : ℕ) → told e ≡ carried e)
 IsMadeOf (Some wired) notes carried told = IsMadeBy wired notes carried told
 
 -- how often a wire did what, by its notes
-abbrev pub happened_on : Option Wired → List Note → Option Happened
+abbrev pub happened_on : Option PlannedWire → List Note → Option Happened
 happened_on None notes = None
 happened_on (Some wired) notes = Some (happened_in notes)
 
 -- what is counted of devices that received and sent this, where a wire, if there is one, has these notes: the datagrams
 -- that the ports carried, and what happened to them on the wire
-pub record IsAccount (wire : Option Wired) (told : ℕ → Option Traffic) (notes : List Note) (account : Account)
+pub record IsAccount (wire : Option PlannedWire) (told : ℕ → Option Traffic) (notes : List Note) (account : Account)
     : Type 0 where
   pub carried : ℕ → Option Traffic
   pub counted : AreCountsOf carried account.counts

@@ -3,7 +3,7 @@ use Rattle.std.specs.Prelude.{◌≡◌, ℕ, ◌==◌, Bool, true, false, ◌&&
 use Rattle.std.specs.Prelude.{Result, Ok, Err}
 use Rattle.live_link.specs.declared.packet.Packet.{Packet}
 use Rattle.live_link.specs.Wire.{WhereTold}
-use Rattle.fleet_link.specs.Traffic.{Heard, Traffic}
+use Rattle.fleet_link.specs.Traffic.{ReceivedPacket, Traffic}
 use Rattle.fleet_link.specs.declared.ports.PortsFault.{PortsFault}
 use Rattle.fleet_link.specs.declared.ports.Receipt.{Receipt}
 use Rattle.fleet_link.specs.declared.ports.Receipt.TheVariants as receipts
@@ -18,14 +18,14 @@ use Rattle.fleet_lines.specs.declared.tape.Tape.{Tape}
 abbrev pub is_way_of : Direction → ℕ → Shown → Bool
 is_way_of direction e x = (x.device == e) && goes direction x.direction
 
-abbrev pub heard_as : Shown → Heard
+abbrev pub heard_as : Shown → ReceivedPacket
 heard_as x = record { second = x.second; packet = x.packet }
 
 abbrev pub packet_as : Shown → Packet
 packet_as x = x.packet
 
 -- those that a device received, each with its second, and those that it sent
-abbrev pub received_shown : ℕ → List Shown → List Heard
+abbrev pub received_shown : ℕ → List Shown → List ReceivedPacket
 received_shown e xs = map heard_as (filter (is_way_of In e) xs)
 
 abbrev pub sent_shown : ℕ → List Shown → List Packet

@@ -21,13 +21,13 @@ pub trait Counted: Ports {
     ghost use Rattle.fleet_link.specs.declared.udp.Counts.{Counts as CountsData};
     ghost use Rattle.fleet_wire.specs.declared.note.Note.{Note as NoteData};
     ghost use Rattle.fleet_lines.specs.declared.shown.Shown.{Shown as ShownData};
-    ghost use Rattle.fleet_lines.specs.Counting.{AreAllShown, IsAccount, Watched, with_notes, with_shown};
+    ghost use Rattle.fleet_lines.specs.Counting.{AreAllShown, IsAccount, WatchedPorts, with_notes, with_shown};
 
     /// How many datagrams the ports carried.
     ghost counted: { Self → CountsData };
 
     /// The wire between the devices and the ports, what they told when they began to be shown, and what was taken.
-    ghost watched: { Self → Watched };
+    ghost watched: { Self → WatchedPorts };
 
     /// What the wire did, and was not taken yet.
     ghost notes_left: { Self → List NoteData };
@@ -71,11 +71,11 @@ pub trait Counted: Ports {
 
 impl Counted for UdpPorts {
     ghost use Rattle.std.specs.Prelude.{[]};
-    ghost use Rattle.fleet_lines.specs.Counting.{unwatched};
+    ghost use Rattle.fleet_lines.specs.Counting.{unwatched_ports};
 
     ghost counted = { λ ports. ports.tally.counts };
 
-    ghost watched = { λ ports. unwatched };
+    ghost watched = { λ ports. unwatched_ports };
 
     ghost notes_left = { λ ports. [] };
 

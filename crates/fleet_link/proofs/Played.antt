@@ -30,7 +30,7 @@ use Rattle.fleet_link.specs.declared.slot.Slot.{Slot}
 use Rattle.fleet_link.specs.Saved.{IsPlayedBack, IsSaved}
 use Rattle.fleet_link.specs.Playing.{changes_by, is_own, IsFleetStep}
 use Rattle.fleet_link.specs.Serving.{IsFleet}
-use Rattle.fleet_link.specs.Traffic.{Carries, Heard, Traffic}
+use Rattle.fleet_link.specs.Traffic.{Carries, ReceivedPacket, Traffic}
 
 -- ---- what the entries of a device output
 
@@ -95,7 +95,7 @@ row_sends s d class steps es row live complete =
 
 -- ---- a session
 
-sent_then : (before after : Option Traffic) (handed : List Heard) (sent all : List Packet) (failures : ℕ)
+sent_then : (before after : Option Traffic) (handed : List ReceivedPacket) (sent all : List Packet) (failures : ℕ)
     (es : List Entry) (e : ℕ) → Carries before after (record { handed = handed; sent = sent; failures = failures })
     → flat_map packets_in (outputs_by e es) ≡ sent → IsPlayedBack es e before after
 sent_then before None handed sent all failures es e h same = tt

@@ -31,7 +31,8 @@ use Rattle.fleet_link.specs.Playing.{Change, IsFleetStep, IsLaterThan, IsOnTime,
 use Rattle.fleet_link.specs.Recorded.{IsRecorded}
 use Rattle.fleet_link.specs.Serving.{heard_at, heard_by, IsDue, IsEndOf, IsNearEnd, IsServed, IsServing}
 use Rattle.fleet_link.specs.Serving.{IsSweptAt}
-use Rattle.fleet_link.specs.Traffic.{Carries, Heard, Traffic, failed_once, handed_at, no_traffic, sent_all, traffic_and}
+use Rattle.fleet_link.specs.Traffic.{Carries, ReceivedPacket, Traffic, failed_once, handed_at, no_traffic, sent_all}
+use Rattle.fleet_link.specs.Traffic.{traffic_and}
 use Rattle.fleet_link.proofs.Recordings.{recorded_on, IsSame}
 use Rattle.fleet_link.proofs.Told.{carries_both, carries_on, traffic_of}
 
@@ -59,7 +60,7 @@ heard_push n (s ∷ steps) step =
     (heard_at (second_by (second_after n s) steps) step))
 
 -- what was pending is received
-heard_more : (steps : List Step) (step : Step) (rest : List Heard)
+heard_more : (steps : List Step) (step : Step) (rest : List ReceivedPacket)
     → heard_by 0 steps ++ (heard_at (second_by 0 steps) step ++ rest) ≡ heard_by 0 (steps ++ step ∷ []) ++ rest
 heard_more steps step rest =
     sym (append_assoc (heard_by 0 steps) (heard_at (second_by 0 steps) step) rest)
@@ -88,7 +89,8 @@ accepted o false h = refl
 accepted o true h = let e : Ok o ≡ Err faults.Spent = h.1 refl in absurd cc
 
 -- the step was taken, and all that it output was sent
-pub step_served : (f : Machine) (before : Option Traffic) (rest : List Heard) (device newer : Device) (second : ℕ)
+pub step_served : (f : Machine) (before : Option Traffic) (rest : List ReceivedPacket) (device newer : Device)
+    (second : ℕ)
     (recording longer : Recording) (between after : Option Traffic) (event : Happening) (gone : List Packet)
     (changes : List Change)
     → IsServing f before (heard_at second (Event event) ++ rest) changes None device second recording between
@@ -125,7 +127,7 @@ step_served f before rest device newer second recording longer between after eve
       recorded = noted h.steps h.recorded;
     }
   where
-    same_traffic : (a b : List Heard) (p q : List Packet) (m n : ℕ) → a ≡ b → p ≡ q → m ≡ n
+    same_traffic : (a b : List ReceivedPacket) (p q : List Packet) (m n : ℕ) → a ≡ b → p ≡ q → m ≡ n
         → traffic_of a p m ≡ traffic_of b q n
     same_traffic a b p q m n x y z = cc
 
@@ -147,7 +149,7 @@ end_refused end f steps device event shows live (inr (m, refused)) failures =
     (near_end f steps event live (refused_late device (state_after f steps) event shows refused))
 
 -- the step was refused, or no memory was left for it: nothing was sent
-pub step_refused : (end : DeviceEnd) (f : Machine) (before : Option Traffic) (pending : List Heard)
+pub step_refused : (end : DeviceEnd) (f : Machine) (before : Option Traffic) (pending : List ReceivedPacket)
     (device newer : Device) (second : ℕ) (recording other : Recording) (after : Option Traffic) (event : Happening)
     (changes : List Change)
     → IsServing f before pending changes None device second recording after → IsFleetStep (Event event)
@@ -174,7 +176,7 @@ not_port end b (inr (m, refused)) e = let k : Spent ≡ Port = sym m ∙ e in cc
 -- ---- a device at rest
 
 -- its clock shows its second
-shown_clock : (class : Template) (before : Option Traffic) (pending : List Heard) (changes : List Change)
+shown_clock : (class : Template) (before : Option Traffic) (pending : List ReceivedPacket) (changes : List Change)
     (device : Device) (second : ℕ) (recording : Recording) (after : Option Traffic)
     (h : IsServing (start class) before pending changes None device second recording after)
     → (state_after (start class) h.steps).kept.clock ≡ second
@@ -206,7 +208,8 @@ rests class own before slot broken after h e due row time =
       memory = λ m. let k : None ≡ Some Memory = sym e ∙ m in absurd cc;
     }
 
-pub is_over : (class : Template) (own : List Step) (before : Option Traffic) (pending : List Heard) (end : DeviceEnd)
+pub is_over : (class : Template) (own : List Step) (before : Option Traffic) (pending : List ReceivedPacket)
+    (end : DeviceEnd)
     (slot : Slot) (broken : Bool) (after : Option Traffic)
     → IsServing (start class) before pending (changes_of slot.row) (Some end) slot.device slot.second slot.recording
     after → slot.end ≡ Some end → IsUnderWay own slot.row
@@ -224,7 +227,8 @@ is_over class own before pending end slot broken after h e row memory =
       memory = memory;
     }
 
-serving_as : (f : Machine) (before : Option Traffic) (pending : List Heard) (end : Option DeviceEnd) (old new : Slot)
+serving_as : (f : Machine) (before : Option Traffic) (pending : List ReceivedPacket) (end : Option DeviceEnd)
+    (old new : Slot)
     (after : Option Traffic) → new.device ≡ old.device → new.second ≡ old.second → new.row ≡ old.row
     → new.recording ≡ old.recording
     → IsServing f before pending (changes_of old.row) end old.device old.second old.recording after
@@ -241,7 +245,8 @@ time_as old new s w h =
     subst (λ x. IsOnTime x new.second) (sym w) (subst (λ x. IsOnTime old.row x) (sym s) h)
 
 -- what a step came to, and how the device is then
-pub settled : {T : Type 0} (class : Template) (own : List Step) (before : Option Traffic) (pending : List Heard)
+pub settled : {T : Type 0} (class : Template) (own : List Step) (before : Option Traffic)
+    (pending : List ReceivedPacket)
     (taken : Result T DeviceEnd) (broken : Bool) (stepped slot : Slot) (after : Option Traffic)
     → OnOk taken (IsServing (start class) before [] (changes_of stepped.row) None stepped.device stepped.second
     stepped.recording after) → OnOk taken (IsOnTime stepped.row stepped.second)
@@ -328,7 +333,7 @@ swept_by class own before old new broken x y now h k due reached row over e = by
 
 -- ---- what goes on elsewhere
 
-serving_on : (f : Machine) (before : Option Traffic) (pending : List Heard) (changes : List Change)
+serving_on : (f : Machine) (before : Option Traffic) (pending : List ReceivedPacket) (changes : List Change)
     (end : Option DeviceEnd) (device : Device) (second : ℕ) (recording : Recording) (between after : Option Traffic)
     → IsServing f before pending changes end device second recording between → Carries between after no_traffic
     → IsServing f before pending changes end device second recording after
@@ -363,7 +368,7 @@ served_on class own before slot broken between after h k =
     }
 
 -- the port has handed out one more
-pub handed_more : (f : Machine) (before : Option Traffic) (pending : List Heard) (changes : List Change)
+pub handed_more : (f : Machine) (before : Option Traffic) (pending : List ReceivedPacket) (changes : List Change)
     (end : Option DeviceEnd) (device : Device) (second : ℕ) (recording : Recording) (between after : Option Traffic)
     (now : ℕ) (packet : Packet) → IsServing f before pending changes end device second recording between
     → Carries between after (handed_at now packet)
@@ -384,7 +389,7 @@ handed_more f before pending changes end device second recording between after n
       recorded = h.recorded;
     }
   where
-    same_traffic : (a b : List Heard) (p q : List Packet) (m n : ℕ) → a ≡ b → p ≡ q → m ≡ n
+    same_traffic : (a b : List ReceivedPacket) (p q : List Packet) (m n : ℕ) → a ≡ b → p ≡ q → m ≡ n
         → traffic_of a p m ≡ traffic_of b q n
     same_traffic a b p q m n x y z = cc
 
@@ -434,7 +439,7 @@ failures_more (Some Port) f steps n over h = omega arith
 failures_more (Some Spent) f steps n over h = h
 failures_more (Some Memory) f steps n over h = tt
 
-failed_traffic : (a : List Heard) (p : List Packet) (n : ℕ)
+failed_traffic : (a : List ReceivedPacket) (p : List Packet) (n : ℕ)
     → traffic_and (traffic_of a p n) failed_once ≡ traffic_of a p (n + 1)
 failed_traffic a p n =
     let x = append-nil a in

@@ -1,6 +1,7 @@
 -- A row, one step further.
 use Rattle.std.proofs.Common.{◌≡◌, ℕ, ◌+◌, ◌^◌, ◌<◌, ◌≤◌, List, [], ◌∷◌, ◌++◌, Option, None, Some, length, slice_get}
-use Rattle.std.proofs.Common.{◌⊎◌, inl, inr, true, false, Result, Ok, Err, OnOk, IfErr, refl, sym, ap, subst, ◌∙◌, append-nil, arith}
+use Rattle.std.proofs.Common.{◌⊎◌, inl, inr, true, false, Result, Ok, Err, OnOk, IfErr, refl, sym, ap, subst, ◌∙◌}
+use Rattle.std.proofs.Common.{append-nil, arith}
 use Rattle.std.proofs.Common.{append_assoc, length-append}
 use Rattle.std.proofs.lemmas.Bool.{cases_lt}
 use Rattle.std.proofs.lemmas.Option.{slice_get_within}
@@ -22,7 +23,7 @@ use Rattle.fleet_link.specs.Playing.{change_at, change_in, changes_of, happened_
 use Rattle.fleet_link.specs.Playing.{second_after, second_of_row, state_of, Change, ComesTo, GoesOn, IsAdvanced}
 use Rattle.fleet_link.specs.Playing.{IsAtSecond, IsFleetStep, IsLaterThan, IsOnTime, IsRowStep, IsTimely, IsUnderWay}
 use Rattle.fleet_link.specs.Serving.{heard_at, IsServing}
-use Rattle.fleet_link.specs.Traffic.{Heard, Traffic}
+use Rattle.fleet_link.specs.Traffic.{ReceivedPacket, Traffic}
 use Rattle.fleet_link.proofs.Advanced.{advanced_count, advanced_made, advanced_next, advanced_under_way, not_earlier}
 use Rattle.fleet_link.proofs.Advanced.{one_way}
 
@@ -105,7 +106,7 @@ change_is (Event (Tick seconds)) event h = let e : None ≡ Some event = h in ab
 change_is (Post group) event h = let e : None ≡ Some event = h in absurd cc
 change_is (Need group count) event h = let e : None ≡ Some event = h in absurd cc
 
-serving_with : (f : Machine) (before : Option Traffic) (pending : List Heard) (a b : List Change)
+serving_with : (f : Machine) (before : Option Traffic) (pending : List ReceivedPacket) (a b : List Change)
     (end : Option DeviceEnd) (device : Device) (second : ℕ) (recording : Recording) (after : Option Traffic) → a ≡ b
     → IsServing f before pending a end device second recording after
     → IsServing f before pending b end device second recording after
@@ -113,7 +114,7 @@ serving_with f before pending a b end device second recording after e h =
     subst (λ cs. IsServing f before pending cs end device second recording after) e h
 
 -- a step that is no change
-pub step_passed : (f : Machine) (before : Option Traffic) (pending : List Heard) (old new : PlayedRow)
+pub step_passed : (f : Machine) (before : Option Traffic) (pending : List ReceivedPacket) (old new : PlayedRow)
     (device : Device) (second : ℕ) (recording : Recording) (after : Option Traffic) (change : Option Happening)
     → change ≡ None → old.place < length old.steps.items
     → ((step : Step) → slice_get old.steps.items old.place ≡ Some step → change ≡ change_in step)
@@ -139,7 +140,7 @@ step_is_change row change event within some is =
     change_is found.0 event (sym (is found.0 found.1) ∙ some)
 
 -- a step that is one
-pub step_changed : (f : Machine) (before : Option Traffic) (pending : List Heard) (old mid new : PlayedRow)
+pub step_changed : (f : Machine) (before : Option Traffic) (pending : List ReceivedPacket) (old mid new : PlayedRow)
     (device : Device) (start second due : ℕ) (recording : Recording) (after : Option Traffic)
     (change : Option Happening) (event : Happening)
     → change ≡ Some event → old.place < length old.steps.items → row_state old ≡ Due due → IsOnTime old start
@@ -171,7 +172,7 @@ on_time_after old mid new start second due state time same at next =
 
 -- ---- no memory was left for a step of the row
 
-pub lacks_memory : (f : Machine) (before : Option Traffic) (pending : List Heard) (changes : List Change)
+pub lacks_memory : (f : Machine) (before : Option Traffic) (pending : List ReceivedPacket) (changes : List Change)
     (device : Device) (second : ℕ) (recording : Recording) (after : Option Traffic)
     → IsServing f before pending changes None device second recording after
     → IsServing f before pending changes (Some Memory) device second recording after
@@ -191,7 +192,8 @@ lacks_memory f before pending changes device second recording after h =
 -- ---- events
 
 -- seconds change nothing
-pub ticked : (f : Machine) (before : Option Traffic) (pending : List Heard) (changes : List Change) (device : Device)
+pub ticked : (f : Machine) (before : Option Traffic) (pending : List ReceivedPacket) (changes : List Change)
+    (device : Device)
     (was now seconds passed : ℕ) (recording : Recording) (after : Option Traffic) → now ≡ was → passed ≡ seconds
     → IsServing f before pending (changes ++ []) None device (was + seconds) recording after
     → IsServing f before pending changes None device (now + passed) recording after
@@ -201,7 +203,7 @@ ticked f before pending changes device was now seconds passed recording after sa
     (subst (λ n. IsServing f before pending (changes ++ []) None device n recording after) sum h)
 
 -- a datagram changes nothing
-pub heard_on : {T E : Type 0} (r : Result T E) (f : Machine) (before : Option Traffic) (pending : List Heard)
+pub heard_on : {T E : Type 0} (r : Result T E) (f : Machine) (before : Option Traffic) (pending : List ReceivedPacket)
     (changes : List Change) (old new : PlayedRow) (device : Device) (was now : ℕ) (recording : Recording)
     (after : Option Traffic) → changes ≡ changes_of old → new ≡ old → now ≡ was
     → OnOk r (IsServing f before pending (changes ++ []) None device was recording after)
@@ -219,7 +221,8 @@ change_fits (Firmware code) h = tt
 change_fits (Tick seconds) h = let e : None ≡ Some (Tick seconds) = h in absurd cc
 
 -- nothing is heard in a change
-pub change_pending : (event : Happening) (second : ℕ) (f : Machine) (before : Option Traffic) (pending : List Heard)
+pub change_pending : (event : Happening) (second : ℕ) (f : Machine) (before : Option Traffic)
+    (pending : List ReceivedPacket)
     (changes : List Change) (device : Device) (now : ℕ) (recording : Recording) (after : Option Traffic)
     → change_in (Event event) ≡ Some event → IsServing f before pending changes None device now recording after
     → IsServing f before (heard_at second (Event event) ++ pending) changes None device now recording after
@@ -237,7 +240,8 @@ change_passes (Put path value) second h = refl
 change_passes (Firmware code) second h = refl
 change_passes (Tick seconds) second h = let e : None ≡ Some (Tick seconds) = h in absurd cc
 
-pub change_served : {T E : Type 0} (r : Result T E) (f : Machine) (before : Option Traffic) (pending : List Heard)
+pub change_served : {T E : Type 0} (r : Result T E) (f : Machine) (before : Option Traffic)
+    (pending : List ReceivedPacket)
     (changes : List Change) (event : Happening) (device : Device) (was now second : ℕ) (recording : Recording)
     (after : Option Traffic) → change_in (Event event) ≡ Some event → was ≡ second → now ≡ was
     → OnOk r (IsServing f before pending (changes ++ change_at was (change_in (Event event))) None device
@@ -252,7 +256,7 @@ change_served (Err e) f before pending changes event device was now second recor
 
 -- ---- the same row
 
-pub row_served : {T E : Type 0} (r : Result T E) (f : Machine) (before : Option Traffic) (pending : List Heard)
+pub row_served : {T E : Type 0} (r : Result T E) (f : Machine) (before : Option Traffic) (pending : List ReceivedPacket)
     (old new : PlayedRow) (end : Option DeviceEnd) (device : Device) (second : ℕ) (recording : Recording)
     (after : Option Traffic) → new ≡ old
     → OnOk r (IsServing f before pending (changes_of old) end device second recording after)
@@ -260,7 +264,8 @@ pub row_served : {T E : Type 0} (r : Result T E) (f : Machine) (before : Option 
 row_served r f before pending old new end device second recording after same h =
     subst (λ x. OnOk r (IsServing f before pending (changes_of x) end device second recording after)) (sym same) h
 
-pub row_refused : {T : Type 0} (r : Result T DeviceEnd) (f : Machine) (before : Option Traffic) (pending : List Heard)
+pub row_refused : {T : Type 0} (r : Result T DeviceEnd) (f : Machine) (before : Option Traffic)
+    (pending : List ReceivedPacket)
     (old new : PlayedRow) (device : Device) (second : ℕ) (recording : Recording) (after : Option Traffic) → new ≡ old
     → IfErr r (λ end. IsServing f before pending (changes_of old) (Some end) device second recording after)
     → IfErr r (λ end. IsServing f before pending (changes_of new) (Some end) device second recording after)
@@ -269,7 +274,7 @@ row_refused r f before pending old new device second recording after same h =
     (sym same) h
 
 pub second_refused : {T : Type 0} (r : Result T DeviceEnd) (f : Machine) (before : Option Traffic)
-    (pending : List Heard) (changes : List Change) (device : Device) (was now : ℕ) (recording : Recording)
+    (pending : List ReceivedPacket) (changes : List Change) (device : Device) (was now : ℕ) (recording : Recording)
     (after : Option Traffic) → now ≡ was
     → IfErr r (λ end. IsServing f before pending changes (Some end) device was recording after)
     → IfErr r (λ end. IsServing f before pending changes (Some end) device now recording after)

@@ -11,12 +11,12 @@ use Rattle.fleet_link.specs.declared.history.History.{History, Begun, Received',
 use Rattle.fleet_link.specs.declared.ports.PortsFault.{PortsFault}
 use Rattle.fleet_link.specs.declared.ports.Receipt.{Receipt}
 use Rattle.fleet_link.specs.declared.ports.Receipt.TheVariants.{Arrived, Dropped, Failed, Nothing}
-use Rattle.fleet_link.specs.Counting.{bytes_seen, counted, counts_after, counts_by, counts_sent, handed_if, handed_in}
-use Rattle.fleet_link.specs.Counting.{traffic_by, AreCountsOf, Handing}
+use Rattle.fleet_link.specs.Counting.{bytes_seen, counts_after, counts_by, counts_sent, handed_if, handed_in}
+use Rattle.fleet_link.specs.Counting.{saturated_count, traffic_by, AreCountsOf, Handing}
 use Rattle.fleet_link.specs.Memory.{sent_if, sent_in}
-use Rattle.fleet_link.specs.Traffic.{Heard, Traffic, at_port, no_traffic, sent_all, traffic_of_receipt}
+use Rattle.fleet_link.specs.Traffic.{ReceivedPacket, Traffic, at_port, no_traffic, sent_all, traffic_of_receipt}
 
-abbrev traffic_of : List Heard → List Packet → ℕ → Traffic
+abbrev traffic_of : List ReceivedPacket → List Packet → ℕ → Traffic
 traffic_of handed sent failures = record { handed = handed; sent = sent; failures = failures }
 
 abbrev port_if : Bool → Traffic → Traffic
@@ -38,7 +38,7 @@ handings_by Begun = []
 handings_by (Received' at before second given) = handings_by before ++ handing_of second.value given.value
 handings_by (Sent' at before device server bytes taken) = handings_by before
 
-one_handed : (d e : ℕ) (heard : Heard) → (d ≡ e) ⊎ (d ≡ e → ⊥)
+one_handed : (d e : ℕ) (heard : ReceivedPacket) → (d ≡ e) ⊎ (d ≡ e → ⊥)
     → (at_port d e (traffic_of (heard ∷ []) [] 0)).handed ≡ handed_in (record { device = d; heard = heard } ∷ []) e
 one_handed d e heard (inl same) =
     let b = eq-eqb d e same in
@@ -78,15 +78,15 @@ handed_are (Sent' at before device server bytes taken) e =
     ∙ append-nil (traffic_by before e).handed ∙ handed_are before e
 
 received_one : (counts : Counts) (second : ℕ) (given : Result Receipt PortsFault) (handings : List Handing)
-    → counts.received ≡ counted (length handings)
-    → (counts_after counts given).received ≡ counted (length (handings ++ handing_of second given))
+    → counts.received ≡ saturated_count (length handings)
+    → (counts_after counts given).received ≡ saturated_count (length (handings ++ handing_of second given))
 received_one counts second given handings h = by_case given
   where
-    none : counts.received ≡ counted (length (handings ++ []))
-    none = h ∙ ap (λ l. counted (length l)) (sym (append-nil handings))
+    none : counts.received ≡ saturated_count (length (handings ++ []))
+    none = h ∙ ap (λ l. saturated_count (length l)) (sym (append-nil handings))
 
     by_case : (g : Result Receipt PortsFault)
-        → (counts_after counts g).received ≡ counted (length (handings ++ handing_of second g))
+        → (counts_after counts g).received ≡ saturated_count (length (handings ++ handing_of second g))
     by_case (Ok Nothing) = none
     by_case (Ok (Arrived arrival)) =
         let more = length-append handings (handing_of second (Ok (Arrived arrival))) in omega (arith, h, more)
@@ -94,12 +94,12 @@ received_one counts second given handings h = by_case given
     by_case (Ok (Failed device)) = none
     by_case (Err fault) = none
 
-still_received : (counts : Counts) (taken : Bool) (n : ℕ) → counts.received ≡ counted n
-    → (counts_sent counts taken).received ≡ counted n
+still_received : (counts : Counts) (taken : Bool) (n : ℕ) → counts.received ≡ saturated_count n
+    → (counts_sent counts taken).received ≡ saturated_count n
 still_received counts true n h = h
 still_received counts false n h = h
 
-received_are : (calls : History) → (counts_by calls).received ≡ counted (length (handings_by calls))
+received_are : (calls : History) → (counts_by calls).received ≡ saturated_count (length (handings_by calls))
 received_are Begun = refl
 received_are (Received' at before second given) =
     received_one (counts_by before) second.value given.value (handings_by before) (received_are before)
@@ -128,7 +128,7 @@ one_sent d e packet (inr other) =
     ∙ sym (ap (λ x. filter_map (λ (s : Sending). cond x (Some s.packet) None)
     (record { device = d; packet = packet } ∷ [])) b)
 
-none_sent_at : (d e : ℕ) (handed : List Heard) (n : ℕ) → (d ≡ e) ⊎ (d ≡ e → ⊥)
+none_sent_at : (d e : ℕ) (handed : List ReceivedPacket) (n : ℕ) → (d ≡ e) ⊎ (d ≡ e → ⊥)
     → (at_port d e (traffic_of handed [] n)).sent ≡ []
 none_sent_at d e handed n (inl same) = ap (λ x. (port_if x (traffic_of handed [] n)).sent) (eq-eqb d e same)
 none_sent_at d e handed n (inr other) = ap (λ x. (port_if x (traffic_of handed [] n)).sent) (ne_eqb d e other)
@@ -156,8 +156,10 @@ sent_are (Sent' at before device server bytes taken) e =
     (record { device = device.value; packet = packet } ∷ []))
 
 taken_one : (counts : Counts) (taken : Bool) (sendings more : List Sending)
-    → length more ≡ length sendings + 1 → counted (counts.sent + counts.lost) ≡ counted (length sendings)
-    → counted ((counts_sent counts taken).sent + (counts_sent counts taken).lost) ≡ counted (length more)
+    → length more ≡ length sendings + 1
+    → saturated_count (counts.sent + counts.lost) ≡ saturated_count (length sendings)
+    → saturated_count ((counts_sent counts taken).sent + (counts_sent counts taken).lost)
+    ≡ saturated_count (length more)
 taken_one counts true sendings more grown h = omega (arith, grown, h)
 taken_one counts false sendings more grown h = omega (arith, grown, h)
 
@@ -170,10 +172,10 @@ same_sums counts (Ok (Failed device)) = refl
 same_sums counts (Err fault) = refl
 
 taken_are : (calls : History)
-    → counted ((counts_by calls).sent + (counts_by calls).lost) ≡ counted (length (sendings_by calls))
+    → saturated_count ((counts_by calls).sent + (counts_by calls).lost) ≡ saturated_count (length (sendings_by calls))
 taken_are Begun = refl
 taken_are (Received' at before second given) =
-    ap counted (same_sums (counts_by before) given.value) ∙ taken_are before
+    ap saturated_count (same_sums (counts_by before) given.value) ∙ taken_are before
 taken_are (Sent' at before device server bytes taken) =
     let packet : Packet = record { server = server.value; bytes = bytes_seen bytes.value } in
     taken_one (counts_by before) taken.value (sendings_by before) _
@@ -189,5 +191,5 @@ are_counted calls counts is = record {
   received = ap (λ (c : Counts). c.received) is ∙ received_are calls;
   sent = sendings_by calls;
   sent_are = sent_are calls;
-  taken_or_lost = ap (λ (c : Counts). counted (c.sent + c.lost)) is ∙ taken_are calls;
+  taken_or_lost = ap (λ (c : Counts). saturated_count (c.sent + c.lost)) is ∙ taken_are calls;
 }

@@ -8,7 +8,7 @@ use Rattle.live_link.proofs.Sent.{packets_more}
 use Rattle.live_link.specs.Live.{packets_in}
 use Rattle.live_link.specs.Wire.{AreRead}
 use Rattle.live_link.specs.declared.packet.Packet.{Packet}
-use Rattle.fleet_link.specs.Traffic.{Carries, Heard, Traffic, at_port, no_traffic, sent_all, traffic_and}
+use Rattle.fleet_link.specs.Traffic.{Carries, ReceivedPacket, Traffic, at_port, no_traffic, sent_all, traffic_and}
 
 -- ---- traffic
 
@@ -28,10 +28,10 @@ carries_both None (Some y) (Some z) a b c h k e = absurd h
 carries_both (Some x) (Some y) (Some z) a b c h k e =
     k ∙ ap (λ t. traffic_and t b) h ∙ both x a b ∙ ap (traffic_and x) e
 
-abbrev pub traffic_of : List Heard → List Packet → ℕ → Traffic
+abbrev pub traffic_of : List ReceivedPacket → List Packet → ℕ → Traffic
 traffic_of h s f = record { handed = h; sent = s; failures = f }
 
-same_parts : (h k : List Heard) (s t : List Packet) (f g : ℕ) → h ≡ k → s ≡ t → f ≡ g
+same_parts : (h k : List ReceivedPacket) (s t : List Packet) (f g : ℕ) → h ≡ k → s ≡ t → f ≡ g
     → traffic_of h s f ≡ traffic_of k t g
 same_parts h k s t f g a b c = cc
 

@@ -10,7 +10,8 @@ use Rattle.fleet_link.specs.declared.ports.Receipt.{Receipt}
 use Rattle.fleet_link.specs.declared.ports.Receipt.TheVariants.{Arrived, Dropped, Failed, Nothing}
 use Rattle.fleet_link.specs.declared.udp.Counts.{Counts}
 use Rattle.fleet_link.specs.Memory.{sent_in}
-use Rattle.fleet_link.specs.Traffic.{Heard, Traffic, at_port, no_traffic, sent_all, traffic_and, traffic_of_receipt}
+use Rattle.fleet_link.specs.Traffic.{ReceivedPacket, Traffic, at_port, no_traffic, sent_all, traffic_and}
+use Rattle.fleet_link.specs.Traffic.{traffic_of_receipt}
 
 -- ---- counts
 
@@ -40,8 +41,8 @@ counts_sent counts true = record counts { sent = one_more counts.sent }
 counts_sent counts false = record counts { lost = one_more counts.lost }
 
 -- a count of 64 bits, which stays at its greatest number
-abbrev pub counted : ℕ → ℕ
-counted n = min n (2 ^ 64 - 1)
+abbrev pub saturated_count : ℕ → ℕ
+saturated_count n = min n (2 ^ 64 - 1)
 
 -- ---- calls
 
@@ -75,13 +76,13 @@ counts_by (Sent' at before device server bytes taken) = counts_sent (counts_by b
 -- a datagram that was handed out, and the device at whose port it had arrived
 pub record Handing : Type 0 where
   pub device : ℕ
-  pub heard : Heard
+  pub heard : ReceivedPacket
 
 -- those of a device, in order
-abbrev pub handed_if : ℕ → Handing → Option Heard
+abbrev pub handed_if : ℕ → Handing → Option ReceivedPacket
 handed_if e handing = if handing.device == e then Some handing.heard else None
 
-abbrev pub handed_in : List Handing → ℕ → List Heard
+abbrev pub handed_in : List Handing → ℕ → List ReceivedPacket
 handed_in handings e = filter_map (handed_if e) handings
 
 -- These are the counts of ports that tell this: there is a list of all datagrams that were handed out, of which each
@@ -89,7 +90,7 @@ handed_in handings e = filter_map (handed_if e) handings
 pub record AreCountsOf (told : ℕ → Option Traffic) (counts : Counts) : Type 0 where
   pub handed : List Handing
   pub handed_are : (e : ℕ) → IfSome (told e) (λ t. t.handed ≡ handed_in handed e)
-  pub received : counts.received ≡ counted (length handed)
+  pub received : counts.received ≡ saturated_count (length handed)
   pub sent : List Sending
   pub sent_are : (e : ℕ) → IfSome (told e) (λ t. t.sent ≡ sent_in sent e)
-  pub taken_or_lost : counted (counts.sent + counts.lost) ≡ counted (length sent)
+  pub taken_or_lost : saturated_count (counts.sent + counts.lost) ≡ saturated_count (length sent)

@@ -1,5 +1,6 @@
 -- A fleet that is served: what each of its devices is, of what its port handed out and took in.
-use Rattle.std.specs.Prelude.{◌≡◌, ℕ, ◌+◌, ◌≤◌, ◌<◌, Bool, true, false, take, List, [], ◌∷◌, ◌++◌, length, slice_get, Option, None}
+use Rattle.std.specs.Prelude.{◌≡◌, ℕ, ◌+◌, ◌≤◌, ◌<◌, Bool, true, false, take, List, [], ◌∷◌, ◌++◌, length, slice_get}
+use Rattle.std.specs.Prelude.{Option, None}
 use Rattle.std.specs.Prelude.{Some, IfSome, MatchOption}
 use Rattle.std.specs.List.{sum_by, AllByRecursion}
 use Rattle.device_machine.specs.declared.event.Event.TheVariants.{Recv, Put, Firmware, Tick}
@@ -16,16 +17,17 @@ use Rattle.fleet_link.specs.declared.recording.Recording.{Recording}
 use Rattle.fleet_link.specs.declared.slot.DeviceEnd.{DeviceEnd}
 use Rattle.fleet_link.specs.declared.slot.DeviceEnd.TheVariants.{Memory, Port, Spent}
 use Rattle.fleet_link.specs.declared.slot.Slot.{Slot}
-use Rattle.fleet_link.specs.Playing.{changes_by, changes_of, happened_of, happened_count, played_steps, posts_in, posts_made}
+use Rattle.fleet_link.specs.Playing.{changes_by, changes_of, happened_of, happened_count, played_steps, posts_in}
+use Rattle.fleet_link.specs.Playing.{posts_made}
 use Rattle.fleet_link.specs.Playing.{row_state, second_after, second_by, Change}
 use Rattle.fleet_link.specs.Playing.{CanPass, IsFleetStep, IsLaterThan, HasHappenedBy, IsOnTime, IsRowStep, IsUnderWay}
 use Rattle.fleet_link.specs.Recorded.{IsRecorded}
-use Rattle.fleet_link.specs.Traffic.{Carries, Heard, Traffic}
+use Rattle.fleet_link.specs.Traffic.{Carries, ReceivedPacket, Traffic}
 
 -- ---- what steps receive
 
 -- the datagram that a step receives at this second
-abbrev pub heard_at : ℕ → Step → List Heard
+abbrev pub heard_at : ℕ → Step → List ReceivedPacket
 heard_at second (Event (Recv server bytes)) =
     record { second = second; packet = record { server = server; bytes = bytes } } ∷ []
 heard_at second (Event (Put path value)) = []
@@ -35,7 +37,7 @@ heard_at second (Post group) = []
 heard_at second (Need group count) = []
 
 -- the datagrams that steps receive, in order, each with the second of the device that receives it
-abbrev pub heard_by : ℕ → List Step → List Heard
+abbrev pub heard_by : ℕ → List Step → List ReceivedPacket
 heard_by second [] = []
 heard_by second (step ∷ steps) = heard_at second step ++ heard_by (second_after second step) steps
 
@@ -58,7 +60,7 @@ IsEndOf (Some Memory) f steps failures = Unit {0}
 -- steps: what the port handed out is what they receive, each datagram at its second, and then what is still pending;
 -- all that they output was sent; and the changes among them are these, each at its second. The steps of other devices
 -- have no part in it.
-pub record IsServing (f : Machine) (before : Option Traffic) (pending : List Heard) (changes : List Change)
+pub record IsServing (f : Machine) (before : Option Traffic) (pending : List ReceivedPacket) (changes : List Change)
     (end : Option DeviceEnd) (device : Device) (second : ℕ) (recording : Recording) (after : Option Traffic)
     : Type 0 where
   pub steps : List Step
@@ -82,7 +84,7 @@ IsDue device due = (f : Machine) → Shows device f → MatchOption due (IsSilen
 -- ran out only if it may have.
 pub record IsServed (class : Template) (row : List Step) (before : Option Traffic) (slot : Slot) (broken : Bool)
     (after : Option Traffic) : Type 0 where
-  pub unheard : List Heard
+  pub unheard : List ReceivedPacket
   pub serving : IsServing (start class) before unheard (changes_of slot.row) slot.end slot.device slot.second
       slot.recording after
   pub row_is : IsUnderWay row slot.row

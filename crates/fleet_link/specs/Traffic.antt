@@ -8,14 +8,14 @@ use Rattle.fleet_link.specs.declared.ports.Receipt.{Receipt}
 use Rattle.fleet_link.specs.declared.ports.Receipt.TheVariants.{Arrived, Dropped, Failed, Nothing}
 
 -- a datagram, and the second of the session at which it was received
-pub record Heard : Type 0 where
+pub record ReceivedPacket : Type 0 where
   pub second : ℕ
   pub packet : Packet
 
 -- what went through the port of a device: what was handed out to it, and what was sent for it, each in order; and how
 -- often the port failed
 pub record Traffic : Type 0 where
-  pub handed : List Heard
+  pub handed : List ReceivedPacket
   pub sent : List Packet
   pub failures : ℕ
 

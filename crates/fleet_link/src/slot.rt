@@ -12,7 +12,7 @@ ghost use Rattle.fleet_link.specs.Playing.{change_at, change_in, changes_of, pos
 ghost use Rattle.fleet_link.specs.Playing.{is_waiting, is_waiting_for, Change, GoesOn, IsAdvanced, IsFleetStep};
 ghost use Rattle.fleet_link.specs.Playing.{IsLaterThan, IsOnTime, IsPassed};
 ghost use Rattle.fleet_link.specs.Recorded.{HasRoom};
-ghost use Rattle.fleet_link.specs.Traffic.{Carries, Heard, Traffic, failed_once, handed_at, no_traffic};
+ghost use Rattle.fleet_link.specs.Traffic.{Carries, ReceivedPacket, Traffic, failed_once, handed_at, no_traffic};
 ghost use Rattle.fleet_link.specs.Serving.{heard_at, IsDue, IsServed, IsServing, IsSweptAt};
 
 use crate::ports::Ports;
@@ -174,14 +174,15 @@ impl Slot {
         place: usize,
         event: Event,
     ) -> Result<(), DeviceEnd>
-        ensures served { (f : Machine) (before : Option Traffic) (rest : List Heard) (changes : List Change)
+        ensures served { (f : Machine) (before : Option Traffic) (rest : List ReceivedPacket) (changes : List Change)
             → IsFleetStep (event_step event)
             → IsServing f before (heard_at self.old.second (event_step event) ++ rest) changes None self.old.device
             self.old.second self.old.recording (P.told ports.old place)
             → OnOk result (IsServing f before rest
             (changes ++ change_at self.old.second (change_in (event_step event))) None self.new.device
             (second_after self.old.second (event_step event)) self.new.recording (P.told ports.new place)) }
-        ensures refused { (f : Machine) (before : Option Traffic) (pending : List Heard) (changes : List Change)
+        ensures refused { (f : Machine) (before : Option Traffic) (pending : List ReceivedPacket)
+            (changes : List Change)
             → IsFleetStep (event_step event)
             → IsServing f before pending changes None self.old.device self.old.second self.old.recording
             (P.told ports.old place)
@@ -208,12 +209,13 @@ impl Slot {
         requires some { 1 ≤ seconds }
         requires few { seconds ≤ 86400 }
         requires fits { self.old.second + seconds < 2 ^ 64 }
-        ensures served { (f : Machine) (before : Option Traffic) (pending : List Heard) (changes : List Change)
+        ensures served { (f : Machine) (before : Option Traffic) (pending : List ReceivedPacket) (changes : List Change)
             → IsServing f before pending changes None self.old.device self.old.second self.old.recording
             (P.told ports.old place)
             → OnOk result (IsServing f before pending changes None self.new.device self.new.second self.new.recording
             (P.told ports.new place)) }
-        ensures refused { (f : Machine) (before : Option Traffic) (pending : List Heard) (changes : List Change)
+        ensures refused { (f : Machine) (before : Option Traffic) (pending : List ReceivedPacket)
+            (changes : List Change)
             → IsServing f before pending changes None self.old.device self.old.second self.old.recording
             (P.told ports.old place)
             → IfErr result (λ end. IsServing f before pending changes (Some end) self.new.device self.new.second
@@ -235,12 +237,13 @@ impl Slot {
 
     /// Lets the seconds pass up to this one, at most a day in a step.
     fn pass_to<P: Ports>(&mut self, ports: &mut P, place: usize, now: u64) -> Result<(), DeviceEnd>
-        ensures served { (f : Machine) (before : Option Traffic) (pending : List Heard) (changes : List Change)
+        ensures served { (f : Machine) (before : Option Traffic) (pending : List ReceivedPacket) (changes : List Change)
             → IsServing f before pending changes None self.old.device self.old.second self.old.recording
             (P.told ports.old place)
             → OnOk result (IsServing f before pending changes None self.new.device self.new.second self.new.recording
             (P.told ports.new place)) }
-        ensures refused { (f : Machine) (before : Option Traffic) (pending : List Heard) (changes : List Change)
+        ensures refused { (f : Machine) (before : Option Traffic) (pending : List ReceivedPacket)
+            (changes : List Change)
             → IsServing f before pending changes None self.old.device self.old.second self.old.recording
             (P.told ports.old place)
             → IfErr result (λ end. IsServing f before pending changes (Some end) self.new.device self.new.second
@@ -269,13 +272,14 @@ impl Slot {
         second: u64,
         event: Event,
     ) -> Result<(), DeviceEnd>
-        ensures served { (f : Machine) (before : Option Traffic) (pending : List Heard) (changes : List Change)
+        ensures served { (f : Machine) (before : Option Traffic) (pending : List ReceivedPacket) (changes : List Change)
             → change_in (event_step event) ≡ Some event
             → IsServing f before pending changes None self.old.device self.old.second self.old.recording
             (P.told ports.old place) → self.old.second ≤ second
             → OnOk result (IsServing f before pending (changes ++ change_at second (Some event)) None self.new.device
             self.new.second self.new.recording (P.told ports.new place)) }
-        ensures refused { (f : Machine) (before : Option Traffic) (pending : List Heard) (changes : List Change)
+        ensures refused { (f : Machine) (before : Option Traffic) (pending : List ReceivedPacket)
+            (changes : List Change)
             → change_in (event_step event) ≡ Some event
             → IsServing f before pending changes None self.old.device self.old.second self.old.recording
             (P.told ports.old place)
@@ -303,13 +307,13 @@ impl Slot {
     ) -> Result<(), DeviceEnd>
         requires due { row_state self.old.row ≡ RowState.Due due }
         requires within { self.old.row.place < length self.old.row.steps.items }
-        ensures served { (f : Machine) (before : Option Traffic) (pending : List Heard)
+        ensures served { (f : Machine) (before : Option Traffic) (pending : List ReceivedPacket)
             → IsServing f before pending (changes_of self.old.row) None self.old.device self.old.second
             self.old.recording (P.told ports.old place) → IsOnTime self.old.row self.old.second
             → OnOk result (IsServing f before pending (changes_of self.new.row) None self.new.device self.new.second
             self.new.recording (P.told ports.new place)) }
         ensures on_time { IsOnTime self.old.row self.old.second → OnOk result (IsOnTime self.new.row self.new.second) }
-        ensures refused { (f : Machine) (before : Option Traffic) (pending : List Heard)
+        ensures refused { (f : Machine) (before : Option Traffic) (pending : List ReceivedPacket)
             → IsServing f before pending (changes_of self.old.row) None self.old.device self.old.second
             self.old.recording (P.told ports.old place) → IsOnTime self.old.row self.old.second
             → IfErr result (λ end. IsServing f before pending (changes_of self.new.row) (Some end) self.new.device
@@ -335,13 +339,13 @@ impl Slot {
 
     /// Lets the seconds pass up to this one, and what the row says happen in them, each step at its second.
     fn catch_up<P: Ports>(&mut self, ports: &mut P, place: usize, now: u64) -> Result<(), DeviceEnd>
-        ensures served { (f : Machine) (before : Option Traffic) (pending : List Heard)
+        ensures served { (f : Machine) (before : Option Traffic) (pending : List ReceivedPacket)
             → IsServing f before pending (changes_of self.old.row) None self.old.device self.old.second
             self.old.recording (P.told ports.old place) → IsOnTime self.old.row self.old.second
             → OnOk result (IsServing f before pending (changes_of self.new.row) None self.new.device self.new.second
             self.new.recording (P.told ports.new place)) }
         ensures on_time { IsOnTime self.old.row self.old.second → OnOk result (IsOnTime self.new.row self.new.second) }
-        ensures refused { (f : Machine) (before : Option Traffic) (pending : List Heard)
+        ensures refused { (f : Machine) (before : Option Traffic) (pending : List ReceivedPacket)
             → IsServing f before pending (changes_of self.old.row) None self.old.device self.old.second
             self.old.recording (P.told ports.old place) → IsOnTime self.old.row self.old.second
             → IfErr result (λ end. IsServing f before pending (changes_of self.new.row) (Some end) self.new.device

@@ -1,8 +1,9 @@
 -- One note more is counted.
-use Rattle.std.proofs.Common.{◌≡◌, ℕ, ◌+◌, Bool, true, false, cond, List, [], ◌∷◌, ◌++◌, refl, sym, ap, ◌∙◌, arith, zero-add}
+use Rattle.std.proofs.Common.{◌≡◌, ℕ, ◌+◌, Bool, true, false, cond, List, [], ◌∷◌, ◌++◌, refl, sym, ap, ◌∙◌, arith}
+use Rattle.std.proofs.Common.{zero-add}
 use Rattle.std.proofs.lemmas.List.Sums.{sum_by-append}
 use Rattle.std.specs.List.{count_by}
-use Rattle.fleet_link.specs.Counting.{counted, one_more}
+use Rattle.fleet_link.specs.Counting.{one_more, saturated_count}
 use Rattle.fleet_wire.specs.declared.happened.Happened.{Happened}
 use Rattle.fleet_wire.specs.declared.note.Note.{Note}
 use Rattle.fleet_wire.specs.declared.plan.Fate.{Fate}
@@ -20,12 +21,12 @@ abbrev pub add_if : Bool → ℕ → ℕ
 add_if true n = one_more n
 add_if false n = n
 
-count_if : (b : Bool) (n k : ℕ) → n ≡ k + cond b 1 0 → counted n ≡ add_if b (counted k)
+count_if : (b : Bool) (n k : ℕ) → n ≡ k + cond b 1 0 → saturated_count n ≡ add_if b (saturated_count k)
 count_if true n k h = omega (arith, h)
 count_if false n k h = omega (arith, h)
 
 pub more_of : (p : Note → Bool) (notes : List Note) (note : Note)
-    → counted (count_by p (notes ++ note ∷ [])) ≡ add_if (p note) (counted (count_by p notes))
+    → saturated_count (count_by p (notes ++ note ∷ [])) ≡ add_if (p note) (saturated_count (count_by p notes))
 more_of p notes note =
     count_if (p note) (count_by p (notes ++ note ∷ [])) (count_by p notes) (count_more p notes note)
 

@@ -7,7 +7,7 @@ use Rattle.std.proofs.Math.ListN.{length-set}
 use Rattle.std.proofs.lemmas.Bool.{cases_eq, eq-eqb, ne_eqb}
 use Rattle.std.proofs.lemmas.Bool.Decides.{nat_tests}
 use Rattle.live_link.specs.declared.packet.Packet.{Packet}
-use Rattle.fleet_link.specs.Traffic.{Heard}
+use Rattle.fleet_link.specs.Traffic.{ReceivedPacket}
 use Rattle.lemmas.proofs.Lists.{length_pushed}
 use Rattle.fleet_wire.specs.declared.lane.Held.{Held}
 use Rattle.fleet_wire.specs.declared.lane.Lane.{Lane}
@@ -18,13 +18,13 @@ use Rattle.fleet_wire.specs.declared.plan.Fate.TheVariants.{Lost}
 use Rattle.fleet_wire.specs.declared.plan.Plan.{Plan}
 use Rattle.fleet_wire.specs.Schedule.{fate_of, goes_at_once}
 use Rattle.fleet_wire.specs.Lane.{came_by, fate_at, held_by, held_with, is_due, is_freed, is_over, is_wanted, of_device}
-use Rattle.fleet_wire.specs.Lane.{went_by}
-use Rattle.fleet_wire.specs.Lane.{AreInOrder, AreLanes, Gone, IsFirst, IsIdle, IsLane}
+use Rattle.fleet_wire.specs.Lane.{went_by, AreInOrder, AreLanes, ForwardedPacket, IsFirst, IsIdle, IsLane}
 use Rattle.fleet_wire.proofs.Held.{all_wait, by_append, order_with, order_without, other_around, other_one, other_with}
 use Rattle.fleet_wire.proofs.Held.{own_around, own_one, own_with, Waits}
 use Rattle.fleet_wire.proofs.OneLane.{gone_of, lane_comes, lane_elsewhere, lane_goes, lane_later, quiet, IsNew, IsQuiet}
 
-lane_is : (fate : ℕ → Fate) (late_by now : ℕ) (came a : List Heard) (went b : List Gone) (held c : List Held)
+lane_is : (fate : ℕ → Fate) (late_by now : ℕ) (came a : List ReceivedPacket) (went b : List ForwardedPacket)
+    (held c : List Held)
     (freed d : Bool) → a ≡ came → b ≡ went → c ≡ held → d ≡ freed → IsLane fate late_by now came went held freed
     → IsLane fate late_by now a b c d
 lane_is fate late_by now came a went b held c freed d e_a e_b e_c e_d l =
@@ -177,7 +177,8 @@ lanes_gone plan direction devices now second lane new h l later first dir counts
 -- ---- one comes
 
 -- what is held after a datagram of a device has come, for each device
-came_each : (plan : Plan) (direction : Direction) (devices now second : ℕ) (lane new : Lane) (h : Held) (x : Heard)
+came_each : (plan : Plan) (direction : Direction) (devices now second : ℕ) (lane new : Lane) (h : Held)
+    (x : ReceivedPacket)
     → AreLanes plan direction devices now lane → now ≤ second → IsIdle plan.late_by second lane
     → IsNew (fate_at plan direction devices h.device) second (came_by lane.log h.device) x h
     → new.held.items ≡ held_with h.fate h lane.held.items
@@ -249,7 +250,7 @@ lanes_came plan direction devices now second lane new h l later idle known place
           (order_with h.fate h lane.held.items refl (all_quiet lane.free plan.late_by second lane.held.items idle));
     }
   where
-    x : Heard
+    x : ReceivedPacket
     x = record { second = second; packet = h.packet }
 
     below : h.device < devices
@@ -310,7 +311,7 @@ lanes_unknown plan direction devices now second device packet lane new l later i
       in_order = subst AreInOrder (sym held) l.in_order;
     }
   where
-    x : Heard
+    x : ReceivedPacket
     x = record { second = second; packet = packet }
 
     h : Held

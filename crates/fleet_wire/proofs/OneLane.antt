@@ -10,12 +10,13 @@ use Rattle.std.proofs.lemmas.Option.{slice_get_within}
 use Rattle.lemmas.proofs.Lists.{each_pushed, each_weaker, item_pushed, length_pushed, pushed_cases, item_before}
 use Rattle.lemmas.proofs.Lists.{each_here}
 use Rattle.lemmas.proofs.Tests.{or_first}
-use Rattle.fleet_link.specs.Traffic.{Heard}
+use Rattle.fleet_link.specs.Traffic.{ReceivedPacket}
 use Rattle.fleet_wire.specs.declared.lane.Held.{Held}
 use Rattle.fleet_wire.specs.declared.plan.Fate.{Fate}
 use Rattle.fleet_wire.specs.declared.plan.Fate.TheVariants.{Late, Lost, Passes, Swapped, Twice}
 use Rattle.fleet_wire.specs.Schedule.{copies, goes_at_once}
-use Rattle.fleet_wire.specs.Lane.{held_with, is_due, is_over, Gone, IsAtOnce, IsRightAfter, IsGone, IsHeld, IsLane, IsOver}
+use Rattle.fleet_wire.specs.Lane.{held_with, is_due, is_over, ForwardedPacket, IsAtOnce, IsRightAfter, IsGone, IsHeld}
+use Rattle.fleet_wire.specs.Lane.{IsLane, IsOver}
 use Rattle.fleet_wire.proofs.Held.{each_without, Waits}
 
 -- ---- lists
@@ -26,13 +27,14 @@ each_both P Q R f [] h k = tt
 each_both P Q R f (x ∷ xs) h k = (f x h.0 k.0, each_both P Q R f xs h.1 k.1)
 
 -- how often a place is among those that went on
-abbrev gone_at : ℕ → Gone → ℕ
+abbrev gone_at : ℕ → ForwardedPacket → ℕ
 gone_at i w = cond (w.place == i) 1 0
 
 abbrev held_at : ℕ → Held → ℕ
 held_at i h = cond (h.place == i) 1 0
 
-none_gone : (i : ℕ) (went : List Gone) → ((k : ℕ) (w : Gone) → slice_get went k ≡ Some w → w.place ≡ i → ⊥)
+none_gone : (i : ℕ) (went : List ForwardedPacket)
+    → ((k : ℕ) (w : ForwardedPacket) → slice_get went k ≡ Some w → w.place ≡ i → ⊥)
     → sum_by (gone_at i) went ≡ 0
 none_gone i [] h = refl
 none_gone i (w ∷ went) h =
@@ -48,13 +50,13 @@ none_held i (x ∷ held) h =
     omega (arith, sum_by-cons (held_at i) x held, here, rest)
 
 -- one that is counted is there
-record IsAmong (i : ℕ) (went : List Gone) : Type 0 where
-  pub gone : Gone
+record IsAmong (i : ℕ) (went : List ForwardedPacket) : Type 0 where
+  pub gone : ForwardedPacket
   pub at : ℕ
   pub is : slice_get went at ≡ Some gone
   pub place : gone.place ≡ i
 
-some_gone : (i : ℕ) (went : List Gone) → 1 ≤ sum_by (gone_at i) went → IsAmong i went
+some_gone : (i : ℕ) (went : List ForwardedPacket) → 1 ≤ sum_by (gone_at i) went → IsAmong i went
 some_gone i [] h = absurd (omega (arith, h))
 some_gone i (w ∷ went) h = at (cases_eq w.place i) (some_gone i went)
   where
@@ -67,7 +69,8 @@ some_gone i (w ∷ went) h = at (cases_eq w.place i) (some_gone i went)
 
 -- ---- what is held
 
-pub held_later : (fate : ℕ → Fate) (now second : ℕ) (came : List Heard) (freed : Bool) → now ≤ second → (h : Held)
+pub held_later : (fate : ℕ → Fate) (now second : ℕ) (came : List ReceivedPacket) (freed : Bool) → now ≤ second
+    → (h : Held)
     → IsHeld fate now came freed h → IsHeld fate second came freed h
 held_later fate now second came freed later h is =
     record {
@@ -93,7 +96,8 @@ quiet Swapped freed over h = (refl, λ e. or_first freed over h)
 quiet Late freed over h = (refl, λ e. let no : ⊥ = cc in absurd no)
 quiet Passes freed over h = let no : ⊥ = cc in absurd no
 
-held_elsewhere : (fate : ℕ → Fate) (now second : ℕ) (came : List Heard) (freed : Bool) → now ≤ second → (h : Held)
+held_elsewhere : (fate : ℕ → Fate) (now second : ℕ) (came : List ReceivedPacket) (freed : Bool) → now ≤ second
+    → (h : Held)
     → IsHeld fate now came freed h → IsQuiet freed h → IsHeld fate second came false h
 held_elsewhere fate now second came freed later h is q =
     record {
@@ -113,7 +117,8 @@ held_elsewhere fate now second came freed later h is q =
 
 -- ---- a second passes, or a datagram comes of another device
 
-pub lane_later : (fate : ℕ → Fate) (late_by now second : ℕ) (came : List Heard) (went : List Gone) (held : List Held)
+pub lane_later : (fate : ℕ → Fate) (late_by now second : ℕ) (came : List ReceivedPacket) (went : List ForwardedPacket)
+    (held : List Held)
     (freed : Bool) → now ≤ second → IsLane fate late_by now came went held freed
     → IsLane fate late_by second came went held freed
 lane_later fate late_by now second came went held freed later l =
@@ -127,7 +132,8 @@ lane_later fate late_by now second came went held freed later l =
       last = l.last;
     }
 
-pub lane_elsewhere : (fate : ℕ → Fate) (late_by now second : ℕ) (came : List Heard) (went : List Gone)
+pub lane_elsewhere : (fate : ℕ → Fate) (late_by now second : ℕ) (came : List ReceivedPacket)
+    (went : List ForwardedPacket)
     (held : List Held) (freed : Bool) → now ≤ second → IsLane fate late_by now came went held freed
     → AllByRecursion (IsQuiet freed) held → IsLane fate late_by second came went held false
 lane_elsewhere fate late_by now second came went held freed later l q =
@@ -174,14 +180,15 @@ each_with P Late h xs p all = each_pushed P xs h all p
 each_with P Passes h xs p all = (p, all)
 
 -- what is asked of a datagram that is to be held: it is this one, the last that came
-pub record IsNew (fate : ℕ → Fate) (second : ℕ) (came : List Heard) (x : Heard) (h : Held) : Type 0 where
+pub record IsNew (fate : ℕ → Fate) (second : ℕ) (came : List ReceivedPacket) (x : ReceivedPacket)
+    (h : Held) : Type 0 where
   pub place : h.place ≡ length came
   pub same : h.packet ≡ x.packet
   pub when : h.second ≡ x.second
   pub until : x.second ≤ second
   pub fate_is : h.fate ≡ fate (length came)
 
-held_new : (fate : ℕ → Fate) (second : ℕ) (came : List Heard) (x : Heard) (h : Held) (freed : Bool)
+held_new : (fate : ℕ → Fate) (second : ℕ) (came : List ReceivedPacket) (x : ReceivedPacket) (h : Held) (freed : Bool)
     → IsNew fate second came x h → IsHeld fate second (came ++ x ∷ []) freed h
 held_new fate second came x h freed n =
     record {
@@ -195,7 +202,8 @@ held_new fate second came x h freed n =
       waits = λ _ q a b _. absurd (omega (arith, n.place, length_pushed came x, a, b));
     }
 
-held_behind : (fate : ℕ → Fate) (now second : ℕ) (came : List Heard) (x : Heard) (freed : Bool) → now ≤ second
+held_behind : (fate : ℕ → Fate) (now second : ℕ) (came : List ReceivedPacket) (x : ReceivedPacket) (freed : Bool)
+    → now ≤ second
     → (h : Held) → IsHeld fate now came freed h → IsQuiet freed h
     → IsHeld fate second (came ++ x ∷ []) (goes_at_once (fate (length came))) h
 held_behind fate now second came x freed later h is q =
@@ -222,8 +230,9 @@ held_behind fate now second came x freed later h is q =
         let never : ⊥ = cc in
         absurd never
 
-pub lane_comes : (fate : ℕ → Fate) (late_by now second : ℕ) (came : List Heard) (went : List Gone) (held : List Held)
-    (freed : Bool) (x : Heard) (h : Held) → now ≤ second → IsLane fate late_by now came went held freed
+pub lane_comes : (fate : ℕ → Fate) (late_by now second : ℕ) (came : List ReceivedPacket) (went : List ForwardedPacket)
+    (held : List Held)
+    (freed : Bool) (x : ReceivedPacket) (h : Held) → now ≤ second → IsLane fate late_by now came went held freed
     → AllByRecursion (IsQuiet freed) held → IsNew fate second came x h
     → IsLane fate late_by second (came ++ x ∷ []) went (held_with h.fate h held) (goes_at_once h.fate)
 lane_comes fate late_by now second came went held freed x h later l q n =
@@ -241,7 +250,7 @@ lane_comes fate late_by now second came went held freed x h later l q n =
       last = λ e. record { place = length came; last = omega (arith, length_pushed came x); at_once = e };
     })
   where
-    still : {w : Gone} → IsGone fate late_by came w → IsGone fate late_by (came ++ x ∷ []) w
+    still : {w : ForwardedPacket} → IsGone fate late_by came w → IsGone fate late_by (came ++ x ∷ []) w
     still {w} g =
         record {
           heard = g.heard;
@@ -251,7 +260,7 @@ lane_comes fate late_by now second came went held freed x h later l q n =
           late = g.late;
         }
 
-    over : (k : ℕ) (w : Gone) → IsOver late_by came w ⊎ IsRightAfter fate went k w
+    over : (k : ℕ) (w : ForwardedPacket) → IsOver late_by came w ⊎ IsRightAfter fate went k w
         → IsOver late_by (came ++ x ∷ []) w ⊎ IsRightAfter fate went k w
     over k w (inl o) =
         inl (record { heard = o.heard; is = item_before came x w.place o.heard o.is; over = o.over })
@@ -282,10 +291,11 @@ lane_comes fate late_by now second came went held freed x h later l q n =
 -- ---- a datagram goes on
 
 -- the one that goes on, as it is noted
-abbrev pub gone_of : ℕ → Held → Gone
+abbrev pub gone_of : ℕ → Held → ForwardedPacket
 gone_of second h = record { place = h.place; second = second; packet = h.packet }
 
-own_gone : (fate : ℕ → Fate) (late_by now second : ℕ) (came : List Heard) (freed : Bool) (h : Held) → now ≤ second
+own_gone : (fate : ℕ → Fate) (late_by now second : ℕ) (came : List ReceivedPacket) (freed : Bool) (h : Held)
+    → now ≤ second
     → IsHeld fate now came freed h → is_due h.fate freed (is_over late_by h.second second) ≡ true
     → IsGone fate late_by came (gone_of second h)
 own_gone fate late_by now second came freed h later is due =
@@ -306,7 +316,8 @@ own_gone fate late_by now second came freed h later is due =
         grind (arith, nat_tests)
 
 -- a place whose datagram goes on at once, with all held ones waiting, is among those that went on
-sent_once : (fate : ℕ → Fate) (late_by now : ℕ) (came : List Heard) (went : List Gone) (held : List Held) (freed : Bool)
+sent_once : (fate : ℕ → Fate) (late_by now : ℕ) (came : List ReceivedPacket) (went : List ForwardedPacket)
+    (held : List Held) (freed : Bool)
     (q : ℕ) → IsLane fate late_by now came went held freed → AllByRecursion Waits held → q < length came
     → goes_at_once (fate q) ≡ true → IsAmong q went
 sent_once fate late_by now came went held freed q l waits below once =
@@ -331,7 +342,8 @@ split_or : (a b : Bool) → is_due Swapped a b ≡ true → (b ≡ true) ⊎ (a 
 split_or true b e = inr refl
 split_or false b e = inl e
 
-own_swapped : (fate : ℕ → Fate) (late_by now second : ℕ) (came : List Heard) (went : List Gone) (held : List Held)
+own_swapped : (fate : ℕ → Fate) (late_by now second : ℕ) (came : List ReceivedPacket) (went : List ForwardedPacket)
+    (held : List Held)
     (freed : Bool) (h : Held) → now ≤ second → IsLane fate late_by now came went held freed
     → IsHeld fate now came freed h → is_due h.fate freed (is_over late_by h.second second) ≡ true
     → (goes_at_once h.fate ≡ false → AllByRecursion Waits held) → fate h.place ≡ Swapped
@@ -348,7 +360,7 @@ own_swapped fate late_by now second came went held freed h later l is due order 
     free once = behind_it once
         (sent_once fate late_by now came went held freed once.place l waits (omega (arith, once.last)) once.at_once)
       where
-        alone : (once : IsAtOnce fate came) (j : ℕ) (v : Gone) → j < length went
+        alone : (once : IsAtOnce fate came) (j : ℕ) (v : ForwardedPacket) → j < length went
             → (slice_get went j ≡ Some v) ⊎ ((j ≡ length went) × (gone_of second h ≡ v))
             → goes_at_once (fate v.place) ≡ true → h.place < v.place → v.place ≡ once.place
         alone once j v below (inl old) once_v after =
@@ -386,7 +398,8 @@ own_swapped fate late_by now second came went held freed h later l is due order 
         inl (record { heard = is.heard; is = is.is; over = grind (arith, nat_tests) })
     at (inr is) = inr (free (l.last is))
 
-behind_still : (fate : ℕ → Fate) (went : List Gone) (new : Gone) (k : ℕ) (w : Gone) → slice_get went k ≡ Some w
+behind_still : (fate : ℕ → Fate) (went : List ForwardedPacket) (new : ForwardedPacket) (k : ℕ) (w : ForwardedPacket)
+    → slice_get went k ≡ Some w
     → IsRightAfter fate went k w → IsRightAfter fate (went ++ new ∷ []) k w
 behind_still fate went new k w got b =
     record {
@@ -399,12 +412,12 @@ behind_still fate went new k w got b =
       alone = λ j v below found once_v after. alone j v below (pushed_cases went new j v found) once_v after;
     }
   where
-    alone : (j : ℕ) (v : Gone) → j < k → (slice_get went j ≡ Some v) ⊎ ((j ≡ length went) × (new ≡ v))
+    alone : (j : ℕ) (v : ForwardedPacket) → j < k → (slice_get went j ≡ Some v) ⊎ ((j ≡ length went) × (new ≡ v))
         → goes_at_once (fate v.place) ≡ true → w.place < v.place → v.place ≡ b.next.place
     alone j v below (inl old) once_v after = b.alone j v below old once_v after
     alone j v below (inr is) once_v after = absurd (omega (arith, below, is.0, slice_get_within went k w got))
 
-pub lane_goes : (fate : ℕ → Fate) (late_by now second : ℕ) (came : List Heard) (went : List Gone)
+pub lane_goes : (fate : ℕ → Fate) (late_by now second : ℕ) (came : List ReceivedPacket) (went : List ForwardedPacket)
     (front : List Held) (h : Held) (back : List Held) (freed : Bool) → now ≤ second
     → IsLane fate late_by now came went (front ++ h ∷ back) freed
     → is_due h.fate freed (is_over late_by h.second second) ≡ true
@@ -427,7 +440,7 @@ lane_goes fate late_by now second came went front h back freed later l due order
     is : IsHeld fate now came freed h
     is = each_here (IsHeld fate now came freed) front h back l.waiting
 
-    gone : (k : ℕ) (w : Gone) → (slice_get went k ≡ Some w) ⊎ ((k ≡ length went) × (gone_of second h ≡ w))
+    gone : (k : ℕ) (w : ForwardedPacket) → (slice_get went k ≡ Some w) ⊎ ((k ≡ length went) × (gone_of second h ≡ w))
         → IsGone fate late_by came w
     gone k w (inl old) = l.gone k w old
     gone k w (inr new) =
@@ -442,7 +455,7 @@ lane_goes fate late_by now second came went front h back freed later l due order
         let d = sum_by-append (held_at i) front back in
         omega (arith, a, b, c, d, e)
 
-    ordered : (j k : ℕ) (v w : Gone) → j < k
+    ordered : (j k : ℕ) (v w : ForwardedPacket) → j < k
         → (slice_get went j ≡ Some v) ⊎ ((j ≡ length went) × (gone_of second h ≡ v))
         → (slice_get went k ≡ Some w) ⊎ ((k ≡ length went) × (gone_of second h ≡ w))
         → goes_at_once (fate v.place) ≡ true → goes_at_once (fate w.place) ≡ true → v.place ≤ w.place
@@ -450,7 +463,7 @@ lane_goes fate late_by now second came went front h back freed later l due order
     ordered j k v w below (inl a) (inr new) once_v once_w =
         let g = l.gone j v a in
         let in_range = slice_get_within came v.place g.heard g.is in
-        let place : h.place ≡ w.place = ap (λ (x : Gone). x.place) new.1 in
+        let place : h.place ≡ w.place = ap (λ (x : ForwardedPacket). x.place) new.1 in
         let once : goes_at_once h.fate ≡ true =
         ap goes_at_once (is.fate_is ∙ ap fate place) ∙ once_w in
         omega (arith, in_range, is.last once, place)
@@ -458,7 +471,7 @@ lane_goes fate late_by now second came went front h back freed later l due order
         absurd (omega (arith, below, a.0, slice_get_within went k w b))
     ordered j k v w below (inr a) (inr b) once_v once_w = absurd (omega (arith, below, a.0, b.0))
 
-    swapped : (k : ℕ) (w : Gone) → (slice_get went k ≡ Some w) ⊎ ((k ≡ length went) × (gone_of second h ≡ w))
+    swapped : (k : ℕ) (w : ForwardedPacket) → (slice_get went k ≡ Some w) ⊎ ((k ≡ length went) × (gone_of second h ≡ w))
         → fate w.place ≡ Swapped → IsOver late_by came w ⊎ IsRightAfter fate (went ++ gone_of second h ∷ []) k w
     swapped k w (inl old) s = still (l.swapped k w old s)
       where
@@ -467,8 +480,9 @@ lane_goes fate late_by now second came went front h back freed later l due order
         still (inl o) = inl o
         still (inr b) = inr (behind_still fate went (gone_of second h) k w old b)
     swapped k w (inr new) s =
-        subst (λ (x : Gone). IsOver late_by came x ⊎ IsRightAfter fate (went ++ gone_of second h ∷ []) k x) new.1
+        subst (λ (x : ForwardedPacket). IsOver late_by came x ⊎ IsRightAfter fate (went ++ gone_of second h ∷ []) k x)
+        new.1
         (subst (λ i. IsOver late_by came (gone_of second h)
         ⊎ IsRightAfter fate (went ++ gone_of second h ∷ []) i (gone_of second h)) (sym new.0)
         (own_swapped fate late_by now second came went (front ++ h ∷ back) freed h later l is due order
-        (ap (λ (x : Gone). fate x.place) new.1 ∙ s)))
+        (ap (λ (x : ForwardedPacket). fate x.place) new.1 ∙ s)))

@@ -3,8 +3,8 @@ use Rattle.std.proofs.Common.{◌≡◌, ℕ, ◌+◌, ◌≤◌, ◌==◌, Bool
 use Rattle.std.proofs.Common.{Ok, Err, IfErr, OnOk}
 use Rattle.std.proofs.Common.{refl, sym, ap, subst, ◌∙◌, append-nil, add-zero, arith}
 use Rattle.live_link.specs.declared.packet.Packet.{Packet}
-use Rattle.fleet_link.specs.Traffic.{Carries, Heard, Traffic, at_port, failed_once, handed_at, no_traffic, sent_all}
-use Rattle.fleet_link.specs.Traffic.{traffic_and}
+use Rattle.fleet_link.specs.Traffic.{Carries, ReceivedPacket, Traffic, at_port, failed_once, handed_at, no_traffic}
+use Rattle.fleet_link.specs.Traffic.{sent_all, traffic_and}
 use Rattle.fleet_link.proofs.Told.{carries_both, carries_none, carries_same}
 use Rattle.fleet_link.specs.declared.ports.PortsFault.{PortsFault}
 use Rattle.fleet_link.specs.declared.ports.Receipt.{Receipt}
@@ -14,7 +14,7 @@ use Rattle.fleet_wire.proofs.Lanes.{lanes_later}
 use Rattle.fleet_wire.specs.declared.plan.Direction.TheVariants.{In, Out}
 use Rattle.fleet_wire.specs.declared.plan.Plan.{Plan}
 use Rattle.fleet_wire.specs.declared.wire.Wire.{Wire}
-use Rattle.fleet_wire.specs.Lane.{came_by, of_device, went_by, AreLanes, Gone, IsIdle}
+use Rattle.fleet_wire.specs.Lane.{came_by, of_device, went_by, AreLanes, ForwardedPacket, IsIdle}
 use Rattle.fleet_wire.specs.declared.note.Note.{Note}
 use Rattle.fleet_wire.specs.Noting.{noted_with, notes_by, notes_going}
 use Rattle.fleet_wire.specs.Wire.{all_notes, failures_by, far_end, packet_of, AreNoted, IsQuietUnless, IsWhole, IsWired}
@@ -22,34 +22,35 @@ use Rattle.fleet_wire.proofs.Notes.{noted_in, noted_out, noted_same}
 
 -- ---- traffic
 
-abbrev parts : List Heard → List Packet → ℕ → Traffic
+abbrev parts : List ReceivedPacket → List Packet → ℕ → Traffic
 parts h s f = record { handed = h; sent = s; failures = f }
 
-same_parts : (h k : List Heard) (s t : List Packet) (f g : ℕ) → h ≡ k → s ≡ t → f ≡ g → parts h s f ≡ parts k t g
+same_parts : (h k : List ReceivedPacket) (s t : List Packet) (f g : ℕ) → h ≡ k → s ≡ t → f ≡ g
+    → parts h s f ≡ parts k t g
 same_parts h k s t f g a b c = cc
 
-and_handed : (b : Bool) (h : List Heard) (s : List Packet) (f second : ℕ) (packet : Packet)
+and_handed : (b : Bool) (h : List ReceivedPacket) (s : List Packet) (f second : ℕ) (packet : Packet)
     → traffic_and (parts h s f) (cond b (handed_at second packet) no_traffic)
     ≡ parts (h ++ cond b (record { second = second; packet = packet } ∷ []) []) s f
 and_handed true h s f second packet =
-    let one : Heard = record { second = second; packet = packet } in
+    let one : ReceivedPacket = record { second = second; packet = packet } in
     same_parts (h ++ one ∷ []) (h ++ one ∷ []) (s ++ []) s (f + 0) f refl (append-nil s) (add-zero f)
 and_handed false h s f second packet =
     same_parts (h ++ []) (h ++ []) (s ++ []) s (f + 0) f refl (append-nil s) (add-zero f)
 
-and_sent : (b : Bool) (h : List Heard) (s : List Packet) (f : ℕ) (packet : Packet)
+and_sent : (b : Bool) (h : List ReceivedPacket) (s : List Packet) (f : ℕ) (packet : Packet)
     → traffic_and (parts h s f) (cond b (sent_all (packet ∷ [])) no_traffic) ≡ parts h (s ++ cond b (packet ∷ []) []) f
 and_sent true h s f packet =
     same_parts (h ++ []) h (s ++ packet ∷ []) (s ++ packet ∷ []) (f + 0) f (append-nil h) refl (add-zero f)
 and_sent false h s f packet =
     same_parts (h ++ []) h (s ++ []) (s ++ []) (f + 0) f (append-nil h) refl (add-zero f)
 
-and_failed : (b : Bool) (h : List Heard) (s : List Packet) (f : ℕ)
+and_failed : (b : Bool) (h : List ReceivedPacket) (s : List Packet) (f : ℕ)
     → traffic_and (parts h s f) (cond b failed_once no_traffic) ≡ parts h s (f + cond b 1 0)
 and_failed true h s f = same_parts (h ++ []) h (s ++ []) s (f + 1) (f + 1) (append-nil h) (append-nil s) refl
 and_failed false h s f = same_parts (h ++ []) h (s ++ []) s (f + 0) (f + 0) (append-nil h) (append-nil s) refl
 
-map_more : (b : Bool) (went : List Gone) (w : Gone)
+map_more : (b : Bool) (went : List ForwardedPacket) (w : ForwardedPacket)
     → map packet_of (went ++ cond b (w ∷ []) []) ≡ map packet_of went ++ cond b (w.packet ∷ []) []
 map_more true [] w = refl
 map_more false [] w = refl
@@ -78,7 +79,7 @@ far_came wire new d second packet e came went calls =
     (map packet_of (went_by new.outgoing.log e)) (failures_by wire.calls e) (failures_by new.calls e) (sym came)
     (ap (map packet_of) (sym went)) (ap (λ k. failures_by k e) (sym calls))
 
-pub far_went : (wire new : Wire) (d : ℕ) (w : Gone) (e : ℕ)
+pub far_went : (wire new : Wire) (d : ℕ) (w : ForwardedPacket) (e : ℕ)
     → came_by new.incoming.log e ≡ came_by wire.incoming.log e
     → went_by new.outgoing.log e ≡ went_by wire.outgoing.log e ++ of_device d e w → new.calls ≡ wire.calls
     → traffic_and (far_end wire e) (at_port d e (sent_all (w.packet ∷ []))) ≡ far_end new e

@@ -1,6 +1,6 @@
 -- How often the wire did what.
 use Rattle.std.specs.Prelude.{◌≡◌, ℕ, Bool, true, false, List, count_by}
-use Rattle.fleet_link.specs.Counting.{counted}
+use Rattle.fleet_link.specs.Counting.{saturated_count}
 use Rattle.fleet_wire.specs.declared.happened.Happened.{Happened}
 use Rattle.fleet_wire.specs.declared.note.Note.{Note}
 use Rattle.fleet_wire.specs.declared.plan.Fate.{Fate}
@@ -38,8 +38,8 @@ is_late Passes = false
 abbrev pub happened_in : List Note → Happened
 happened_in notes =
     record {
-      lost = counted (count_by (λ (n : Note). is_lost n.fate) notes);
-      twice = counted (count_by (λ (n : Note). is_twice n.fate) notes);
-      swapped = counted (count_by (λ (n : Note). is_swapped n.fate) notes);
-      late = counted (count_by (λ (n : Note). is_late n.fate) notes);
+      lost = saturated_count (count_by (λ (n : Note). is_lost n.fate) notes);
+      twice = saturated_count (count_by (λ (n : Note). is_twice n.fate) notes);
+      swapped = saturated_count (count_by (λ (n : Note). is_swapped n.fate) notes);
+      late = saturated_count (count_by (λ (n : Note). is_late n.fate) notes);
     }

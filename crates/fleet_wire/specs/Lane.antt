@@ -4,7 +4,7 @@ use Rattle.std.specs.Prelude.{if◌then◌else◌}
 use Rattle.std.specs.Prelude.{List, [], ◌∷◌, ◌++◌, Option, None, Some, filter, length, slice_get, slice_index, count_by}
 use Rattle.std.specs.List.{AllByRecursion}
 use Rattle.live_link.specs.declared.packet.Packet.{Packet}
-use Rattle.fleet_link.specs.Traffic.{Heard}
+use Rattle.fleet_link.specs.Traffic.{ReceivedPacket}
 use Rattle.fleet_wire.specs.declared.lane.Held.{Held}
 use Rattle.fleet_wire.specs.declared.lane.Lane.{Lane}
 use Rattle.fleet_wire.specs.declared.lane.Log.{Log, Begun, Came', Went'}
@@ -21,20 +21,20 @@ abbrev pub of_device : {X : Type 0} → ℕ → ℕ → X → List X
 of_device device e x = if device == e then x ∷ [] else []
 
 -- a datagram that went on: its place among those of its device that came, the second, and what it was
-pub record Gone : Type 0 where
+pub record ForwardedPacket : Type 0 where
   pub place : ℕ
   pub second : ℕ
   pub packet : Packet
 
 -- what came of a device, in order, each with its second
-abbrev pub came_by : Log → ℕ → List Heard
+abbrev pub came_by : Log → ℕ → List ReceivedPacket
 came_by Begun e = []
 came_by (Came' at before device second packet) e =
     came_by before e ++ of_device device.value e (record { second = second.value; packet = packet.value })
 came_by (Went' at before device place second packet) e = came_by before e
 
 -- what went on of a device, in order
-abbrev pub went_by : Log → ℕ → List Gone
+abbrev pub went_by : Log → ℕ → List ForwardedPacket
 went_by Begun e = []
 went_by (Came' at before device second packet) e = went_by before e
 went_by (Went' at before device place second packet) e =
@@ -43,7 +43,7 @@ went_by (Went' at before device place second packet) e =
     (record { place = place.value; second = second.value; packet = packet.value })
 
 -- what a datagram that goes on at this second adds, if one does
-abbrev pub gone_with : ℕ → Option Held → ℕ → List Gone
+abbrev pub gone_with : ℕ → Option Held → ℕ → List ForwardedPacket
 gone_with second None e = []
 gone_with second (Some h) e =
     of_device h.device e (record { place = h.place; second = second; packet = h.packet })
@@ -100,35 +100,35 @@ pub record IsFirst (test : Held → Bool) (all : List Held) (h : Held) (others :
 -- ---- one device
 
 -- What went on is one of the datagrams that came, the same, and not earlier; one that is late, only after its seconds.
-pub record IsGone (fate : ℕ → Fate) (late_by : ℕ) (came : List Heard) (w : Gone) : Type 0 where
-  pub heard : Heard
+pub record IsGone (fate : ℕ → Fate) (late_by : ℕ) (came : List ReceivedPacket) (w : ForwardedPacket) : Type 0 where
+  pub heard : ReceivedPacket
   pub is : slice_get came w.place ≡ Some heard
   pub same : w.packet ≡ heard.packet
   pub later : heard.second ≤ w.second
   pub late : fate w.place ≡ Late → heard.second + late_by ≤ w.second
 
 -- it went on after its seconds
-pub record IsOver (late_by : ℕ) (came : List Heard) (w : Gone) : Type 0 where
-  pub heard : Heard
+pub record IsOver (late_by : ℕ) (came : List ReceivedPacket) (w : ForwardedPacket) : Type 0 where
+  pub heard : ReceivedPacket
   pub is : slice_get came w.place ≡ Some heard
   pub over : heard.second + late_by ≤ w.second
 
 -- The one that went on as number k went after the next datagram, of those that came after it, that goes on at once:
 -- no other one of these went in between.
-pub record IsRightAfter (fate : ℕ → Fate) (went : List Gone) (k : ℕ) (w : Gone) : Type 0 where
-  pub next : Gone
+pub record IsRightAfter (fate : ℕ → Fate) (went : List ForwardedPacket) (k : ℕ) (w : ForwardedPacket) : Type 0 where
+  pub next : ForwardedPacket
   pub at : ℕ
   pub before : at < k
   pub is : slice_get went at ≡ Some next
   pub at_once : goes_at_once (fate next.place) ≡ true
   pub after : w.place < next.place
-  pub alone : (j : ℕ) (v : Gone) → j < k → slice_get went j ≡ Some v → goes_at_once (fate v.place) ≡ true
+  pub alone : (j : ℕ) (v : ForwardedPacket) → j < k → slice_get went j ≡ Some v → goes_at_once (fate v.place) ≡ true
       → w.place < v.place → v.place ≡ next.place
 
 -- What is held is one of those that came. If it goes on at once, it came last. If it waits for the next one, none that
 -- goes on at once has come after it, unless that came last and it goes now.
-pub record IsHeld (fate : ℕ → Fate) (now : ℕ) (came : List Heard) (freed : Bool) (h : Held) : Type 0 where
-  pub heard : Heard
+pub record IsHeld (fate : ℕ → Fate) (now : ℕ) (came : List ReceivedPacket) (freed : Bool) (h : Held) : Type 0 where
+  pub heard : ReceivedPacket
   pub is : slice_get came h.place ≡ Some heard
   pub same : h.packet ≡ heard.packet
   pub second : h.second ≡ heard.second
@@ -139,20 +139,21 @@ pub record IsHeld (fate : ℕ → Fate) (now : ℕ) (came : List Heard) (freed :
       → (q + 1 ≡ length came) × (freed ≡ true)
 
 -- the datagram that came last goes on at once
-pub record IsAtOnce (fate : ℕ → Fate) (came : List Heard) : Type 0 where
+pub record IsAtOnce (fate : ℕ → Fate) (came : List ReceivedPacket) : Type 0 where
   pub place : ℕ
   pub last : place + 1 ≡ length came
   pub at_once : goes_at_once (fate place) ≡ true
 
 -- Of the datagrams that came, each with a fate by its place, these went on, and these are held.
-pub record IsLane (fate : ℕ → Fate) (late_by now : ℕ) (came : List Heard) (went : List Gone) (held : List Held)
+pub record IsLane (fate : ℕ → Fate) (late_by now : ℕ) (came : List ReceivedPacket) (went : List ForwardedPacket)
+    (held : List Held)
     (freed : Bool) : Type 0 where
-  pub gone : (k : ℕ) (w : Gone) → slice_get went k ≡ Some w → IsGone fate late_by came w
+  pub gone : (k : ℕ) (w : ForwardedPacket) → slice_get went k ≡ Some w → IsGone fate late_by came w
   pub often : (i : ℕ) → i < length came
       → count_by (λ w. w.place == i) went + count_by (λ h. h.place == i) held ≡ copies (fate i)
-  pub ordered : (j k : ℕ) (v w : Gone) → j < k → slice_get went j ≡ Some v → slice_get went k ≡ Some w
+  pub ordered : (j k : ℕ) (v w : ForwardedPacket) → j < k → slice_get went j ≡ Some v → slice_get went k ≡ Some w
       → goes_at_once (fate v.place) ≡ true → goes_at_once (fate w.place) ≡ true → v.place ≤ w.place
-  pub swapped : (k : ℕ) (w : Gone) → slice_get went k ≡ Some w → fate w.place ≡ Swapped
+  pub swapped : (k : ℕ) (w : ForwardedPacket) → slice_get went k ≡ Some w → fate w.place ≡ Swapped
       → IsOver late_by came w ⊎ IsRightAfter fate went k w
   pub waiting : AllByRecursion (IsHeld fate now came freed) held
   pub last : freed ≡ true → IsAtOnce fate came

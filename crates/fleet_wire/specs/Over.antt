@@ -12,7 +12,7 @@ abbrev pub new_ports : ℕ → Option Traffic
 new_ports e = Some no_traffic
 
 -- what is fixed of a wire on ports over UDP, and the notes that were taken of it
-pub record Fixed : Type 0 where
+pub record FixedWire : Type 0 where
   pub plan : Plan
   pub devices : ℕ
   pub taken : List Note

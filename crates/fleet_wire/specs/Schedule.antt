@@ -31,8 +31,8 @@ abbrev pub stream_of : Direction → Kind → ℕ → ℕ
 stream_of direction kind device = device % 2 ^ 59 * 8 + (lane_of direction + place_of kind)
 
 -- the word drawn for a datagram: of the words of its stream of Pcg32, the one with its number, the first being 1
-unfoldable pub drawn : ℕ → Direction → Kind → ℕ → ℕ → ℕ
-drawn seed direction kind device number =
+unfoldable pub drawn_word : ℕ → Direction → Kind → ℕ → ℕ → ℕ
+drawn_word seed direction kind device number =
     output_xsh_rr (advance 64 multiplier_64 (number - 1)
     (started 64 multiplier_64 seed (increment_of 64 (stream_of direction kind device)))).state
 
@@ -48,7 +48,8 @@ is_drawn percent word = nat_lt (word * 100) (percent * 2 ^ 32)
 -- whether a choice chooses the datagram of this number
 abbrev pub chooses : ℕ → Choice → Direction → Kind → ℕ → ℕ → Bool
 chooses seed Never direction kind device number = false
-chooses seed (Share percent) direction kind device number = is_drawn percent (drawn seed direction kind device number)
+chooses seed (Share percent) direction kind device number =
+    is_drawn percent (drawn_word seed direction kind device number)
 chooses seed (Listed spans) direction kind device number = list_any (is_in number) spans.items
 
 -- ---- fates

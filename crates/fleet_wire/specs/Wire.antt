@@ -6,13 +6,13 @@ use Rattle.fleet_link.specs.declared.ports.Arrival.{Arrival}
 use Rattle.fleet_link.specs.declared.ports.PortsFault.{PortsFault}
 use Rattle.fleet_link.specs.declared.ports.Receipt.{Receipt}
 use Rattle.fleet_link.specs.declared.ports.Receipt.TheVariants.{Arrived, Dropped, Failed, Nothing}
-use Rattle.fleet_link.specs.Traffic.{Carries, Heard, Traffic}
+use Rattle.fleet_link.specs.Traffic.{Carries, ReceivedPacket, Traffic}
 use Rattle.fleet_wire.specs.declared.plan.Direction.TheVariants.{In, Out}
 use Rattle.fleet_wire.specs.declared.plan.Plan.{Plan}
 use Rattle.fleet_wire.specs.declared.wire.Calls.{Calls, Begun, Asked', Failed'}
 use Rattle.fleet_wire.specs.declared.wire.Wire.{Wire}
 use Rattle.fleet_wire.specs.declared.note.Note.{Note}
-use Rattle.fleet_wire.specs.Lane.{came_by, went_by, AreLanes, Gone, IsIdle}
+use Rattle.fleet_wire.specs.Lane.{came_by, went_by, AreLanes, ForwardedPacket, IsIdle}
 use Rattle.fleet_wire.specs.Noting.{notes_by, notes_going, taken_in}
 
 -- how often the port of a device failed
@@ -27,13 +27,13 @@ seconds_by Begun = []
 seconds_by (Asked' at before second) = seconds_by before ++ second.value ∷ []
 seconds_by (Failed' at before device) = seconds_by before
 
-abbrev pub heard_of : Gone → Heard
+abbrev pub heard_of : ForwardedPacket → ReceivedPacket
 heard_of w = record { second = w.second; packet = w.packet }
 
-abbrev pub packet_of : Gone → Packet
+abbrev pub packet_of : ForwardedPacket → Packet
 packet_of w = w.packet
 
-abbrev pub packet_in : Heard → Packet
+abbrev pub packet_in : ReceivedPacket → Packet
 packet_in x = x.packet
 
 -- what went through a wire at the end of a device: what went on to it, and what came from it

@@ -5,9 +5,9 @@ use Rattle.fleet_link.specs.Traffic.{Traffic}
 use Rattle.fleet_link.specs.Udp.{fixed_over_udp}
 use Rattle.fleet_wire.specs.declared.wired.WiredPorts.{WiredPorts}
 use Rattle.fleet_wire.specs.Noting.{taken_in}
-use Rattle.fleet_wire.specs.Over.{Fixed}
+use Rattle.fleet_wire.specs.Over.{FixedWire}
 
-abbrev pub fixed_on : WiredPorts → Fixed
+abbrev pub fixed_on : WiredPorts → FixedWire
 fixed_on wired =
     record {
       plan = wired.lossy.wire.plan;

@@ -2,7 +2,8 @@
 //! the number of the datagram, and of nothing else.
 ghost use Rattle.std.specs.Prelude.{◌≡◌};
 ghost use Rattle.std.specs.List.{list_any};
-ghost use Rattle.fleet_wire.specs.Schedule.{chooses, drawn, fate_of, goes_at_once, is_drawn, is_in, lost_by, stream_of};
+ghost use Rattle.fleet_wire.specs.Schedule.{chooses, drawn_word, fate_of, goes_at_once, is_drawn, is_in, lost_by};
+ghost use Rattle.fleet_wire.specs.Schedule.{stream_of};
 
 use crate::choice::{Choice, Span};
 use rand_core::utils::NextWord;
@@ -97,9 +98,9 @@ fn is_in(spans: &[Span], number: u64) -> bool
 
 impl Plan {
     /// The word that is drawn for a datagram.
-    #[tactic(auto, unfolding(crate::specs::Schedule::drawn))]
+    #[tactic(auto, unfolding(crate::specs::Schedule::drawn_word))]
     fn draw(&self, direction: Direction, kind: Kind, device: usize, number: u64) -> u32
-        ensures { result ≡ drawn self.now.seed direction kind device number }
+        ensures { result ≡ drawn_word self.now.seed direction kind device number }
     {
         let mut words = Pcg32::new(self.seed, stream_of(direction, kind, device));
         words.advance(number.saturating_sub(1));

@@ -93,7 +93,7 @@ impl Ports for WiredPorts {
     ghost use Rattle.std.specs.Prelude.{◌≡◌, ◌∷◌, [], ℕ, OnOk};
     ghost use Rattle.live_link.specs.Wire.{AreRead};
     ghost use Rattle.fleet_link.specs.Traffic.{Carries, no_traffic, traffic_of_receipt};
-    ghost use Rattle.fleet_wire.specs.Over.{Fixed as OnWire};
+    ghost use Rattle.fleet_wire.specs.Over.{FixedWire as OnWire};
     ghost use Rattle.fleet_wire.specs.Wire.{asked_by, told_by};
     ghost use Rattle.fleet_wire.specs.Wired.{fixed_on};
 

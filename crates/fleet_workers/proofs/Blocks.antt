@@ -12,15 +12,15 @@ use Rattle.trace_file.specs.declared.entry.Entry.{Entry}
 use Rattle.fleet_core.specs.Run.{IsRun, is_enabled}
 use Rattle.ticket_lock.specs.Log.{Adds, Begins}
 use Rattle.ticket_lock.specs.Lock.{HasNumber}
-use Rattle.ticket_lock.specs.Changes.{given, ended}
+use Rattle.ticket_lock.specs.Changes.{view_after_give, with_end_seen}
 use Rattle.ticket_lock.proofs.Logs.{begins_both, every_one}
 use Rattle.shared_trace.specs.declared.claims.Claim.{Claim}
 use Rattle.shared_trace.specs.declared.claims.Claim.TheVariants.{Got, Busy, Done, Stalled, Stopped}
-use Rattle.shared_trace.specs.Trace.{Traced, trace_log}
+use Rattle.shared_trace.specs.Trace.{TraceModel, trace_log}
 use Rattle.shared_trace.specs.Job.{Task, IsOf, Advances}
 use Rattle.shared_trace.specs.Claims.{Claims}
 use Rattle.fleet_workers.specs.Blocks.{own_entries, IsBlock, IsPut, HasMade, AreMade, HasPut}
-use Rattle.fleet_workers.specs.Knowing.{Seen, Follows, Knows}
+use Rattle.fleet_workers.specs.Knowing.{PassView, Follows, Knows}
 use Rattle.fleet_workers.proofs.Following.{some_is}
 
 pub own-append : (w : ℕ) (a b : List Entry) → own_entries w (a ++ b) ≡ own_entries w a ++ own_entries w b
@@ -34,7 +34,7 @@ own_all w (e ∷ es) h =
     ∙ ap (λ l. e ∷ l) (own_all w es h.1)
 
 -- a claim leaves the entries
-pub claim_leaves : (x y : Traced) (w : ℕ) (claim : Claim) → Claims x y w claim → y.entries ≡ x.entries
+pub claim_leaves : (x y : TraceModel) (w : ℕ) (claim : Claim) → Claims x y w claim → y.entries ≡ x.entries
 claim_leaves x y w (Got job) h = ap (λ t. t.entries) h.taken.left
 claim_leaves x y w Busy h = ap (λ t. t.entries) h.0.same
 claim_leaves x y w Done h = ap (λ t. t.entries) h.0.same
@@ -42,16 +42,17 @@ claim_leaves x y w Stalled h = ap (λ t. t.entries) h.0.same
 claim_leaves x y w Stopped h = ap (λ t. t.entries) h.1
 
 -- where a visit leaves the entries, the worker has the own entries that its pass had seen
-pub own_left : (n : ℕ) (v r inside : Seen) (x y : Traced) → r ≡ given trace_log inside y → y.entries ≡ x.entries
+pub own_left : (n : ℕ) (v r inside : PassView) (x y : TraceModel) → r ≡ view_after_give trace_log inside y
+    → y.entries ≡ x.entries
     → own_entries n x.entries ≡ own_entries n v.front → own_entries n r.front ≡ own_entries n v.front
 own_left n v r inside x y is left own = ap (λ u. own_entries n u.front) is ∙ (ap (own_entries n) left ∙ own)
 
 -- a take that finds no ticket
-pub own_ended : (n : ℕ) (v r : Seen) → r ≡ ended v → own_entries n r.front ≡ own_entries n v.front
+pub own_ended : (n : ℕ) (v r : PassView) → r ≡ with_end_seen v → own_entries n r.front ≡ own_entries n v.front
 own_ended n v r is = ap (λ u. own_entries n u.front) is
 
 -- what is put are the worker's own entries
-pub own_block : (w : ℕ) (x y : Traced) (job : Task) → Adds trace_log w x y
+pub own_block : (w : ℕ) (x y : TraceModel) (job : Task) → Adds trace_log w x y
     → y.entries ≡ x.entries ++ job.entries → own_entries w job.entries ≡ job.entries
 own_block w x y job adds put =
     let same : adds.added ≡ job.entries =
@@ -149,13 +150,13 @@ put_longer came s w batch old mid new put begins own =
 -- ---- by passes
 
 -- a visit that adds nothing
-pub visit_puts : (came : ℕ → ℕ → Type 0) (s : Scenario) (batch : ℕ) (v r : Seen) → Follows v r
+pub visit_puts : (came : ℕ → ℕ → Type 0) (s : Scenario) (batch : ℕ) (v r : PassView) → Follows v r
     → own_entries v.low r.front ≡ own_entries v.low v.front → HasPut came s v.low batch v.front r.front
 visit_puts came s batch v r follows own =
     put_nothing came s v.low batch v.front r.front (follows.added, follows.front) own
 
 -- a visit that puts a block, where it is answered so, and nothing otherwise
-pub block_or_nothing : {A B : Type 0} (came : ℕ → ℕ → Type 0) (s : Scenario) (batch : ℕ) (v r : Seen)
+pub block_or_nothing : {A B : Type 0} (came : ℕ → ℕ → Type 0) (s : Scenario) (batch : ℕ) (v r : PassView)
     (block : List Entry)
     (answer : Result A B) → Follows v r → (IsOk answer → HasMade came s v.low batch v.front block r.front)
     → (IsErr answer → own_entries v.low r.front ≡ own_entries v.low v.front) → HasPut came s v.low batch v.front r.front
@@ -164,18 +165,19 @@ block_or_nothing came s batch v r block (Ok a) follows made kept =
 block_or_nothing came s batch v r block (Err e) follows made kept = visit_puts came s batch v r follows (kept refl)
 
 -- of a pass with numbers one is the lowest
-pub has_low : (v : Seen) → 0 < v.count → HasNumber v v.low
+pub has_low : (v : PassView) → 0 < v.count → HasNumber v v.low
 has_low v some = (omega arith, omega arith)
 
 -- one visit after another, by the same pass
-pub puts_both : (came : ℕ → ℕ → Type 0) (s : Scenario) (batch : ℕ) (u v w : Seen)
+pub puts_both : (came : ℕ → ℕ → Type 0) (s : Scenario) (batch : ℕ) (u v w : PassView)
     → HasPut came s u.low batch u.front v.front → v.low ≡ u.low
     → HasPut came s v.low batch v.front w.front → HasPut came s u.low batch u.front w.front
 puts_both came s batch u v w a low b =
     put_both came s u.low batch u.front v.front w.front a (subst (λ n. HasPut came s n batch v.front w.front) low b)
 
 -- what a job has made since its claim is a block
-pub made_block : (came : ℕ → ℕ → Type 0) (s : Scenario) (batch : ℕ) (v r : Seen) (old new : Task) → v.subject ≡ Some s
+pub made_block : (came : ℕ → ℕ → Type 0) (s : Scenario) (batch : ℕ) (v r : PassView) (old new : Task)
+    → v.subject ≡ Some s
     → Knows v old
     → old.entries ≡ [] → Advances old new batch → 1 ≤ length new.entries → IsRun new.subject (new.front ++ new.entries)
     → AllByRecursion (IsOf new.worker new.device) new.entries → came v.low old.device

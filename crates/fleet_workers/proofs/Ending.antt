@@ -7,13 +7,13 @@ use Rattle.std.proofs.lemmas.Bool.{false≢true}
 use Rattle.scenario_image.specs.Scenario.{Scenario}
 use Rattle.trace_file.specs.declared.entry.Entry.{Entry}
 use Rattle.fleet_core.specs.Run.{IsRun, IsComplete}
-use Rattle.fleet_core.specs.Waiting.{is_waiting, waiting}
+use Rattle.fleet_core.specs.Waiting.{is_waiting, waiting_devices}
 use Rattle.fleet_core.proofs.Agreeing.{same_made}
 use Rattle.ticket_lock.specs.declared.rule.TheConstants.{NUMBERS}
 use Rattle.ticket_lock.specs.Log.{shares}
-use Rattle.ticket_lock.specs.Changes.{whole}
+use Rattle.ticket_lock.specs.Changes.{opening_view}
 use Rattle.ticket_lock.proofs.Logs.{every_one}
-use Rattle.shared_trace.specs.Trace.{Traced, trace_log}
+use Rattle.shared_trace.specs.Trace.{TraceModel, trace_log}
 use Rattle.fleet_workers.specs.declared.loops.LoopEnd.{LoopEnd}
 use Rattle.fleet_workers.specs.declared.loops.LoopEnd.TheVariants.{Done, Stalled, Stopped, Memory, Spent}
 use Rattle.fleet_workers.specs.declared.fleet.FleetEnd.{FleetEnd}
@@ -21,14 +21,14 @@ use Rattle.fleet_workers.specs.declared.fleet.FleetEnd.TheVariants as ends
 use Rattle.fleet_workers.specs.declared.fleet.FleetRun.{FleetRun}
 use Rattle.fleet_workers.specs.declared.fleet.RunFault.{RunFault}
 use Rattle.fleet_workers.specs.declared.fleet.RunFault.TheVariants as faults
-use Rattle.fleet_workers.specs.Knowing.{Seen}
+use Rattle.fleet_workers.specs.Knowing.{PassView}
 use Rattle.fleet_workers.specs.Crew.{IsByCrew, CrewFollows, CrewEndsAs, HavePut, HaveWorked}
 use Rattle.fleet_workers.specs.Fleet.{IsByWorker, IsEndOf, IsFleetRun, HasEnded, IsLeft, AreByBlocks, IsNew, IsMade}
 use Rattle.fleet_workers.specs.Fleet.{IsOutcome, left_by}
 use Rattle.fleet_workers.proofs.Blocks.{put_nothing}
 
 -- what workers know by their front is so of the whole run
-ended_so : (s : Scenario) (n : ℕ) (w : Seen) (end : LoopEnd) → w.subject ≡ Some s → CrewEndsAs n w end
+ended_so : (s : Scenario) (n : ℕ) (w : PassView) (end : LoopEnd) → w.subject ≡ Some s → CrewEndsAs n w end
     → HasEnded s w.front end
 ended_so s n w Done subject ends = ends s subject
 ended_so s n w Stalled subject ends = ends s subject
@@ -37,7 +37,7 @@ ended_so s n w Memory subject ends = tt
 ended_so s n w Spent subject ends = tt
 
 -- of a pass with all numbers the n lowest are those from 1 to n
-by_workers : (n : ℕ) (v : Seen) (es : List Entry) → v.low ≡ 1 → v.count ≡ NUMBERS → AllByRecursion (IsByCrew n v) es
+by_workers : (n : ℕ) (v : PassView) (es : List Entry) → v.low ≡ 1 → v.count ≡ NUMBERS → AllByRecursion (IsByCrew n v) es
     → AllByRecursion (IsByWorker n) es
 by_workers n v es low count all =
     every_one (IsByCrew n v) (IsByWorker n)
@@ -45,8 +45,8 @@ by_workers n v es low count all =
     let below = by.2 (omega (arith, low, by.0), omega (arith, low, count, by.1)) in
     (by.0, omega (arith, low, below))) es all
 
-is_left : (s : Scenario) (n : ℕ) (v : Seen) (x : Traced) (all : Seen) (es : List Entry) (end : LoopEnd)
-    → v ≡ whole trace_log x 0 → x.subject ≡ s → x.entries ≡ [] → CrewFollows n v all → CrewEndsAs n all end
+is_left : (s : Scenario) (n : ℕ) (v : PassView) (x : TraceModel) (all : PassView) (es : List Entry) (end : LoopEnd)
+    → v ≡ opening_view trace_log x 0 → x.subject ≡ s → x.entries ≡ [] → CrewFollows n v all → CrewEndsAs n all end
     → es ≡ all.front → IsLeft s n es end
 is_left s n v x all es end opened subject empty follows ends log =
     let front : v.front ≡ [] = ap (λ u. u.front) opened ∙ empty in
@@ -60,8 +60,9 @@ is_left s n v x all es end opened subject empty follows ends log =
       ended = subst (λ l. HasEnded s l end) (sym log) (ended_so s n all end (follows.subject ∙ about) ends);
     }
 
-by_blocks : (came : ℕ → ℕ → Type 0) (s : Scenario) (n batch : ℕ) (v : Seen) (x : Traced) (all : Seen) (es : List Entry)
-    → v ≡ whole trace_log x 0 → x.entries ≡ [] → HavePut came s v.low n batch v.front all.front → es ≡ all.front
+by_blocks : (came : ℕ → ℕ → Type 0) (s : Scenario) (n batch : ℕ) (v : PassView) (x : TraceModel) (all : PassView)
+    (es : List Entry)
+    → v ≡ opening_view trace_log x 0 → x.entries ≡ [] → HavePut came s v.low n batch v.front all.front → es ≡ all.front
     → AllByRecursion (IsByWorker n) es → AreByBlocks came s n batch es
 by_blocks came s n batch v x all es opened empty put log by =
     let front : v.front ≡ [] = ap (λ u. u.front) opened ∙ empty in
@@ -74,8 +75,9 @@ by_blocks came s n batch v x all es opened empty put log by =
     }
 
 -- what a crew of the numbers from 1 to n leaves in the trace that the lock gives back
-pub is_made : (came : ℕ → ℕ → Type 0) (s : Scenario) (n batch : ℕ) (v : Seen) (x : Traced) (all : Seen)
-    (closed : Traced) (end : LoopEnd) → v ≡ whole trace_log x 0 → IsNew s x → HaveWorked came s batch n v all end
+pub is_made : (came : ℕ → ℕ → Type 0) (s : Scenario) (n batch : ℕ) (v : PassView) (x : TraceModel) (all : PassView)
+    (closed : TraceModel) (end : LoopEnd) → v ≡ opening_view trace_log x 0 → IsNew s x
+    → HaveWorked came s batch n v all end
     → closed.entries ≡ all.front → all.shares ≡ shares trace_log closed 1 NUMBERS
     → IsMade came s n batch closed.entries end
 is_made came s n batch v x all closed end opened new worked log same =
@@ -144,7 +146,7 @@ none_of test [] none = refl
 none_of test (d ∷ ds) none =
     ap (λ t. cond t (d ∷ filter test ds) (filter test ds)) (none d) ∙ none_of test ds none
 
-left_waiting : (s : Scenario) (es : List Entry) (how : FleetEnd) → IsEndOf s es how → left_by how ≡ waiting s es
+left_waiting : (s : Scenario) (es : List Entry) (how : FleetEnd) → IsEndOf s es how → left_by how ≡ waiting_devices s es
 left_waiting s es ends.Done is = sym (none_of (is_waiting s es) (range_with_len 0 (length s.rows)) is)
 left_waiting s es (ends.Stalled devices) is = is.exactly
 

@@ -8,16 +8,16 @@ use Rattle.fleet_core.proofs.Sums.{posts_later}
 use Rattle.ticket_lock.specs.declared.rule.TheConstants.{NUMBERS}
 use Rattle.ticket_lock.specs.Log.{Adds, Begins}
 use Rattle.ticket_lock.specs.Lock.{IsAware, IsOther}
-use Rattle.ticket_lock.specs.Changes.{arrived, given, ended}
+use Rattle.ticket_lock.specs.Changes.{view_inside, view_after_give, with_end_seen}
 use Rattle.ticket_lock.specs.Names.{lowest_work}
 use Rattle.ticket_lock.proofs.Logs.{every-append, every_one}
 use Rattle.shared_trace.specs.declared.claims.Claim.{Claim}
 use Rattle.shared_trace.specs.declared.claims.Claim.TheVariants.{Got, Busy, Done, Stalled, Stopped}
-use Rattle.shared_trace.specs.Trace.{Traced, IsShared, with_block, work_by, no_work, trace_log}
+use Rattle.shared_trace.specs.Trace.{TraceModel, IsShared, with_block, work_by, no_work, trace_log}
 use Rattle.shared_trace.specs.Job.{Task, StandsIn, MayPut, IsSameJob}
 use Rattle.shared_trace.specs.Claims.{Claims, ClaimStands}
 use Rattle.fleet_workers.specs.Blocks.{own_entries, IsPut}
-use Rattle.fleet_workers.specs.Knowing.{Seen, IsByOne, Follows, Knows, IsDone, IsStalled, HasClaimed}
+use Rattle.fleet_workers.specs.Knowing.{PassView, IsByOne, Follows, Knows, IsDone, IsStalled, HasClaimed}
 
 pub some_is : {X : Type 0} (x y : X) → Some x ≡ Some y → x ≡ y
 some_is x y e = cc
@@ -29,7 +29,7 @@ pub ok_not : {A B : Type 0} (x : A) (y : B) (r : Result A B) → r ≡ Ok x → 
 ok_not x y r e f = let h = sym e ∙ f in absurd cc
 
 -- a pass follows itself
-pub follows_itself : (v : Seen) → Follows v v
+pub follows_itself : (v : PassView) → Follows v v
 follows_itself v = record {
   low = refl;
   count = refl;
@@ -41,7 +41,7 @@ follows_itself v = record {
 }
 
 -- after a take that finds no ticket
-pub follows_ended : (v r : Seen) → r ≡ ended v → Follows v r
+pub follows_ended : (v r : PassView) → r ≡ with_end_seen v → Follows v r
 follows_ended v r is = subst (Follows v) (sym is) (record {
   low = refl;
   count = refl;
@@ -52,11 +52,11 @@ follows_ended v r is = subst (Follows v) (sym is) (record {
   run = λ s subject run. run;
 })
 
-same_numbers : (v w : Seen) → w.low ≡ v.low → w.count ≡ v.count → (e : Entry) → IsByOne w e → IsByOne v e
+same_numbers : (v w : PassView) → w.low ≡ v.low → w.count ≡ v.count → (e : Entry) → IsByOne w e → IsByOne v e
 same_numbers v w low count e by =
     (by.0, by.1, λ has. by.2 (subst (λ n. n ≤ e.worker) (sym low) has.0, omega (arith, low, count, has.1)) ∙ low)
 
-pub follows_both : (u v w : Seen) → Follows u v → Follows v w → Follows u w
+pub follows_both : (u v w : PassView) → Follows u v → Follows v w → Follows u w
 follows_both u v w a b = record {
   low = b.low ∙ a.low;
   count = b.count ∙ a.count;
@@ -69,11 +69,13 @@ follows_both u v w a b = record {
 }
 
 -- after a take and a give
-pub follows : (v r inside : Seen) (t : ℕ) (x y : Traced) → IsAware trace_log x v → inside ≡ arrived trace_log v t x
-    → r ≡ given trace_log inside y
+pub follows : (v r inside : PassView) (t : ℕ) (x y : TraceModel) → IsAware trace_log x v
+    → inside ≡ view_inside trace_log v t x
+    → r ≡ view_after_give trace_log inside y
     → 1 ≤ v.low → v.low < NUMBERS + 1 → Adds trace_log v.low x y → IsShared y → Follows v r
 follows v r inside t x y aware entered is one within adds shared =
-    let there : r ≡ given trace_log (arrived trace_log v t x) y = is ∙ ap (λ w. given trace_log w y) entered in
+    let there : r ≡ view_after_give trace_log (view_inside trace_log v t x) y =
+    is ∙ ap (λ w. view_after_give trace_log w y) entered in
     subst (Follows v) (sym there) (record {
       low = refl;
       count = refl;
@@ -91,7 +93,8 @@ follows v r inside t x y aware entered is one within adds shared =
     })
 
 -- what a claim tells a pass that has left the lock since. The trace was of the pass's scenario at the claim
-pub claim_told : (v r : Seen) (x y : Traced) (claim : Claim) → v.subject ≡ Some x.subject → r.subject ≡ v.subject
+pub claim_told : (v r : PassView) (x y : TraceModel) (claim : Claim) → v.subject ≡ Some x.subject
+    → r.subject ≡ v.subject
     → r.low ≡ v.low → r.front ≡ y.entries → lowest_work r no_work ≡ work_by y v.low → Claims x y v.low claim
     → ClaimStands y v.low claim → HasClaimed r claim
 claim_told v r x y (Got job) subject same low front work claims stands =
@@ -118,26 +121,30 @@ claim_told v r x y Stalled subject same low front work claims stands = λ s of.
 claim_told v r x y Stopped subject same low front work claims stands = tt
 
 -- where the pass has claimed from the trace as it found it
-pub has_claimed : (v r inside : Seen) (t : ℕ) (x y : Traced) (claim : Claim) → IsAware trace_log x v
-    → inside ≡ arrived trace_log v t x → r ≡ given trace_log inside y
+pub has_claimed : (v r inside : PassView) (t : ℕ) (x y : TraceModel) (claim : Claim) → IsAware trace_log x v
+    → inside ≡ view_inside trace_log v t x → r ≡ view_after_give trace_log inside y
     → lowest_work r no_work ≡ work_by y v.low → Claims x y v.low claim → ClaimStands y v.low claim → HasClaimed r claim
 has_claimed v r inside t x y claim aware entered is work claims stands =
-    let there : r ≡ given trace_log (arrived trace_log v t x) y = is ∙ ap (λ w. given trace_log w y) entered in
+    let there : r ≡ view_after_give trace_log (view_inside trace_log v t x) y =
+    is ∙ ap (λ w. view_after_give trace_log w y) entered in
     claim_told v r x y claim aware.subject (ap (λ w. w.subject) there) (ap (λ w. w.low) there) (ap (λ w. w.front) there)
     work claims stands
 
 -- where it has put a job before that
-pub claimed_after : (v r inside : Seen) (t : ℕ) (x y : Traced) (job : Task) (claim : Claim) → IsAware trace_log x v
-    → inside ≡ arrived trace_log v t x → r ≡ given trace_log inside y → lowest_work r no_work ≡ work_by y v.low
+pub claimed_after : (v r inside : PassView) (t : ℕ) (x y : TraceModel) (job : Task) (claim : Claim)
+    → IsAware trace_log x v
+    → inside ≡ view_inside trace_log v t x → r ≡ view_after_give trace_log inside y
+    → lowest_work r no_work ≡ work_by y v.low
     → Claims (with_block x job.device job.held job.entries) y v.low claim → ClaimStands y v.low claim
     → HasClaimed r claim
 claimed_after v r inside t x y job claim aware entered is work claims stands =
-    let there : r ≡ given trace_log (arrived trace_log v t x) y = is ∙ ap (λ w. given trace_log w y) entered in
+    let there : r ≡ view_after_give trace_log (view_inside trace_log v t x) y =
+    is ∙ ap (λ w. view_after_give trace_log w y) entered in
     claim_told v r (with_block x job.device job.held job.entries) y claim aware.subject (ap (λ w. w.subject) there)
     (ap (λ w. w.low) there) (ap (λ w. w.front) there) work claims stands
 
 -- the trace that a worker finds takes the job that its pass knows
-pub may_put : (v : Seen) (x : Traced) (job : Task) → IsAware trace_log x v → Knows v job
+pub may_put : (v : PassView) (x : TraceModel) (job : Task) → IsAware trace_log x v → Knows v job
     → lowest_work v no_work ≡ work_by x v.low → job.spent ≡ false → MayPut x v.low job
 may_put v x job aware knows work ready =
     let log : x.entries ≡ job.front ++ (knows.front.0 ++ aware.after) =
@@ -152,12 +159,13 @@ may_put v x job aware knows work ready =
     }
 
 -- after the job was put, and the entries were left so
-pub is_put : (v r inside : Seen) (t : ℕ) (x y : Traced) (job : Task) → IsAware trace_log x v
-    → inside ≡ arrived trace_log v t x → r ≡ given trace_log inside y
+pub is_put : (v r inside : PassView) (t : ℕ) (x y : TraceModel) (job : Task) → IsAware trace_log x v
+    → inside ≡ view_inside trace_log v t x → r ≡ view_after_give trace_log inside y
     → own_entries v.low x.entries ≡ own_entries v.low v.front
     → y.entries ≡ x.entries ++ job.entries → IsPut v.low v.front job.entries r.front
 is_put v r inside t x y job aware entered is own put =
-    let there : r ≡ given trace_log (arrived trace_log v t x) y = is ∙ ap (λ w. given trace_log w y) entered in
+    let there : r ≡ view_after_give trace_log (view_inside trace_log v t x) y =
+    is ∙ ap (λ w. view_after_give trace_log w y) entered in
     record {
       before = x.entries;
       begins = (aware.after, aware.front);
@@ -166,7 +174,7 @@ is_put v r inside t x y job aware entered is own put =
     }
 
 -- the job has made steps
-pub still_knows : (v : Seen) (old new : Task) → IsSameJob old new → Knows v old → Knows v new
+pub still_knows : (v : PassView) (old new : Task) → IsSameJob old new → Knows v old → Knows v new
 still_knows v old new same knows = record {
   front = subst (λ l. Begins l v.front) (sym same.front) knows.front;
   subject = knows.subject ∙ ap Some (sym same.subject);

@@ -21,7 +21,7 @@ use Rattle.ticket_lock.specs.Log.{Begins}
 use Rattle.ticket_lock.specs.Log as log
 use Rattle.ticket_lock.specs.Lock.{HasNumber}
 use Rattle.ticket_lock.specs.Names.{work_or, IsFaithful}
-use Rattle.ticket_lock.specs.Changes.{lower, upper, joined, longer}
+use Rattle.ticket_lock.specs.Changes.{lower_part, upper_part, joined_view, longer_of}
 use Rattle.ticket_lock.proofs.Logs.{begins_both, every_one, length-each}
 use Rattle.ticket_lock.proofs.Neighbours.{shares_below}
 use Rattle.shared_trace.specs.declared.work.OpenWork.{OpenWork}
@@ -29,14 +29,14 @@ use Rattle.shared_trace.specs.Trace.{no_work, trace_log}
 use Rattle.fleet_workers.specs.declared.loops.LoopEnd.{LoopEnd}
 use Rattle.fleet_workers.specs.declared.loops.LoopEnd.TheVariants.{Done, Stalled, Stopped, Memory, Spent}
 use Rattle.fleet_workers.specs.Blocks.{own_entries, HasPut}
-use Rattle.fleet_workers.specs.Knowing.{Seen, IsByOne, Follows, IsDone, IsStalled, EndsAs, has_stopped}
+use Rattle.fleet_workers.specs.Knowing.{PassView, IsByOne, Follows, IsDone, IsStalled, EndsAs, has_stopped}
 use Rattle.fleet_workers.specs.Crew.{IsByCrew, CrewFollows, CrewEndsAs, HavePut, joint_end, is_any_stopped, HasWorked}
 use Rattle.fleet_workers.specs.Crew.{HaveWorked}
 use Rattle.fleet_workers.proofs.Blocks.{own-append, put_longer}
 
 -- ---- one worker
 
-alone_follows : (v w : Seen) → Follows v w → CrewFollows 1 v w
+alone_follows : (v w : PassView) → Follows v w → CrewFollows 1 v w
 alone_follows v w f = record {
   low = f.low;
   count = f.count;
@@ -92,7 +92,7 @@ abbrev IsNumbered : Entry → Type 0
 IsNumbered e = (1 ≤ e.worker) × (e.worker < NUMBERS + 1)
 
 -- entries under numbers of the lock, and none under a number of the pass but its n lowest
-by_crew : (n : ℕ) (v : Seen) (es : List Entry) → AllByRecursion IsNumbered es
+by_crew : (n : ℕ) (v : PassView) (es : List Entry) → AllByRecursion IsNumbered es
     → ((w : ℕ) → HasNumber v w → v.low + n ≤ w → own_entries w es ≡ []) → AllByRecursion (IsByCrew n v) es
 by_crew n v [] within none = tt
 by_crew n v (e ∷ es) within none = (
@@ -115,13 +115,13 @@ adds : (P : Entry → Type 0) (old added new : List Entry) → new ≡ old ++ ad
 adds P old added new grown all more is =
     subst (AllByRecursion P) (append_cancel_left old added more (sym grown ∙ is)) all
 
-either : (P : List Entry → Type 0) (a b : List Entry) → P a → P b → P (longer a b)
+either : (P : List Entry → Type 0) (a b : List Entry) → P a → P b → P (longer_of a b)
 either P a b p q = elim (nat_lt (length a) (length b)) as (λ t. P (cond t b a)) [ true ↦ q | false ↦ p ]
 
 -- ---- together: `one` and `two` are the two parts of the pass v, from which a and b came, which were joined as `all`
 
-joint_follows : (m : ℕ) (v one two a b all : Seen) → 1 < m → 1 < v.count → one ≡ lower v → two ≡ upper v
-    → Follows one a → CrewFollows (m - 1) two b → all ≡ record (joined a b) { end = all.end }
+joint_follows : (m : ℕ) (v one two a b all : PassView) → 1 < m → 1 < v.count → one ≡ lower_part v → two ≡ upper_part v
+    → Follows one a → CrewFollows (m - 1) two b → all ≡ record (joined_view a b) { end = all.end }
     → Begins a.front all.front × Begins b.front all.front
     → ((w : ℕ) → HasNumber b w → own_entries w all.front ≡ own_entries w b.front) → CrewFollows m v all
 joint_follows m v one two a b all more many is_one is_two fa fb glued fronts own =
@@ -137,7 +137,7 @@ joint_follows m v one two a b all more many is_one is_two fa fb glued fronts own
     let grown1 : a.front ≡ v.front ++ fa.added = fa.front ∙ ap (λ l. l ++ fa.added) front1 in
     let grown2 : b.front ≡ v.front ++ fb.added = fb.front ∙ ap (λ l. l ++ fb.added) front2 in
     let begins : Begins v.front all.front = begins_both v.front a.front all.front (fa.added, grown1) fronts.0 in
-    let long : longer a.front b.front ≡ all.front = sym (ap (λ u. u.front) glued) in
+    let long : longer_of a.front b.front ≡ all.front = sym (ap (λ u. u.front) glued) in
     let first : min a.low b.low ≡ a.low = omega (arith, low1, low2) in
     record {
       low = ap (λ u. u.low) glued ∙ (first ∙ low1);
@@ -171,9 +171,9 @@ joint_follows m v one two a b all more many is_one is_two fa fb glued fronts own
           (fb.run s (ap (λ u. u.subject) is_two ∙ subject) (subst (IsRun s) (sym front2) run)));
     }
 
-joint_puts : (came : ℕ → ℕ → Type 0) (s : Scenario) (batch m : ℕ) (v one two a b all : Seen) → 1 < m → m ≤ v.count
-    → one ≡ lower v
-    → two ≡ upper v → Follows one a → CrewFollows (m - 1) two b → HasPut came s one.low batch one.front a.front
+joint_puts : (came : ℕ → ℕ → Type 0) (s : Scenario) (batch m : ℕ) (v one two a b all : PassView) → 1 < m → m ≤ v.count
+    → one ≡ lower_part v
+    → two ≡ upper_part v → Follows one a → CrewFollows (m - 1) two b → HasPut came s one.low batch one.front a.front
     → HavePut came s two.low (m - 1) batch two.front b.front → Begins a.front all.front × Begins b.front all.front
     → ((w : ℕ) → HasNumber a w → own_entries w all.front ≡ own_entries w a.front)
     → ((w : ℕ) → HasNumber b w → own_entries w all.front ≡ own_entries w b.front)
@@ -215,7 +215,7 @@ complete_whole s front es complete begins run =
     sym (begins.1 ∙ (ap (λ l. front ++ l) none ∙ append-nil front))
 
 -- of the parts of a pass one has seen a complete run: that is all of the run
-pub record Parts (v one two a b all : Seen) : Type 0 where
+pub record Parts (v one two a b all : PassView) : Type 0 where
   pub one_front : one.front ≡ v.front
   pub two_front : two.front ≡ v.front
   pub one_subject : one.subject ≡ v.subject
@@ -226,15 +226,16 @@ pub record Parts (v one two a b all : Seen) : Type 0 where
   pub b_begins : Begins v.front b.front
   pub a_front : Begins a.front all.front
   pub b_front : Begins b.front all.front
-  pub long : longer a.front b.front ≡ all.front
+  pub long : longer_of a.front b.front ≡ all.front
   pub subject : all.subject ≡ v.subject
   pub a_subject : a.subject ≡ v.subject
   pub b_subject : b.subject ≡ v.subject
-  pub end : (joined a b).end ≡ true → all.end ≡ true
+  pub end : (joined_view a b).end ≡ true → all.end ≡ true
 
-pub parts_of : (n : ℕ) (v one two a b all : Seen) → one ≡ lower v → two ≡ upper v → Follows one a → CrewFollows n two b
-    → all ≡ record (joined a b) { end = all.end } → Begins a.front all.front × Begins b.front all.front
-    → ((joined a b).end ≡ true → all.end ≡ true) → Parts v one two a b all
+pub parts_of : (n : ℕ) (v one two a b all : PassView) → one ≡ lower_part v → two ≡ upper_part v → Follows one a
+    → CrewFollows n two b
+    → all ≡ record (joined_view a b) { end = all.end } → Begins a.front all.front × Begins b.front all.front
+    → ((joined_view a b).end ≡ true → all.end ≡ true) → Parts v one two a b all
 parts_of n v one two a b all is_one is_two fa fb glued fronts end = record {
   one_front = ap (λ u. u.front) is_one;
   two_front = ap (λ u. u.front) is_two;
@@ -254,36 +255,37 @@ parts_of n v one two a b all is_one is_two fa fb glued fronts end = record {
 }
 
 -- the log of the whole is a run where the pass had seen one
-whole_run : (s : Scenario) (v one two a b all : Seen) → Parts v one two a b all → v.subject ≡ Some s → IsRun s v.front
+whole_run : (s : Scenario) (v one two a b all : PassView) → Parts v one two a b all → v.subject ≡ Some s
+    → IsRun s v.front
     → IsRun s all.front
 whole_run s v one two a b all p subject run = subst (IsRun s) p.long
     (either (IsRun s) a.front b.front
     (p.one_run s (p.one_subject ∙ subject) (subst (IsRun s) (sym p.one_front) run))
     (p.two_run s (p.two_subject ∙ subject) (subst (IsRun s) (sym p.two_front) run)))
 
-whole_of : (s : Scenario) (v one two a b all : Seen) (front : List Entry) → Parts v one two a b all
+whole_of : (s : Scenario) (v one two a b all : PassView) (front : List Entry) → Parts v one two a b all
     → v.subject ≡ Some s → IsComplete s front → Begins v.front front → Begins front all.front → front ≡ all.front
 whole_of s v one two a b all front p subject complete began begins =
     complete_whole s front all.front complete begins
     (whole_run s v one two a b all p subject
     (run_left s v.front began.0 (subst (IsRun s) began.1 complete.run)))
 
-done_all : (v one two a b all : Seen) → Parts v one two a b all → EndsAs a Done → EndsAs all Done
+done_all : (v one two a b all : PassView) → Parts v one two a b all → EndsAs a Done → EndsAs all Done
 done_all v one two a b all p ends s subject =
     let about : v.subject ≡ Some s = sym p.subject ∙ subject in
     let done = ends s (p.a_subject ∙ about) in
     subst (IsDone s) (whole_of s v one two a b all a.front p about done.complete p.a_begins p.a_front) done
 
-stalled_all : (v one two a b all : Seen) → Parts v one two a b all → EndsAs a Stalled → EndsAs all Stalled
+stalled_all : (v one two a b all : PassView) → Parts v one two a b all → EndsAs a Stalled → EndsAs all Stalled
 stalled_all v one two a b all p ends s subject =
     let about : v.subject ≡ Some s = sym p.subject ∙ subject in
     let stalled = ends s (p.a_subject ∙ about) in
     subst (IsStalled s) (whole_of s v one two a b all a.front p about stalled.complete p.a_begins p.a_front) stalled
 
-first_spent : (v one two a b all : Seen) → Parts v one two a b all → a.end ≡ true → EndsAs all Spent
+first_spent : (v one two a b all : PassView) → Parts v one two a b all → a.end ≡ true → EndsAs all Spent
 first_spent v one two a b all p end = p.end (ap (λ t. t || b.end) end)
 
-other_spent : (v one two a b all : Seen) → Parts v one two a b all → b.end ≡ true → EndsAs all Spent
+other_spent : (v one two a b all : PassView) → Parts v one two a b all → b.end ≡ true → EndsAs all Spent
 other_spent v one two a b all p end = p.end (ap (λ t. a.end || t) end ∙ or-true a.end)
 
 -- ---- who stopped the trace
@@ -310,14 +312,14 @@ any_split k [] = sym (any_none k)
 any_split k (x ∷ xs) = refl
 
 -- a pass has as many shares as numbers
-one_share : (v : Seen) → IsFaithful trace_log v → v.count ≡ 1 → length v.shares ≡ 1
+one_share : (v : PassView) → IsFaithful trace_log v → v.count ≡ 1 → length v.shares ≡ 1
 one_share v faithful one =
     sym (length-map v.shares (λ s. s.own))
-    ∙ (ap length faithful ∙ (length-each (λ w. log.own trace_log w v.front) v.low v.count ∙ one))
+    ∙ (ap length faithful ∙ (length-each (λ w. log.entries_of_worker trace_log w v.front) v.low v.count ∙ one))
 
 -- after the join: the flag of the first, and those of the others
-stopped_all : (m : ℕ) (a b all : Seen) → 1 < m → a.low < b.low → IsFaithful trace_log a → a.count ≡ 1
-    → all ≡ record (joined a b) { end = all.end }
+stopped_all : (m : ℕ) (a b all : PassView) → 1 < m → a.low < b.low → IsFaithful trace_log a → a.count ≡ 1
+    → all ≡ record (joined_view a b) { end = all.end }
     → is_any_stopped m all.shares ≡ (has_stopped a || is_any_stopped (m - 1) b.shares)
 stopped_all m a b all more below faithful one glued =
     let next : m ≡ suc (m - 1) = omega (arith, more) in
@@ -326,7 +328,7 @@ stopped_all m a b all more below faithful one glued =
     ∙ (ap (is_any_stopped (suc (m - 1))) (shares_below a b below)
     ∙ any_joined (m - 1) a.shares b.shares (one_share a faithful one)))
 
-stopped_parts : (m : ℕ) (v one two : Seen) → 1 < m → one ≡ lower v → two ≡ upper v
+stopped_parts : (m : ℕ) (v one two : PassView) → 1 < m → one ≡ lower_part v → two ≡ upper_part v
     → is_any_stopped m v.shares ≡ (has_stopped one || is_any_stopped (m - 1) two.shares)
 stopped_parts m v one two more is_one is_two =
     let next : m ≡ suc (m - 1) = omega (arith, more) in
@@ -342,7 +344,7 @@ ends_not false c up not = refl
 
 -- ---- how they end together
 
-module _ (m : ℕ) (v one two a b all : Seen) (p : Parts v one two a b all)
+module _ (m : ℕ) (v one two a b all : PassView) (p : Parts v one two a b all)
     (stops : is_any_stopped m all.shares ≡ (has_stopped a || is_any_stopped (m - 1) b.shares)) where
   first_out : EndsAs a Memory → CrewEndsAs m all Memory
   first_out out not =
@@ -393,14 +395,14 @@ others_have Stalled others not is = not (ap (joint_end Stalled) is)
 
 -- ---- all of it
 
-alone_ends : (w : Seen) (end : LoopEnd) → EndsAs w end → CrewEndsAs 1 w end
+alone_ends : (w : PassView) (end : LoopEnd) → EndsAs w end → CrewEndsAs 1 w end
 alone_ends w Done ends = ends
 alone_ends w Stalled ends = ends
 alone_ends w Stopped ends = tt
 alone_ends w Memory ends = λ not. any_one w.shares ∙ ends not
 alone_ends w Spent ends = ends
 
-pub alone_worked : (came : ℕ → ℕ → Type 0) (s : Scenario) (batch : ℕ) (v w : Seen) (end : LoopEnd)
+pub alone_worked : (came : ℕ → ℕ → Type 0) (s : Scenario) (batch : ℕ) (v w : PassView) (end : LoopEnd)
     → HasWorked came s batch v w end → HaveWorked came s batch 1 v w end
 alone_worked came s batch v w end h = record {
   follows = alone_follows v w h.follows;
@@ -409,10 +411,10 @@ alone_worked came s batch v w end h = record {
   going = λ not. any_one w.shares ∙ (h.going not ∙ sym (any_one v.shares));
 }
 
-pub joint_worked : (came : ℕ → ℕ → Type 0) (s : Scenario) (batch m : ℕ) (v one two a b all : Seen)
-    (first others : LoopEnd) → 1 < m → m ≤ v.count → 1 < v.count → one ≡ lower v → two ≡ upper v
+pub joint_worked : (came : ℕ → ℕ → Type 0) (s : Scenario) (batch m : ℕ) (v one two a b all : PassView)
+    (first others : LoopEnd) → 1 < m → m ≤ v.count → 1 < v.count → one ≡ lower_part v → two ≡ upper_part v
     → HasWorked came s batch one a first → HaveWorked came s batch (m - 1) two b others → IsFaithful trace_log a
-    → all ≡ record (joined a b) { end = all.end } → ((joined a b).end ≡ true → all.end ≡ true)
+    → all ≡ record (joined_view a b) { end = all.end } → ((joined_view a b).end ≡ true → all.end ≡ true)
     → Begins a.front all.front × Begins b.front all.front
     → ((w : ℕ) → HasNumber a w → own_entries w all.front ≡ own_entries w a.front)
     → ((w : ℕ) → HasNumber b w → own_entries w all.front ≡ own_entries w b.front)

@@ -11,17 +11,17 @@ use Rattle.ticket_lock.specs.declared.logged.Share.{Share}
 use Rattle.ticket_lock.specs.Lock.{HasNumber}
 use Rattle.shared_trace.specs.declared.work.OpenWork.{OpenWork}
 use Rattle.fleet_workers.specs.Blocks.{HasPut}
-use Rattle.fleet_workers.specs.Knowing.{Seen, Follows, EndsAs, has_stopped}
+use Rattle.fleet_workers.specs.Knowing.{PassView, Follows, EndsAs, has_stopped}
 use Rattle.fleet_workers.specs.declared.loops.LoopEnd.{LoopEnd}
 use Rattle.fleet_workers.specs.declared.loops.LoopEnd.TheVariants.{Done, Stalled, Stopped, Memory, Spent}
 
 -- the entry is under a number of the lock; of the pass's own, it is one of the n lowest
-abbrev pub IsByCrew : ℕ → Seen → Entry → Type 0
+abbrev pub IsByCrew : ℕ → PassView → Entry → Type 0
 IsByCrew n v e = (1 ≤ e.worker) × (e.worker < NUMBERS + 1) × (HasNumber v e.worker → e.worker < v.low + n)
 
 -- the pass is the same, and has seen more of the log: other workers' entries, and those under its n lowest numbers. If
 -- it had seen a run, it has seen a run
-pub record CrewFollows (n : ℕ) (v w : Seen) : Type 0 where
+pub record CrewFollows (n : ℕ) (v w : PassView) : Type 0 where
   pub low : w.low ≡ v.low
   pub count : w.count ≡ v.count
   pub subject : w.subject ≡ v.subject
@@ -67,7 +67,7 @@ joint_end first others =
 
 -- what a pass knows at the end of a crew of the n lowest of its numbers: as at the end of a worker's loop, but that one
 -- of them has stopped the trace where memory ran out
-abbrev pub CrewEndsAs : ℕ → Seen → LoopEnd → Type 0
+abbrev pub CrewEndsAs : ℕ → PassView → LoopEnd → Type 0
 CrewEndsAs n v Done = EndsAs v Done
 CrewEndsAs n v Stalled = EndsAs v Stalled
 CrewEndsAs n v Stopped = Unit {0}
@@ -75,14 +75,15 @@ CrewEndsAs n v Memory = v.end ≡ false → is_any_stopped n v.shares ≡ true
 CrewEndsAs n v Spent = v.end ≡ true
 
 -- what came of a worker that began with the pass v and ended with w: see the clauses of `worker_loop`
-pub record HasWorked (came : ℕ → ℕ → Type 0) (s : Scenario) (batch : ℕ) (v w : Seen) (end : LoopEnd) : Type 0 where
+pub record HasWorked (came : ℕ → ℕ → Type 0) (s : Scenario) (batch : ℕ) (v w : PassView) (end : LoopEnd) : Type 0 where
   pub follows : Follows v w
   pub blocks : HasPut came s v.low batch v.front w.front
   pub ends : EndsAs w end
   pub going : end ≢ Memory → has_stopped w ≡ has_stopped v
 
 -- the same of a crew of n: see those of `run_crew`
-pub record HaveWorked (came : ℕ → ℕ → Type 0) (s : Scenario) (batch n : ℕ) (v w : Seen) (end : LoopEnd) : Type 0 where
+pub record HaveWorked (came : ℕ → ℕ → Type 0) (s : Scenario) (batch n : ℕ) (v w : PassView)
+    (end : LoopEnd) : Type 0 where
   pub follows : CrewFollows n v w
   pub blocks : HavePut came s v.low n batch v.front w.front
   pub ends : CrewEndsAs n w end

@@ -4,12 +4,12 @@ use Rattle.std.specs.List.{AllByRecursion}
 use Rattle.scenario_image.specs.Scenario.{Scenario}
 use Rattle.trace_file.specs.declared.entry.Entry.{Entry}
 use Rattle.fleet_core.specs.Run.{IsRun, IsComplete, IsSerial, IsSame}
-use Rattle.fleet_core.specs.Waiting.{is_waiting, waiting}
+use Rattle.fleet_core.specs.Waiting.{is_waiting, waiting_devices}
 use Rattle.ticket_lock.specs.declared.rule.TheConstants.{NUMBERS}
 use Rattle.ticket_lock.specs.Log.{shares}
-use Rattle.ticket_lock.specs.Changes.{whole}
-use Rattle.shared_trace.specs.Trace.{Traced, trace_log}
-use Rattle.fleet_workers.specs.Knowing.{Seen, IsDone, IsStalled}
+use Rattle.ticket_lock.specs.Changes.{opening_view}
+use Rattle.shared_trace.specs.Trace.{TraceModel, trace_log}
+use Rattle.fleet_workers.specs.Knowing.{PassView, IsDone, IsStalled}
 use Rattle.fleet_workers.specs.Crew.{HavePut, HaveWorked}
 use Rattle.fleet_workers.specs.declared.loops.LoopEnd.{LoopEnd}
 use Rattle.fleet_workers.specs.declared.loops.LoopEnd.TheVariants as loops
@@ -33,7 +33,7 @@ IsByWorker workers e = (1 ≤ e.worker) × (e.worker ≤ workers)
 
 -- these devices, in ascending order, are not at the end of their rows; there is one
 pub record IsUnfinished (s : Scenario) (es : List Entry) (devices : List ℕ) : Type 0 where
-  pub exactly : devices ≡ waiting s es
+  pub exactly : devices ≡ waiting_devices s es
   pub device : ℕ
   pub waits : is_waiting s es device ≡ true
 
@@ -54,7 +54,7 @@ pub record IsFleetRun (s : Scenario) (workers : ℕ) (r : FleetRun) : Type 0 whe
   pub by_workers : AllByRecursion (IsByWorker workers) r.entries
   pub serial : (es : List Entry) → IsSerial s es → (d : ℕ) → IsSame d r.entries es
   pub end : IsEndOf s r.entries r.end
-  pub waiting : left_by r.end ≡ waiting s r.entries
+  pub waiting : left_by r.end ≡ waiting_devices s r.entries
 
 -- each of this many workers has put its own entries in blocks, once and in its order; they make all of the run
 pub record AreByBlocks (came : ℕ → ℕ → Type 0) (s : Scenario) (workers batch : ℕ) (es : List Entry) : Type 0 where
@@ -100,7 +100,7 @@ IsOutcome es loops.Memory answer = answer ≡ Err (faults.Memory es)
 IsOutcome es loops.Spent answer = answer ≡ Err (faults.Spent es)
 
 -- a new trace of the scenario: without entries, and nobody has stopped it
-pub record IsNew (s : Scenario) (t : Traced) : Type 0 where
+pub record IsNew (s : Scenario) (t : TraceModel) : Type 0 where
   pub subject : t.subject ≡ s
   pub entries : t.entries ≡ []
   pub going : t.stopped_by ≡ []
@@ -110,11 +110,11 @@ pub record IsNew (s : Scenario) (t : Traced) : Type 0 where
 -- trace, when the lock gave it back, had of it
 pub record HaveRun (came : ℕ → ℕ → Type 0) (s : Scenario) (workers batch : ℕ) (es : List Entry) (end : LoopEnd)
     : Type 0 where
-  pub opened : Traced
+  pub opened : TraceModel
   pub new : IsNew s opened
-  pub last : Seen
-  pub worked : HaveWorked came s batch workers (whole trace_log opened 0) last end
-  pub closed : Traced
+  pub last : PassView
+  pub worked : HaveWorked came s batch workers (opening_view trace_log opened 0) last end
+  pub closed : TraceModel
   pub entries : closed.entries ≡ es
   pub front : last.front ≡ closed.entries
   pub shares : last.shares ≡ shares trace_log closed 1 NUMBERS

@@ -13,26 +13,26 @@ use Rattle.ticket_lock.specs.Names.{lowest_work}
 use Rattle.shared_trace.specs.declared.claims.Claim.{Claim}
 use Rattle.shared_trace.specs.declared.claims.Claim.TheVariants as claims
 use Rattle.shared_trace.specs.declared.work.OpenWork.{OpenWork}
-use Rattle.shared_trace.specs.Trace.{Traced, no_work}
+use Rattle.shared_trace.specs.Trace.{TraceModel, no_work}
 use Rattle.shared_trace.specs.Job.{Task, StandsIn}
 use Rattle.fleet_workers.specs.declared.loops.LoopEnd.{LoopEnd}
 use Rattle.fleet_workers.specs.declared.loops.LoopEnd.TheVariants as ends
 
 -- what a pass knows of a trace
-abbrev pub Seen : Type 0
-Seen = View Traced Entry Scenario OpenWork
+abbrev pub PassView : Type 0
+PassView = View TraceModel Entry Scenario OpenWork
 
 -- whether the trace was stopped under the pass's lowest number
-abbrev pub has_stopped : Seen → Bool
+abbrev pub has_stopped : PassView → Bool
 has_stopped v = (lowest_work v no_work).stopped
 
 -- the entry is under a number of the lock; of the pass's own, it is the lowest
-abbrev pub IsByOne : Seen → Entry → Type 0
+abbrev pub IsByOne : PassView → Entry → Type 0
 IsByOne v e = (1 ≤ e.worker) × (e.worker < NUMBERS + 1) × (HasNumber v e.worker → e.worker ≡ v.low)
 
 -- the pass is the same, and has seen more of the log: other workers' entries, and those under its lowest number. If it
 -- had seen a run, it has seen a run
-pub record Follows (v w : Seen) : Type 0 where
+pub record Follows (v w : PassView) : Type 0 where
   pub low : w.low ≡ v.low
   pub count : w.count ≡ v.count
   pub subject : w.subject ≡ v.subject
@@ -42,7 +42,7 @@ pub record Follows (v w : Seen) : Type 0 where
   pub run : (s : Scenario) → v.subject ≡ Some s → IsRun s v.front → IsRun s w.front
 
 -- the device is out under the pass's lowest number
-abbrev pub IsOut : Seen → ℕ → Type 0
+abbrev pub IsOut : PassView → ℕ → Type 0
 IsOut v d = (made : ℕ) × Contains (lowest_work v no_work).out (d, made)
 
 -- the claim got the device
@@ -54,7 +54,7 @@ Gets claims.Stalled d = ⊥
 Gets claims.Stopped d = ⊥
 
 -- the job was claimed under the pass's lowest number, and the pass has left the lock since
-pub record Knows (v : Seen) (job : Task) : Type 0 where
+pub record Knows (v : PassView) (job : Task) : Type 0 where
   pub front : Begins job.front v.front
   pub subject : v.subject ≡ Some job.subject
   pub worker : job.worker ≡ v.low
@@ -72,7 +72,7 @@ pub record IsStalled (s : Scenario) (es : List Entry) : Type 0 where
   pub waits : is_waiting s es device ≡ true
 
 -- what a pass knows after a claim
-abbrev pub HasClaimed : Seen → Claim → Type 0
+abbrev pub HasClaimed : PassView → Claim → Type 0
 HasClaimed v (claims.Got job) = Knows v job × (job.entries ≡ []) × (job.spent ≡ false)
 HasClaimed v claims.Busy = Unit {0}
 HasClaimed v claims.Done = (s : Scenario) → v.subject ≡ Some s → IsDone s v.front
@@ -81,7 +81,7 @@ HasClaimed v claims.Stopped = Unit {0}
 
 -- what a pass knows at the end of its worker's loop. One whose memory ran out has stopped the trace, unless no ticket
 -- was left for it
-abbrev pub EndsAs : Seen → LoopEnd → Type 0
+abbrev pub EndsAs : PassView → LoopEnd → Type 0
 EndsAs v ends.Done = (s : Scenario) → v.subject ≡ Some s → IsDone s v.front
 EndsAs v ends.Stalled = (s : Scenario) → v.subject ≡ Some s → IsStalled s v.front
 EndsAs v ends.Stopped = Unit {0}

@@ -3,7 +3,7 @@
 ghost use Rattle.std.specs.Prelude.{◌≡◌, ◌≢◌, ℕ, ◌≤◌, ◌↔◌, [], IsTrue, Err, IfOk, IfErr, IfSome};
 ghost use Rattle.std.specs.List.{AllByRecursion};
 ghost use Rattle.fleet_core.specs.Run.{IsRun, IsComplete};
-ghost use Rattle.ticket_lock.specs.Changes.{whole};
+ghost use Rattle.ticket_lock.specs.Changes.{opening_view};
 ghost use Rattle.ticket_lock.specs.Names.{lock_id, opening_value, pass_view, IsPass};
 ghost use Rattle.shared_trace.specs.Trace.{trace_log};
 ghost use Rattle.fleet_workers.specs.Knowing.{IsStalled};
@@ -125,7 +125,7 @@ fn run_all<R: Threads + Wait + Sync, G: Gate + Sync>(
     gate: &G,
 ) -> Option<(Trace, LoopEnd)>
     requires pass { IsPass (lock_id lock) pass }
-    requires whole { pass_view pass ≡ whole trace_log (opening_value lock) 0 }
+    requires whole { pass_view pass ≡ opening_view trace_log (opening_value lock) 0 }
     requires subject { (opening_value lock).subject ≡ scenario.now }
     requires empty { (opening_value lock).entries ≡ [] }
     requires going { (opening_value lock).stopped_by ≡ [] }

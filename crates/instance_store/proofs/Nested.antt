@@ -13,7 +13,7 @@ use Rattle.std.proofs.lemmas.Map.Lookups.{CmpEqualImpliesEq}
 use Rattle.std.proofs.lemmas.List.Elements.{filter-append}
 use Rattle.lemmas.proofs.Tests.{T_both, T_first, T_second}
 use Rattle.lemmas.proofs.Orders.{is_less, is_equal}
-use Rattle.instance_store.specs.Nested.{block, flat, joined}
+use Rattle.instance_store.specs.Nested.{block, flat_entries, joined_map}
 
 -- how the joined keys go with the outer and the inner ones
 pub record IsNesting {N K P : Type 0} (Q : N → N → Ordering) (S : K → K → Ordering) (R : P → P → Ordering)
@@ -151,12 +151,12 @@ module _ {N K P V : Type 0} {Q : N → N → Ordering} {S : K → K → Ordering
       ∙ within (eq_by_cmp Q (outer q) n) (eq_by_cmp S (inner q) e.0) (Some e.1) (find S (inner q) es)
 
   find-below : (n : N) (es : List (N × map.FinMap S V)) (q : P) → T (below_all Q n es)
-      → eq_by_cmp Q (outer q) n ≡ true → find R q (flat up es) ≡ None
+      → eq_by_cmp Q (outer q) n ≡ true → find R q (flat_entries up es) ≡ None
   unfolding or_else
   find-below n [] q h e = refl
   find-below n (f ∷ es) q h e =
-      find_beside R (block up f.0 (map.entries f.1)) (flat up es) q
-      ∙ ap (λ o. or_else o (find R q (flat up es))) (find-block f.0 (map.entries f.1) q
+      find_beside R (block up f.0 (map.entries f.1)) (flat_entries up es) q
+      ∙ ap (λ o. or_else o (find R q (flat_entries up es))) (find-block f.0 (map.entries f.1) q
       ∙ ap (λ b. cond b (find S (inner q) (map.entries f.1)) None) (not_less law (outer q) n f.0 e (T_first _ _ h)))
       ∙ find-below n es q (T_second _ _ h) e
 
@@ -167,28 +167,28 @@ module _ {N K P V : Type 0} {Q : N → N → Ordering} {S : K → K → Ordering
   chosen true m o k r h e = ap (or_else (map.get m k)) (h refl) ∙ or_none (map.get m k)
   chosen false m o k r h e = e
 
-  find-flat : (es : List (N × map.FinMap S V)) (q : P) → T (is_sorted Q es)
-      → find R q (flat up es) ≡ inside (find Q (outer q) es) (inner q)
-  find-flat [] q h = refl
-  find-flat (e ∷ es) q h =
-      find_beside R (block up e.0 (map.entries e.1)) (flat up es) q
-      ∙ ap (λ o. or_else o (find R q (flat up es))) (find-block e.0 (map.entries e.1) q
+  find-flat_entries : (es : List (N × map.FinMap S V)) (q : P) → T (is_sorted Q es)
+      → find R q (flat_entries up es) ≡ inside (find Q (outer q) es) (inner q)
+  find-flat_entries [] q h = refl
+  find-flat_entries (e ∷ es) q h =
+      find_beside R (block up e.0 (map.entries e.1)) (flat_entries up es) q
+      ∙ ap (λ o. or_else o (find R q (flat_entries up es))) (find-block e.0 (map.entries e.1) q
       ∙ ap (λ g. cond (eq_by_cmp Q (outer q) e.0) g None) (sym (map.get-entries e.1 (inner q))))
-      ∙ chosen (eq_by_cmp Q (outer q) e.0) e.1 (find Q (outer q) es) (inner q) (find R q (flat up es))
-      (find-below e.0 es q (T_first _ _ h)) (find-flat es q (T_second _ _ h))
+      ∙ chosen (eq_by_cmp Q (outer q) e.0) e.1 (find Q (outer q) es) (inner q) (find R q (flat_entries up es))
+      (find-below e.0 es q (T_first _ _ h)) (find-flat_entries es q (T_second _ _ h))
 
-  pub get-joined : (m : map.FinMap Q (map.FinMap S V)) (q : P)
-      → map.get (joined {R = R} up m) q ≡ inside (map.get m (outer q)) (inner q)
-  get-joined m q =
-      map.get-from_entries law.total (flat up (map.entries m)) q
-      ∙ find-flat (map.entries m) q (map.entries_sorted m)
+  pub get-joined_map : (m : map.FinMap Q (map.FinMap S V)) (q : P)
+      → map.get (joined_map {R = R} up m) q ≡ inside (map.get m (outer q)) (inner q)
+  get-joined_map m q =
+      map.get-from_entries law.total (flat_entries up (map.entries m)) q
+      ∙ find-flat_entries (map.entries m) q (map.entries_sorted m)
       ∙ ap (λ o. inside o (inner q)) (sym (map.get-entries m (outer q)))
 
   -- at a key that is made of an outer and an inner one
-  pub get-joined_up : (m : map.FinMap Q (map.FinMap S V)) (n : N) (k : K)
-      → map.get (joined {R = R} up m) (up n k) ≡ inside (map.get m n) k
-  get-joined_up m n k =
-      get-joined m (up n k)
+  pub get-joined_map_up : (m : map.FinMap Q (map.FinMap S V)) (n : N) (k : K)
+      → map.get (joined_map {R = R} up m) (up n k) ≡ inside (map.get m n) k
+  get-joined_map_up m n k =
+      get-joined_map m (up n k)
       ∙ ap (λ j. inside (map.get m j) (inner (up n k))) (law.outer_is n k)
       ∙ ap (inside (map.get m n)) (law.inner_is n k)
 
@@ -203,10 +203,11 @@ module _ {N K P V : Type 0} {Q : N → N → Ordering} {S : K → K → Ordering
   above-block n m [] ps h k = k
   above-block n m (e ∷ es) ps h k = (ap (Q n) (law.outer_is m e.0) ∙ h, above-block n m es ps h k)
 
-  above-flat : (n : N) (es : List (N × map.FinMap S V)) → T (below_all Q n es) → Above n (flat up es)
-  above-flat n [] h = tt
-  above-flat n (e ∷ es) h =
-      above-block n e.0 (map.entries e.1) (flat up es) (is_less _ (T_first _ _ h)) (above-flat n es (T_second _ _ h))
+  above-flat_entries : (n : N) (es : List (N × map.FinMap S V)) → T (below_all Q n es) → Above n (flat_entries up es)
+  above-flat_entries n [] h = tt
+  above-flat_entries n (e ∷ es) h =
+      above-block n e.0 (map.entries e.1) (flat_entries up es) (is_less _ (T_first _ _ h))
+      (above-flat_entries n es (T_second _ _ h))
 
   below-above : (n : N) (k : K) (ps : List (P × V)) → Above n ps → T (below_all R (up n k) ps)
   below-above n k [] h = tt
@@ -228,76 +229,78 @@ module _ {N K P V : Type 0} {Q : N → N → Ordering} {S : K → K → Ordering
   sorted-block n (e ∷ es) ps h a s =
       T_both _ _ (below-block n e.0 es ps (T_first _ _ h) a) (sorted-block n es ps (T_second _ _ h) a s)
 
-  sorted-flat : (es : List (N × map.FinMap S V)) → T (is_sorted Q es) → T (is_sorted R (flat up es))
-  sorted-flat [] h = tt
-  sorted-flat (e ∷ es) h =
-      sorted-block e.0 (map.entries e.1) (flat up es) (map.entries_sorted e.1) (above-flat e.0 es (T_first _ _ h))
-      (sorted-flat es (T_second _ _ h))
+  sorted-flat_entries : (es : List (N × map.FinMap S V)) → T (is_sorted Q es) → T (is_sorted R (flat_entries up es))
+  sorted-flat_entries [] h = tt
+  sorted-flat_entries (e ∷ es) h =
+      sorted-block e.0 (map.entries e.1) (flat_entries up es) (map.entries_sorted e.1)
+      (above-flat_entries e.0 es (T_first _ _ h))
+      (sorted-flat_entries es (T_second _ _ h))
 
-  pub entries-joined : (m : map.FinMap Q (map.FinMap S V))
-      → map.entries (joined {R = R} up m) ≡ flat up (map.entries m)
-  entries-joined m = entries-sorted law.total law.exact (flat up (map.entries m))
-      (sorted-flat (map.entries m) (map.entries_sorted m))
+  pub entries-joined_map : (m : map.FinMap Q (map.FinMap S V))
+      → map.entries (joined_map {R = R} up m) ≡ flat_entries up (map.entries m)
+  entries-joined_map m = entries-sorted law.total law.exact (flat_entries up (map.entries m))
+      (sorted-flat_entries (map.entries m) (map.entries_sorted m))
 
   -- ---- changes of an inner map
 
   put_at : (m : map.FinMap Q (map.FinMap S V)) (n : N) (h : map.FinMap S V) (w : map.FinMap R V)
       → ((k : K) → map.get h k ≡ map.get w (up n k)) → (q : P)
-      → (eq_by_cmp Q (outer q) n ≡ false → map.get w q ≡ map.get (joined {R = R} up m) q) → (b : Bool)
+      → (eq_by_cmp Q (outer q) n ≡ false → map.get w q ≡ map.get (joined_map {R = R} up m) q) → (b : Bool)
       → eq_by_cmp Q (outer q) n ≡ b
       → inside (cond b (Some h) (map.get m (outer q))) (inner q) ≡ map.get w q
   put_at m n h w here q there true e =
       here (inner q) ∙ ap (λ a. map.get w (up a (inner q))) (sym (outer_same law (outer q) n e))
       ∙ ap (map.get w) (law.back q)
-  put_at m n h w here q there false e = sym (get-joined m q) ∙ sym (there e)
+  put_at m n h w here q there false e = sym (get-joined_map m q) ∙ sym (there e)
 
   -- a map that has at the keys of one outer key what the new inner map has, and elsewhere what was there
-  pub joined-put : (m : map.FinMap Q (map.FinMap S V)) (n : N) (h : map.FinMap S V) (w : map.FinMap R V)
+  pub joined_map-put : (m : map.FinMap Q (map.FinMap S V)) (n : N) (h : map.FinMap S V) (w : map.FinMap R V)
       → ((k : K) → map.get h k ≡ map.get w (up n k))
-      → ((q : P) → eq_by_cmp Q (outer q) n ≡ false → map.get w q ≡ map.get (joined {R = R} up m) q)
-      → joined up (map.insert m n h) ≡ w
-  joined-put m n h w here there = map.same_map law.total law.exact _ _ (λ q.
-      get-joined (map.insert m n h) q
+      → ((q : P) → eq_by_cmp Q (outer q) n ≡ false → map.get w q ≡ map.get (joined_map {R = R} up m) q)
+      → joined_map up (map.insert m n h) ≡ w
+  joined_map-put m n h w here there = map.same_map law.total law.exact _ _ (λ q.
+      get-joined_map (map.insert m n h) q
       ∙ ap (λ o. inside o (inner q)) (map.get-insert law.outer_total m n h (outer q))
       ∙ put_at m n h w here q (there q) (eq_by_cmp Q (outer q) n) refl)
 
   -- one value more in the inner map
-  pub joined-insert : (m : map.FinMap Q (map.FinMap S V)) (n : N) (h : map.FinMap S V) (k : K) (v : V)
+  pub joined_map-insert : (m : map.FinMap Q (map.FinMap S V)) (n : N) (h : map.FinMap S V) (k : K) (v : V)
       → ((j : K) → map.get h j ≡ inside (map.get m n) j)
-      → joined {R = R} up (map.insert m n (map.insert h k v)) ≡ map.insert (joined up m) (up n k) v
-  joined-insert m n h k v held =
-      joined-put m n (map.insert h k v) (map.insert (joined up m) (up n k) v)
+      → joined_map {R = R} up (map.insert m n (map.insert h k v)) ≡ map.insert (joined_map up m) (up n k) v
+  joined_map-insert m n h k v held =
+      joined_map-put m n (map.insert h k v) (map.insert (joined_map up m) (up n k) v)
       (λ j.
       map.get-insert law.inner_total h k v j
-      ∙ ap (cond (eq_by_cmp S j k) (Some v)) (held j ∙ sym (get-joined_up m n j))
-      ∙ ap (λ b. cond b (Some v) (map.get (joined {R = R} up m) (up n j))) (ap is_eq (same_block law n j k))
-      ∙ sym (map.get-insert law.total (joined up m) (up n k) v (up n j)))
+      ∙ ap (cond (eq_by_cmp S j k) (Some v)) (held j ∙ sym (get-joined_map_up m n j))
+      ∙ ap (λ b. cond b (Some v) (map.get (joined_map {R = R} up m) (up n j))) (ap is_eq (same_block law n j k))
+      ∙ sym (map.get-insert law.total (joined_map up m) (up n k) v (up n j)))
       (λ q e.
-      map.get-insert law.total (joined up m) (up n k) v q
-      ∙ ap (λ b. cond b (Some v) (map.get (joined {R = R} up m) q))
+      map.get-insert law.total (joined_map up m) (up n k) v q
+      ∙ ap (λ b. cond b (Some v) (map.get (joined_map {R = R} up m) q))
       (tied law q n k ∙ ap (λ b. b && eq_by_cmp S (inner q) k) e))
 
   -- some keys fewer in the inner map
-  pub joined-kept : (m : map.FinMap Q (map.FinMap S V)) (n : N) (h : map.FinMap S V) (t : K → Bool) (p : P → Bool)
+  pub joined_map-kept : (m : map.FinMap Q (map.FinMap S V)) (n : N) (h : map.FinMap S V) (t : K → Bool) (p : P → Bool)
       → ((j : K) → map.get h j ≡ inside (map.get m n) j) → ((j : K) → t j ≡ p (up n j))
       → ((q : P) → eq_by_cmp Q (outer q) n ≡ false → p q ≡ true)
-      → joined {R = R} up (map.insert m n (map.retain_keys h t)) ≡ map.retain_keys (joined up m) p
-  joined-kept m n h t p held here there =
-      joined-put m n (map.retain_keys h t) (map.retain_keys (joined up m) p)
+      → joined_map {R = R} up (map.insert m n (map.retain_keys h t)) ≡ map.retain_keys (joined_map up m) p
+  joined_map-kept m n h t p held here there =
+      joined_map-put m n (map.retain_keys h t) (map.retain_keys (joined_map up m) p)
       (λ j.
       get_kept law.inner_exact h t j
-      ∙ ap (λ o. cond (t j) o None) (held j ∙ sym (get-joined_up m n j))
-      ∙ ap (λ b. cond b (map.get (joined {R = R} up m) (up n j)) None) (here j)
-      ∙ sym (get_kept law.exact (joined up m) p (up n j)))
+      ∙ ap (λ o. cond (t j) o None) (held j ∙ sym (get-joined_map_up m n j))
+      ∙ ap (λ b. cond b (map.get (joined_map {R = R} up m) (up n j)) None) (here j)
+      ∙ sym (get_kept law.exact (joined_map up m) p (up n j)))
       (λ q e.
-      get_kept law.exact (joined up m) p q ∙ ap (λ b. cond b (map.get (joined {R = R} up m) q) None) (there q e))
+      get_kept law.exact (joined_map up m) p q
+      ∙ ap (λ b. cond b (map.get (joined_map {R = R} up m) q) None) (there q e))
 
   -- an inner map that holds nothing, where there was none
-  pub joined-empty : (m : map.FinMap Q (map.FinMap S V)) (n : N) → map.get m n ≡ None
-      → joined {R = R} up (map.insert m n map.empty) ≡ joined up m
-  joined-empty m n h =
-      joined-put m n map.empty (joined up m)
-      (λ j. map.get-empty S j ∙ sym (get-joined_up m n j ∙ ap (λ o. inside o j) h)) (λ q e. refl)
+  pub joined_map-empty : (m : map.FinMap Q (map.FinMap S V)) (n : N) → map.get m n ≡ None
+      → joined_map {R = R} up (map.insert m n map.empty) ≡ joined_map up m
+  joined_map-empty m n h =
+      joined_map-put m n map.empty (joined_map up m)
+      (λ j. map.get-empty S j ∙ sym (get-joined_map_up m n j ∙ ap (λ o. inside o j) h)) (λ q e. refl)
 
   out_at : (o : Option (map.FinMap S V)) (k : K) (a : Bool)
       → inside (cond a None o) k ≡ cond (not a) (inside o k) None
@@ -305,16 +308,16 @@ module _ {N K P V : Type 0} {Q : N → N → Ordering} {S : K → K → Ordering
   out_at o k false = refl
 
   -- without an inner map
-  pub joined-removed : (m : map.FinMap Q (map.FinMap S V)) (n : N) (p : P → Bool)
+  pub joined_map-removed : (m : map.FinMap Q (map.FinMap S V)) (n : N) (p : P → Bool)
       → ((q : P) → p q ≡ not (eq_by_cmp Q (outer q) n))
-      → joined {R = R} up (map.remove m n) ≡ map.retain_keys (joined up m) p
-  joined-removed m n p h = map.same_map law.total law.exact _ _ (λ q.
-      get-joined (map.remove m n) q
+      → joined_map {R = R} up (map.remove m n) ≡ map.retain_keys (joined_map up m) p
+  joined_map-removed m n p h = map.same_map law.total law.exact _ _ (λ q.
+      get-joined_map (map.remove m n) q
       ∙ ap (λ o. inside o (inner q)) (map.get-remove law.outer_total m n (outer q))
       ∙ out_at (map.get m (outer q)) (inner q) (eq_by_cmp Q (outer q) n)
       ∙ ap (λ b. cond b (inside (map.get m (outer q)) (inner q)) None) (sym (h q))
-      ∙ ap (λ o. cond (p q) o None) (sym (get-joined m q))
-      ∙ sym (get_kept law.exact (joined up m) p q))
+      ∙ ap (λ o. cond (p q) o None) (sym (get-joined_map m q))
+      ∙ sym (get_kept law.exact (joined_map up m) p q))
 
   -- ---- the entries that pass a test
 
@@ -341,11 +344,11 @@ module _ {N K P V : Type 0} {Q : N → N → Ordering} {S : K → K → Ordering
         ∙ ap (λ r. cond (eq_by_cmp Q m n) r []) (listed m (t e.0) e kept)
 
     filter-above : (m : N) (es : List (N × map.FinMap S V)) → eq_by_cmp Q n m ≡ true → T (below_all Q m es)
-        → filter (λ e. p e.0) (flat up es) ≡ []
+        → filter (λ e. p e.0) (flat_entries up es) ≡ []
     filter-above m [] h l = refl
     filter-above m (e ∷ es) h l =
-        filter-append (λ e. p e.0) (block up e.0 (map.entries e.1)) (flat up es)
-        ∙ ap (λ r. r ++ filter (λ e. p e.0) (flat up es)) (filter-block e.0 (map.entries e.1)
+        filter-append (λ e. p e.0) (block up e.0 (map.entries e.1)) (flat_entries up es)
+        ∙ ap (λ r. r ++ filter (λ e. p e.0) (flat_entries up es)) (filter-block e.0 (map.entries e.1)
         ∙ ap (λ b. cond b (block up e.0 (filter (λ e. t e.0) (map.entries e.1))) [])
         (higher law n m e.0 h (T_first _ _ l)))
         ∙ filter-above m es h (T_second _ _ l)
@@ -355,8 +358,8 @@ module _ {N K P V : Type 0} {Q : N → N → Ordering} {S : K → K → Ordering
     no_more (x ∷ xs) = ap (λ ys. x ∷ ys) (no_more xs)
 
     picked : (e : N × map.FinMap S V) (es : List (N × map.FinMap S V)) (b : Bool) → eq_by_cmp Q n e.0 ≡ b
-        → T (below_all Q e.0 es) → filter (λ e. p e.0) (flat up es) ≡ held_in up n t (find Q n es)
-        → cond b (block up e.0 (filter (λ e. t e.0) (map.entries e.1))) [] ++ filter (λ e. p e.0) (flat up es)
+        → T (below_all Q e.0 es) → filter (λ e. p e.0) (flat_entries up es) ≡ held_in up n t (find Q n es)
+        → cond b (block up e.0 (filter (λ e. t e.0) (map.entries e.1))) [] ++ filter (λ e. p e.0) (flat_entries up es)
         ≡ held_in up n t (cond b (Some e.1) (find Q n es))
     picked e es true h l rest =
         let kept = filter (λ e. t e.0) (map.entries e.1) in
@@ -365,22 +368,22 @@ module _ {N K P V : Type 0} {Q : N → N → Ordering} {S : K → K → Ordering
         ∙ ap (λ m. block up m kept) (sym (outer_same law n e.0 h))
     picked e es false h l rest = rest
 
-    filter-flat : (es : List (N × map.FinMap S V)) → T (is_sorted Q es)
-        → filter (λ e. p e.0) (flat up es) ≡ held_in up n t (find Q n es)
-    filter-flat [] h = refl
-    filter-flat (e ∷ es) h =
-        filter-append (λ e. p e.0) (block up e.0 (map.entries e.1)) (flat up es)
-        ∙ ap (λ r. r ++ filter (λ e. p e.0) (flat up es)) (filter-block e.0 (map.entries e.1)
+    filter-flat_entries : (es : List (N × map.FinMap S V)) → T (is_sorted Q es)
+        → filter (λ e. p e.0) (flat_entries up es) ≡ held_in up n t (find Q n es)
+    filter-flat_entries [] h = refl
+    filter-flat_entries (e ∷ es) h =
+        filter-append (λ e. p e.0) (block up e.0 (map.entries e.1)) (flat_entries up es)
+        ∙ ap (λ r. r ++ filter (λ e. p e.0) (flat_entries up es)) (filter-block e.0 (map.entries e.1)
         ∙ ap (λ b. cond b (block up e.0 (filter (λ e. t e.0) (map.entries e.1))) [])
         ((eq_by_cmp_equiv law.outer_total).symm e.0 n))
-        ∙ picked e es (eq_by_cmp Q n e.0) refl (T_first _ _ h) (filter-flat es (T_second _ _ h))
+        ∙ picked e es (eq_by_cmp Q n e.0) refl (T_first _ _ h) (filter-flat_entries es (T_second _ _ h))
 
     -- the entries of one outer key are those of its inner map
-    pub filter-joined : (m : map.FinMap Q (map.FinMap S V))
-        → filter (λ e. p e.0) (map.entries (joined {R = R} up m)) ≡ held_in up n t (map.get m n)
-    filter-joined m =
-        ap (filter (λ e. p e.0)) (entries-joined m)
-        ∙ filter-flat (map.entries m) (map.entries_sorted m)
+    pub filter-joined_map : (m : map.FinMap Q (map.FinMap S V))
+        → filter (λ e. p e.0) (map.entries (joined_map {R = R} up m)) ≡ held_in up n t (map.get m n)
+    filter-joined_map m =
+        ap (filter (λ e. p e.0)) (entries-joined_map m)
+        ∙ filter-flat_entries (map.entries m) (map.entries_sorted m)
         ∙ ap (held_in up n t) (sym (map.get-entries m n))
 
   module _ (g : N → Bool) where
@@ -396,11 +399,11 @@ module _ {N K P V : Type 0} {Q : N → N → Ordering} {S : K → K → Ordering
 
     -- a test of the outer keys alone
     pub filter-outer : (es : List (N × map.FinMap S V))
-        → filter (λ e. g (outer e.0)) (flat up es) ≡ flat up (filter (λ e. g e.0) es)
+        → filter (λ e. g (outer e.0)) (flat_entries up es) ≡ flat_entries up (filter (λ e. g e.0) es)
     filter-outer [] = refl
     filter-outer (e ∷ es) =
-        filter-append (λ e. g (outer e.0)) (block up e.0 (map.entries e.1)) (flat up es)
-        ∙ ap (λ r. r ++ filter (λ e. g (outer e.0)) (flat up es)) (all_or_none e.0 (map.entries e.1))
+        filter-append (λ e. g (outer e.0)) (block up e.0 (map.entries e.1)) (flat_entries up es)
+        ∙ ap (λ r. r ++ filter (λ e. g (outer e.0)) (flat_entries up es)) (all_or_none e.0 (map.entries e.1))
         ∙ ap (λ r. cond (g e.0) (block up e.0 (map.entries e.1)) [] ++ r) (filter-outer es)
-        ∙ elim (g e.0) as (λ b. cond b (block up e.0 (map.entries e.1)) [] ++ flat up (filter (λ e. g e.0) es)
-        ≡ flat up (cond b (e ∷ filter (λ e. g e.0) es) (filter (λ e. g e.0) es))) [ true ↦ refl | false ↦ refl ]
+        ∙ elim (g e.0) as (λ b. cond b (block up e.0 (map.entries e.1)) [] ++ flat_entries up (filter (λ e. g e.0) es)
+        ≡ flat_entries up (cond b (e ∷ filter (λ e. g e.0) es) (filter (λ e. g e.0) es))) [ true ↦ refl | false ↦ refl ]

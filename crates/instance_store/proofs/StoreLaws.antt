@@ -26,7 +26,7 @@ use Rattle.object_defs.specs.declared.path.Path.{Path}
 use Rattle.object_defs.specs.declared.path.Path.TheVariants.{Object, Resource, Part}
 use Rattle.object_defs.specs.Path.{path_cmp, instance_cmp}
 use Rattle.object_defs.proofs.PathOrder.{path_total, path_exact, instance_total, instance_exact}
-use Rattle.instance_store.specs.Nested.{block, flat, joined}
+use Rattle.instance_store.specs.Nested.{block, flat_entries, joined_map}
 use Rattle.instance_store.specs.Stored.{Stored, value_at, value_count, has_instance, instances_of, lies_in, is_part}
 use Rattle.instance_store.specs.Stored.{values_in, instance_of, resource_path, instance_path}
 use Rattle.instance_store.specs.Stored.{with_value, without_values}
@@ -35,10 +35,9 @@ use Rattle.instance_store.specs.Table.{TableOf}
 use Rattle.instance_store.specs.Tree.{InstanceValues, Objects, place, tree, stored_from}
 use Rattle.instance_store.specs.Tree.{keys_as_set, path_below, at_part}
 use Rattle.instance_store.specs.Tree.{instance_below, value_at_part, value_cmp}
-use Rattle.instance_store.proofs.Nested.{inside, held_in, get-joined, entries-joined, entries-sorted}
-use Rattle.instance_store.proofs.Nested.{entries-kept, joined-put, joined-insert, joined-kept}
-use Rattle.instance_store.proofs.Nested.{joined-empty, joined-removed}
-use Rattle.instance_store.proofs.Nested.{filter-joined, filter-outer}
+use Rattle.instance_store.proofs.Nested.{inside, held_in, get-joined_map, entries-joined_map, entries-sorted}
+use Rattle.instance_store.proofs.Nested.{entries-kept, joined_map-put, joined_map-insert, joined_map-kept}
+use Rattle.instance_store.proofs.Nested.{joined_map-empty, joined_map-removed, filter-joined_map, filter-outer}
 use Rattle.instance_store.proofs.TreeLaws.{instance_nesting, value_nesting, value_total, value_exact, next_of, all_kept}
 
 -- ---- the keys of a map as a set
@@ -166,11 +165,11 @@ module _ {K X : Type 0} {R : K → K → Ordering} (total : IsTotalOrder R) (exa
 pub tree_some : (o : Objects) (n i : ℕ) (object : TableOf InstanceValues) → map.get o n ≡ Some object
     → map.get (tree o) (place n i) ≡ map.get object i
 tree_some o n i object h =
-    get-joined instance_nesting o (place n i) ∙ ap (λ (s : Option (TableOf InstanceValues)). inside s i) h
+    get-joined_map instance_nesting o (place n i) ∙ ap (λ (s : Option (TableOf InstanceValues)). inside s i) h
 
 pub tree_none : (o : Objects) (n i : ℕ) → map.get o n ≡ None → map.get (tree o) (place n i) ≡ None
 tree_none o n i h =
-    get-joined instance_nesting o (place n i) ∙ ap (λ (s : Option (TableOf InstanceValues)). inside s i) h
+    get-joined_map instance_nesting o (place n i) ∙ ap (λ (s : Option (TableOf InstanceValues)). inside s i) h
 
 pub has-tree : (o : Objects) (at : InstancePath) → has_instance (stored_from o) at ≡ is_some (map.get (tree o) at)
 has-tree o at = has_key instance_total instance_exact (tree o) at
@@ -179,13 +178,13 @@ pub tree-insert : (o : Objects) (n i : ℕ) (object : TableOf InstanceValues) (x
     → map.get o n ≡ Some object
     → tree (map.insert o n (map.insert object i x)) ≡ map.insert (tree o) (place n i) x
 tree-insert o n i object x h =
-    joined-insert instance_nesting o n object i x
+    joined_map-insert instance_nesting o n object i x
     (λ j. ap (λ (s : Option (TableOf InstanceValues)). inside s j) (sym h))
 
 pub tree-new : (o : Objects) (n i : ℕ) (x : InstanceValues) → map.get o n ≡ None
     → tree (map.insert o n (map.insert map.empty i x)) ≡ map.insert (tree o) (place n i) x
 tree-new o n i x h =
-    joined-insert instance_nesting o n map.empty i x
+    joined_map-insert instance_nesting o n map.empty i x
     (λ j. map.get-empty {X = InstanceValues} nat_cmp j
     ∙ ap (λ (s : Option (TableOf InstanceValues)). inside s j) (sym h))
 
@@ -199,7 +198,7 @@ no_tie q n i h = grind (arith, nat_tests)
 pub tree-remove : (o : Objects) (n i : ℕ) (object : TableOf InstanceValues) → map.get o n ≡ Some object
     → tree (map.insert o n (map.remove object i)) ≡ map.remove (tree o) (place n i)
 tree-remove o n i object h =
-    joined-put instance_nesting o n (map.remove object i) (map.remove (tree o) (place n i))
+    joined_map-put instance_nesting o n (map.remove object i) (map.remove (tree o) (place n i))
     (λ k.
     map.get-remove nat_cmp_total object i k
     ∙ ap (λ b. cond b None (map.get object k)) (same_tie n k i)
@@ -214,13 +213,13 @@ tree-remove o n i object h =
 pub value-some : (o : Objects) (path : FullPath) (m : InstanceValues) → map.get (tree o) (instance_below path) ≡ Some m
     → value_at (stored_from o) path ≡ map.get m (path.resource, path.part)
 value-some o path m h =
-    get-joined value_nesting (tree o) path
+    get-joined_map value_nesting (tree o) path
     ∙ ap (λ (s : Option InstanceValues). inside s (path.resource, path.part)) h
 
 pub value-none : (o : Objects) (path : FullPath) → map.get (tree o) (instance_below path) ≡ None
     → value_at (stored_from o) path ≡ None
 value-none o path h =
-    get-joined value_nesting (tree o) path
+    get-joined_map value_nesting (tree o) path
     ∙ ap (λ (s : Option InstanceValues). inside s (path.resource, path.part)) h
 
 -- ---- what changes a store
@@ -233,9 +232,9 @@ pub put-stored : (o p : Objects) (path : FullPath) (v : Value) (m : InstanceValu
     → tree p ≡ map.insert (tree o) (instance_below path) (map.insert m (path.resource, path.part) v)
     → stored_from p ≡ with_value (stored_from o) path v
 put-stored o p path v m h e =
-    let values : joined {R = path_cmp} path_below (tree p) ≡ map.insert (joined path_below (tree o)) path v =
-    ap (joined path_below) e
-    ∙ joined-insert value_nesting (tree o) (instance_below path) m (path.resource, path.part) v
+    let values : joined_map {R = path_cmp} path_below (tree p) ≡ map.insert (joined_map path_below (tree o)) path v =
+    ap (joined_map path_below) e
+    ∙ joined_map-insert value_nesting (tree o) (instance_below path) m (path.resource, path.part) v
     (λ j. ap (λ (s : Option InstanceValues). inside s j) (sym h)) in
     let instances : keys_as_set (tree p) ≡ keys_as_set (tree o) =
     ap keys_as_set e
@@ -256,10 +255,10 @@ pub clear-stored : (o p : Objects) (path : ResourcePath) (m : InstanceValues)
     → stored_from p ≡ without_values (stored_from o) (resource_path path)
 clear-stored o p path m h e =
     let at = instance_of path in
-    let values : joined {R = path_cmp} path_below (tree p)
-    ≡ map.retain_keys (joined path_below (tree o)) (λ q. not (lies_in (resource_path path) q)) =
-    ap (joined path_below) e
-    ∙ joined-kept value_nesting (tree o) at m (λ k. not (eqb k.0 path.resource))
+    let values : joined_map {R = path_cmp} path_below (tree p)
+    ≡ map.retain_keys (joined_map path_below (tree o)) (λ q. not (lies_in (resource_path path) q)) =
+    ap (joined_map path_below) e
+    ∙ joined_map-kept value_nesting (tree o) at m (λ k. not (eqb k.0 path.resource))
     (λ q. not (lies_in (resource_path path) q))
     (λ j. ap (λ (s : Option InstanceValues). inside s j) (sym h))
     (λ j. in_resource_here at path.resource j.0)
@@ -275,10 +274,10 @@ same_place q at = grind (arith, nat_tests)
 pub remove-stored : (o p : Objects) (at : InstancePath) → tree p ≡ map.remove (tree o) at
     → stored_from p ≡ without_instance (stored_from o) at
 remove-stored o p at e =
-    let values : joined {R = path_cmp} path_below (tree p)
-    ≡ map.retain_keys (joined path_below (tree o)) (λ q. not (lies_in (instance_path at) q)) =
-    ap (joined path_below) e
-    ∙ joined-removed value_nesting (tree o) at (λ q. not (lies_in (instance_path at) q))
+    let values : joined_map {R = path_cmp} path_below (tree p)
+    ≡ map.retain_keys (joined_map path_below (tree o)) (λ q. not (lies_in (instance_path at) q)) =
+    ap (joined_map path_below) e
+    ∙ joined_map-removed value_nesting (tree o) at (λ q. not (lies_in (instance_path at) q))
     (λ q. ap not (same_place (instance_below q) at)) in
     let instances : keys_as_set (tree p) ≡ map.remove (keys_as_set (tree o)) at =
     ap keys_as_set e ∙ keys-remove instance_total instance_exact (tree o) at in
@@ -288,8 +287,8 @@ pub add-stored : (o p : Objects) (at : InstancePath) → map.get (tree o) at ≡
     → tree p ≡ map.insert (tree o) at map.empty
     → stored_from p ≡ with_instance (stored_from o) at
 add-stored o p at h e =
-    let values : joined {R = path_cmp} path_below (tree p) ≡ joined path_below (tree o) =
-    ap (joined path_below) e ∙ joined-empty value_nesting (tree o) at h in
+    let values : joined_map {R = path_cmp} path_below (tree p) ≡ joined_map path_below (tree o) =
+    ap (joined_map path_below) e ∙ joined_map-empty value_nesting (tree o) at h in
     let instances : keys_as_set (tree p) ≡ map.insert (keys_as_set (tree o)) at tt =
     ap keys_as_set e ∙ keys-insert instance_total instance_exact (tree o) at map.empty in
     λ i. record { values = values i; instances = instances i }
@@ -340,7 +339,7 @@ in_instance q at = grind (arith, nat_tests)
 pub listed-instance : (o : Objects) (at : InstancePath) (m : InstanceValues) → map.get (tree o) at ≡ Some m
     → values_in (stored_from o) (instance_path at) ≡ block path_below at (map.entries m)
 listed-instance o at m h =
-    filter-joined value_nesting at (λ k. true) (lies_in (instance_path at)) (λ q. in_instance (instance_below q) at)
+    filter-joined_map value_nesting at (λ k. true) (lies_in (instance_path at)) (λ q. in_instance (instance_below q) at)
     (tree o)
     ∙ ap (held_in path_below at (λ k. true)) h
     ∙ ap (block path_below at) (all_kept (map.entries m))
@@ -348,7 +347,7 @@ listed-instance o at m h =
 pub listed-no_instance : (o : Objects) (at : InstancePath) → map.get (tree o) at ≡ None
     → values_in (stored_from o) (instance_path at) ≡ []
 listed-no_instance o at h =
-    filter-joined value_nesting at (λ k. true) (lies_in (instance_path at)) (λ q. in_instance (instance_below q) at)
+    filter-joined_map value_nesting at (λ k. true) (lies_in (instance_path at)) (λ q. in_instance (instance_below q) at)
     (tree o)
     ∙ ap (held_in path_below at (λ k. true)) h
 
@@ -360,14 +359,14 @@ pub listed-resource : (o : Objects) (at : InstancePath) (r : ℕ) (m : InstanceV
     → values_in (stored_from o) (Resource at.object at.instance r)
     ≡ block path_below at (filter (λ e. eqb e.0.0 r) (map.entries m))
 listed-resource o at r m h =
-    filter-joined value_nesting at (λ k. eqb k.0 r) (lies_in (Resource at.object at.instance r))
+    filter-joined_map value_nesting at (λ k. eqb k.0 r) (lies_in (Resource at.object at.instance r))
     (λ q. in_place (instance_below q) at (eqb q.resource r)) (tree o)
     ∙ ap (held_in path_below at (λ k. eqb k.0 r)) h
 
 pub listed-no_resource : (o : Objects) (at : InstancePath) (r : ℕ) → map.get (tree o) at ≡ None
     → values_in (stored_from o) (Resource at.object at.instance r) ≡ []
 listed-no_resource o at r h =
-    filter-joined value_nesting at (λ k. eqb k.0 r) (lies_in (Resource at.object at.instance r))
+    filter-joined_map value_nesting at (λ k. eqb k.0 r) (lies_in (Resource at.object at.instance r))
     (λ q. in_place (instance_below q) at (eqb q.resource r)) (tree o)
     ∙ ap (held_in path_below at (λ k. eqb k.0 r)) h
 
@@ -399,7 +398,7 @@ pub listed-part : (o : Objects) (at : InstancePath) (r p : ℕ) (m : InstanceVal
     → values_in (stored_from o) (Part at.object at.instance r p)
     ≡ value_at_part at r p (map.get m (at_part r (Some p)))
 listed-part o at r p m h =
-    filter-joined value_nesting at (λ k. eqb k.0 r && is_part p k.1) (lies_in (Part at.object at.instance r p))
+    filter-joined_map value_nesting at (λ k. eqb k.0 r && is_part p k.1) (lies_in (Part at.object at.instance r p))
     (λ q. in_part (instance_below q) at (eqb q.resource r) (is_part p q.part)) (tree o)
     ∙ ap (held_in path_below at (λ k. eqb k.0 r && is_part p k.1)) h
     ∙ ap (λ (t : ℕ × Option ℕ → Bool). block path_below at (filter (λ e. t e.0) (map.entries m)))
@@ -412,7 +411,7 @@ listed-part o at r p m h =
 pub listed-no_part : (o : Objects) (at : InstancePath) (r p : ℕ) → map.get (tree o) at ≡ None
     → values_in (stored_from o) (Part at.object at.instance r p) ≡ []
 listed-no_part o at r p h =
-    filter-joined value_nesting at (λ k. eqb k.0 r && is_part p k.1) (lies_in (Part at.object at.instance r p))
+    filter-joined_map value_nesting at (λ k. eqb k.0 r && is_part p k.1) (lies_in (Part at.object at.instance r p))
     (λ q. in_part (instance_below q) at (eqb q.resource r) (is_part p q.part)) (tree o)
     ∙ ap (held_in path_below at (λ k. eqb k.0 r && is_part p k.1)) h
 
@@ -421,32 +420,34 @@ in_object n k = grind (arith, nat_tests)
 
 object_in : (o : Objects) (n : ℕ) → filter (λ e. eqb e.0.object n) (map.entries (tree o))
     ≡ held_in place n (λ k. true) (map.get o n)
-object_in o n = filter-joined instance_nesting n (λ k. true) (λ q. eqb q.object n) (λ q. in_object n q.object) o
+object_in o n = filter-joined_map instance_nesting n (λ k. true) (λ q. eqb q.object n) (λ q. in_object n q.object) o
 
 below_object : (o : Objects) (n : ℕ) → values_in (stored_from o) (Object n)
-    ≡ flat path_below (held_in place n (λ k. true) (map.get o n))
+    ≡ flat_entries path_below (held_in place n (λ k. true) (map.get o n))
 below_object o n =
-    ap (filter (λ e. lies_in (Object n) e.0)) (entries-joined value_nesting (tree o))
+    ap (filter (λ e. lies_in (Object n) e.0)) (entries-joined_map value_nesting (tree o))
     ∙ filter-outer value_nesting (λ q. eqb q.object n) (map.entries (tree o))
-    ∙ ap (flat path_below) (object_in o n)
+    ∙ ap (flat_entries path_below) (object_in o n)
 
 pub listed-object : (o : Objects) (n : ℕ) (object : TableOf InstanceValues) → map.get o n ≡ Some object
-    → values_in (stored_from o) (Object n) ≡ flat path_below (block place n (map.entries object))
+    → values_in (stored_from o) (Object n) ≡ flat_entries path_below (block place n (map.entries object))
 listed-object o n object h =
     below_object o n
-    ∙ ap (λ s. flat path_below (held_in place n (λ k. true) s)) h
-    ∙ ap (λ es. flat path_below (block place n es)) (all_kept (map.entries object))
+    ∙ ap (λ s. flat_entries path_below (held_in place n (λ k. true) s)) h
+    ∙ ap (λ es. flat_entries path_below (block place n es)) (all_kept (map.entries object))
 
 pub listed-no_object : (o : Objects) (n : ℕ) → map.get o n ≡ None → values_in (stored_from o) (Object n) ≡ []
-listed-no_object o n h = below_object o n ∙ ap (λ s. flat path_below (held_in place n (λ k. true) s)) h
+listed-no_object o n h = below_object o n ∙ ap (λ s. flat_entries path_below (held_in place n (λ k. true) s)) h
 
-pub all-values : (o : Objects) → map.entries (stored_from o).values ≡ flat path_below (flat place (map.entries o))
-all-values o = entries-joined value_nesting (tree o) ∙ ap (flat path_below) (entries-joined instance_nesting o)
+pub all-values : (o : Objects)
+    → map.entries (stored_from o).values ≡ flat_entries path_below (flat_entries place (map.entries o))
+all-values o = entries-joined_map value_nesting (tree o)
+    ∙ ap (flat_entries path_below) (entries-joined_map instance_nesting o)
 
 pub all-places : (o : Objects)
-    → map.keys (stored_from o).instances ≡ map_list (λ e. e.0) (flat place (map.entries o))
+    → map.keys (stored_from o).instances ≡ map_list (λ e. e.0) (flat_entries place (map.entries o))
 all-places o = keys-keys instance_total instance_exact (tree o)
-    ∙ ap (map_list (λ e. e.0)) (entries-joined instance_nesting o)
+    ∙ ap (map_list (λ e. e.0)) (entries-joined_map instance_nesting o)
 
 keys_filter : (n : ℕ) (es : List (InstancePath × InstanceValues))
     → filter (λ p. eqb p.object n) (map_list (λ e. e.0) es) ≡ map_list (λ e. e.0) (filter (λ e. eqb e.0.object n) es)
@@ -499,20 +500,22 @@ part_numbers at [] = refl
 part_numbers at (((r, None), v) ∷ es) = part_numbers at es
 part_numbers at (((r, Some n), v) ∷ es) = ap (λ t. n ∷ t) (part_numbers at es)
 
-pub flat-append : (xs ys : List (InstancePath × InstanceValues))
-    → flat path_below (xs ++ ys) ≡ flat path_below xs ++ flat path_below ys
-flat-append [] ys = refl
-flat-append (x ∷ xs) ys =
-    ap (λ t. block path_below x.0 (map.entries x.1) ++ t) (flat-append xs ys)
-    ∙ sym (append_assoc (block path_below x.0 (map.entries x.1)) (flat path_below xs) (flat path_below ys))
+pub flat_entries-append : (xs ys : List (InstancePath × InstanceValues))
+    → flat_entries path_below (xs ++ ys) ≡ flat_entries path_below xs ++ flat_entries path_below ys
+flat_entries-append [] ys = refl
+flat_entries-append (x ∷ xs) ys =
+    ap (λ t. block path_below x.0 (map.entries x.1) ++ t) (flat_entries-append xs ys)
+    ∙ sym (append_assoc (block path_below x.0 (map.entries x.1)) (flat_entries path_below xs)
+    (flat_entries path_below ys))
 
 pub object_next : (es : List (ℕ × TableOf InstanceValues)) (i : ℕ) (e : ℕ × TableOf InstanceValues)
     → slice_get es i ≡ Some e
-    → flat path_below (flat place (drop i es))
-    ≡ flat path_below (block place e.0 (map.entries e.1)) ++ flat path_below (flat place (drop (i + 1) es))
+    → flat_entries path_below (flat_entries place (drop i es))
+    ≡ flat_entries path_below (block place e.0 (map.entries e.1))
+    ++ flat_entries path_below (flat_entries place (drop (i + 1) es))
 object_next es i e h =
-    ap (λ t. flat path_below (flat place t)) (next_of es i e h)
-    ∙ flat-append (block place e.0 (map.entries e.1)) (flat place (drop (i + 1) es))
+    ap (λ t. flat_entries path_below (flat_entries place t)) (next_of es i e h)
+    ∙ flat_entries-append (block place e.0 (map.entries e.1)) (flat_entries place (drop (i + 1) es))
 
 place_keys : (n : ℕ) (es : List (ℕ × InstanceValues))
     → map_list (λ e. e.0) (block place n es) ≡ map_list (place n) (map_list (λ e. e.0) es)
@@ -521,12 +524,12 @@ place_keys n (e ∷ es) = ap (λ t. place n e.0 ∷ t) (place_keys n es)
 
 pub places_next : (es : List (ℕ × TableOf InstanceValues)) (i : ℕ) (e : ℕ × TableOf InstanceValues)
     → slice_get es i ≡ Some e
-    → map_list (λ f. f.0) (flat place (drop i es))
-    ≡ map_list (place e.0) (map.keys e.1) ++ map_list (λ f. f.0) (flat place (drop (i + 1) es))
+    → map_list (λ f. f.0) (flat_entries place (drop i es))
+    ≡ map_list (place e.0) (map.keys e.1) ++ map_list (λ f. f.0) (flat_entries place (drop (i + 1) es))
 places_next es i e h =
-    ap (λ t. map_list (λ (f : InstancePath × InstanceValues). f.0) (flat place t)) (next_of es i e h)
-    ∙ map-append (λ f. f.0) (block place e.0 (map.entries e.1)) (flat place (drop (i + 1) es))
-    ∙ ap (λ t. t ++ map_list (λ (f : InstancePath × InstanceValues). f.0) (flat place (drop (i + 1) es)))
+    ap (λ t. map_list (λ (f : InstancePath × InstanceValues). f.0) (flat_entries place t)) (next_of es i e h)
+    ∙ map-append (λ f. f.0) (block place e.0 (map.entries e.1)) (flat_entries place (drop (i + 1) es))
+    ∙ ap (λ t. t ++ map_list (λ (f : InstancePath × InstanceValues). f.0) (flat_entries place (drop (i + 1) es)))
     (place_keys e.0 (map.entries e.1))
 
 -- a store has an instance where the objects have it
@@ -540,17 +543,17 @@ none_there o at h = none_from_test (map.get (tree o) at) (sym (has-tree o at) �
 
 tree-empty : tree map.empty ≡ map.empty
 tree-empty = map.same_map instance_total instance_exact _ _ (λ q.
-    get-joined instance_nesting map.empty q
+    get-joined_map instance_nesting map.empty q
     ∙ ap (λ (s : Option (TableOf InstanceValues)). inside s q.instance)
     (map.get-empty {X = TableOf InstanceValues} nat_cmp q.object)
     ∙ sym (map.get-empty {X = InstanceValues} instance_cmp q))
 
 pub store-empty : stored_from map.empty ≡ empty
 store-empty =
-    let values : joined {R = path_cmp} path_below (tree map.empty) ≡ map.empty =
-    ap (joined path_below) tree-empty
+    let values : joined_map {R = path_cmp} path_below (tree map.empty) ≡ map.empty =
+    ap (joined_map path_below) tree-empty
     ∙ map.same_map path_total path_exact _ _ (λ q.
-    get-joined value_nesting map.empty q
+    get-joined_map value_nesting map.empty q
     ∙ ap (λ (s : Option InstanceValues). inside s (q.resource, q.part))
     (map.get-empty {X = InstanceValues} instance_cmp (instance_below q))
     ∙ sym (map.get-empty {X = Value} path_cmp q)) in

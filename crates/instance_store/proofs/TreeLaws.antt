@@ -27,13 +27,13 @@ use Rattle.object_defs.specs.declared.path.ResourcePath.{ResourcePath}
 use Rattle.object_defs.specs.Path.{path_cmp, instance_cmp}
 use Rattle.object_defs.proofs.PathOrder.{path_total, path_exact, instance_total, instance_exact, exact_options}
 use Rattle.instance_store.specs.Listing.{shown_pairs}
-use Rattle.instance_store.specs.Nested.{block, flat}
+use Rattle.instance_store.specs.Nested.{block, flat_entries}
 use Rattle.instance_store.specs.Table.{TableOf}
 use Rattle.instance_store.specs.Tree.{part_cmp, ResourceValues, single_entries, part_entries, resource_values, at_part}
 use Rattle.instance_store.specs.Tree.{value_cmp, instance_values, HoldValues, place, path_below}
 use Rattle.instance_store.specs.Tree.{path_in}
-use Rattle.instance_store.proofs.Nested.{IsNesting, inside, held_in, get-joined_up, entries-joined, entries-sorted}
-use Rattle.instance_store.proofs.Nested.{filter-joined, joined-insert, joined-removed}
+use Rattle.instance_store.proofs.Nested.{IsNesting, inside, held_in, get-joined_map_up, entries-joined_map}
+use Rattle.instance_store.proofs.Nested.{entries-sorted, filter-joined_map, joined_map-insert, joined_map-removed}
 
 -- ---- the orders
 
@@ -248,7 +248,7 @@ HoldValues-remove t n h q values e =
 
 pub instance-empty : instance_values map.empty ≡ map.empty
 instance-empty = map.same_map value_total value_exact _ _ (λ q.
-    get-joined_up part_nesting map.empty q.0 q.1
+    get-joined_map_up part_nesting map.empty q.0 q.1
     ∙ ap (λ (o : Option ResourceValues). inside o q.1) (map.get-empty {X = ResourceValues} nat_cmp q.0)
     ∙ sym (map.get-empty value_cmp q))
 
@@ -256,7 +256,7 @@ instance-empty = map.same_map value_total value_exact _ _ (λ q.
 pub resource_in : (t : TableOf ResourceValues) (r : ℕ)
     → filter (λ e. eqb e.0.0 r) (map.entries (instance_values t)) ≡ held_in at_part r (λ k. true) (map.get t r)
 resource_in t r =
-    filter-joined part_nesting r (λ k. true) (λ k. eqb k.0 r) (λ q. tied q.0) t
+    filter-joined_map part_nesting r (λ k. true) (λ k. eqb k.0 r) (λ q. tied q.0) t
   where
     tied : (n : ℕ) → eqb n r ≡ (eq_by_cmp nat_cmp n r && true)
     tied n = grind (arith, nat_tests)
@@ -317,14 +317,14 @@ from_start n [] ys h = absurd (omega (arith, h))
 from_start n (x ∷ xs) ys h = copies n xs ys
 
 abbrev resource_numbers : List (ℕ × ResourceValues) → List ℕ
-resource_numbers es = map_list (λ e. e.0.0) (flat at_part es)
+resource_numbers es = map_list (λ e. e.0.0) (flat_entries at_part es)
 
 abbrev EachHolds : List (ℕ × ResourceValues) → Type 0
 EachHolds es = AllByRecursion (λ e. 0 < length (map.entries e.1)) es
 
 numbers_next : (e : ℕ × ResourceValues) (es : List (ℕ × ResourceValues))
     → resource_numbers (e ∷ es) ≡ map_list (λ e. e.0.0) (block at_part e.0 (map.entries e.1)) ++ resource_numbers es
-numbers_next e es = map-append (λ e. e.0.0) (block at_part e.0 (map.entries e.1)) (flat at_part es)
+numbers_next e es = map-append (λ e. e.0.0) (block at_part e.0 (map.entries e.1)) (flat_entries at_part es)
 
 apart_numbers : (n m : ℕ) → T (is_lt (nat_cmp n m)) → eqb m n ≡ false
 apart_numbers n m h = flip (eqb m n) (eqb n m) (turned n m) (eqb_less n m h)
@@ -382,7 +382,7 @@ each_holds (e ∷ es) s h = (
 pub numbers-instance : (t : TableOf ResourceValues) → HoldValues t
     → dedup eqb (map_list (λ e. e.0.0) (map.entries (instance_values t))) ≡ map.keys t
 numbers-instance t h =
-    ap (λ es. dedup eqb (map_list (λ e. e.0.0) es)) (entries-joined part_nesting t)
+    ap (λ es. dedup eqb (map_list (λ e. e.0.0) es)) (entries-joined_map part_nesting t)
     ∙ each_once (map.entries t) (map.entries_sorted t) (each_holds (map.entries t) (map.entries_sorted t)
     (λ n m f. h n m (map.get-entries t n ∙ f)))
 
@@ -390,23 +390,23 @@ numbers-instance t h =
 
 pub get_some : (t : TableOf ResourceValues) (r : ℕ) (p : Option ℕ) (m : ResourceValues) → map.get t r ≡ Some m
     → map.get (instance_values t) (at_part r p) ≡ map.get m p
-get_some t r p m h = get-joined_up part_nesting t r p ∙ ap (λ (o : Option ResourceValues). inside o p) h
+get_some t r p m h = get-joined_map_up part_nesting t r p ∙ ap (λ (o : Option ResourceValues). inside o p) h
 
 pub get_none : (t : TableOf ResourceValues) (r : ℕ) (p : Option ℕ) → map.get t r ≡ None
     → map.get (instance_values t) (at_part r p) ≡ None
-get_none t r p h = get-joined_up part_nesting t r p ∙ ap (λ (o : Option ResourceValues). inside o p) h
+get_none t r p h = get-joined_map_up part_nesting t r p ∙ ap (λ (o : Option ResourceValues). inside o p) h
 
 -- a value more in a resource that there is, and in a new one
 pub put_some : (t : TableOf ResourceValues) (r : ℕ) (p : Option ℕ) (v : Value) (m : ResourceValues) → map.get t r
     ≡ Some m
     → instance_values (map.insert t r (map.insert m p v)) ≡ map.insert (instance_values t) (at_part r p) v
 put_some t r p v m h =
-    joined-insert part_nesting t r m p v (λ j. ap (λ (o : Option ResourceValues). inside o j) (sym h))
+    joined_map-insert part_nesting t r m p v (λ j. ap (λ (o : Option ResourceValues). inside o j) (sym h))
 
 pub put_none : (t : TableOf ResourceValues) (r : ℕ) (p : Option ℕ) (v : Value) → map.get t r ≡ None
     → instance_values (map.insert t r (map.insert map.empty p v)) ≡ map.insert (instance_values t) (at_part r p) v
 put_none t r p v h =
-    joined-insert part_nesting t r map.empty p v
+    joined_map-insert part_nesting t r map.empty p v
     (λ j. map.get-empty {X = Value} part_cmp j ∙ ap (λ (o : Option ResourceValues). inside o j) (sym h))
 
 put_back : {A : Type 0} (b : Bool) (x : A) (o : Option A) → (b ≡ true → o ≡ Some x) → cond b (Some x) o ≡ o
@@ -421,7 +421,7 @@ insert_same t n x h = map.same_map nat_cmp_total exact_unsigned _ _ (λ q.
 
 pub remove_resource : (t : TableOf ResourceValues) (r : ℕ)
     → instance_values (map.remove t r) ≡ map.retain_keys (instance_values t) (λ k. not (eqb k.0 r))
-remove_resource t r = joined-removed part_nesting t r (λ k. not (eqb k.0 r)) (λ q. tied q.0)
+remove_resource t r = joined_map-removed part_nesting t r (λ k. not (eqb k.0 r)) (λ q. tied q.0)
   where
     tied : (n : ℕ) → not (eqb n r) ≡ not (eq_by_cmp nat_cmp n r)
     tied n = grind (arith, nat_tests)
@@ -438,15 +438,15 @@ next_of xs i x h =
     suc_add i = omega arith
 
 pub len-instance : (t : TableOf ResourceValues)
-    → map.len (instance_values t) ≡ length (flat at_part (map.entries t))
-len-instance t = map.len-entries (instance_values t) ∙ ap length (entries-joined part_nesting t)
+    → map.len (instance_values t) ≡ length (flat_entries at_part (map.entries t))
+len-instance t = map.len-entries (instance_values t) ∙ ap length (entries-joined_map part_nesting t)
 
 pub length_next : (es : List (ℕ × ResourceValues)) (i : ℕ) (e : ℕ × ResourceValues) → slice_get es i ≡ Some e
-    → length (flat at_part (drop i es)) ≡ map.len e.1 + length (flat at_part (drop (i + 1) es))
+    → length (flat_entries at_part (drop i es)) ≡ map.len e.1 + length (flat_entries at_part (drop (i + 1) es))
 length_next es i e h =
-    ap (λ t. length (flat at_part t)) (next_of es i e h)
-    ∙ length-append (block at_part e.0 (map.entries e.1)) (flat at_part (drop (i + 1) es))
-    ∙ ap (λ n. n + length (flat at_part (drop (i + 1) es)))
+    ap (λ t. length (flat_entries at_part t)) (next_of es i e h)
+    ∙ length-append (block at_part e.0 (map.entries e.1)) (flat_entries at_part (drop (i + 1) es))
+    ∙ ap (λ n. n + length (flat_entries at_part (drop (i + 1) es)))
     (length-map (map.entries e.1) _ ∙ sym (map.len-entries e.1))
 
 -- the full paths of a resource's values
@@ -458,13 +458,13 @@ paths_of i r (e ∷ es) = ap (λ t. (path_below i (at_part r e.0), e.1) ∷ t) (
 
 pub paths_next : (i : InstancePath) (es : List (ℕ × ResourceValues)) (n : ℕ) (e : ℕ × ResourceValues)
     → slice_get es n ≡ Some e
-    → block path_below i (flat at_part (drop n es))
+    → block path_below i (flat_entries at_part (drop n es))
     ≡ map_list (λ f. (path_in (record { object = i.object; instance = i.instance; resource = e.0 }) f.0, f.1))
-    (map.entries e.1) ++ block path_below i (flat at_part (drop (n + 1) es))
+    (map.entries e.1) ++ block path_below i (flat_entries at_part (drop (n + 1) es))
 paths_next i es n e h =
-    ap (λ t. block path_below i (flat at_part t)) (next_of es n e h)
-    ∙ map-append _ (block at_part e.0 (map.entries e.1)) (flat at_part (drop (n + 1) es))
-    ∙ ap (λ t. t ++ block path_below i (flat at_part (drop (n + 1) es))) (paths_of i e.0 (map.entries e.1))
+    ap (λ t. block path_below i (flat_entries at_part t)) (next_of es n e h)
+    ∙ map-append _ (block at_part e.0 (map.entries e.1)) (flat_entries at_part (drop (n + 1) es))
+    ∙ ap (λ t. t ++ block path_below i (flat_entries at_part (drop (n + 1) es))) (paths_of i e.0 (map.entries e.1))
 
 -- the values of a resource with their full paths
 abbrev pub in_resource : ResourcePath → List (Option ℕ × Value) → List (FullPath × Value)

@@ -12,7 +12,7 @@ use Rattle.object_defs.specs.declared.path.FullPath.{FullPath}
 use Rattle.object_defs.specs.declared.path.InstancePath.{InstancePath}
 use Rattle.object_defs.specs.declared.path.ResourcePath.{ResourcePath}
 use Rattle.object_defs.specs.Path.{instance_cmp}
-use Rattle.instance_store.specs.Nested.{joined}
+use Rattle.instance_store.specs.Nested.{joined_map}
 use Rattle.instance_store.specs.Stored.{Stored}
 use Rattle.instance_store.specs.Table.{TableOf}
 
@@ -51,7 +51,7 @@ abbrev pub values_code : Coded InstanceValues
 values_code = map.code (coded× coded_ℕ (coded_option coded_ℕ)) value_code
 
 abbrev pub instance_values : TableOf ResourceValues → InstanceValues
-instance_values resources = joined at_part resources
+instance_values resources = joined_map at_part resources
 
 -- no resource is without a value
 abbrev pub HoldValues : TableOf ResourceValues → Type 0
@@ -67,7 +67,7 @@ place object number = record { object = object; instance = number }
 
 -- the instances of all objects
 abbrev pub tree : Objects → map.FinMap instance_cmp InstanceValues
-tree objects = joined place objects
+tree objects = joined_map place objects
 
 -- the full path to a value of an instance
 abbrev pub path_below : InstancePath → ℕ × Option ℕ → FullPath
@@ -87,7 +87,7 @@ keys_as_set m = map.from_entries (map_list (λ e. (e.0, tt)) (map.entries m))
 
 -- what the objects hold
 abbrev pub stored_from : Objects → Stored
-stored_from objects = record { values = joined path_below (tree objects); instances = keys_as_set (tree objects) }
+stored_from objects = record { values = joined_map path_below (tree objects); instances = keys_as_set (tree objects) }
 
 -- the value of a part with its full path, where there is one
 abbrev pub value_at_part : InstancePath → ℕ → ℕ → Option Value → List (FullPath × Value)

@@ -2,7 +2,7 @@
 ghost use Rattle.std.specs.Prelude.{◌≡◌, ◌++◌, map, OnOk};
 ghost use Rattle.std.specs.FinMap as fin_map;
 ghost use Rattle.instance_store.specs.Listing.{shown_pairs};
-ghost use Rattle.instance_store.specs.Nested.{block, flat};
+ghost use Rattle.instance_store.specs.Nested.{block, flat_entries};
 ghost use Rattle.instance_store.specs.Stored.{values_in};
 ghost use Rattle.instance_store.specs.Tree.{tree, stored_from, place, path_below};
 
@@ -20,7 +20,7 @@ fn push_object<'a>(
     object: &'a Table<Instance>,
 ) -> Result<(), AllocError>
     ensures { OnOk result (shown_pairs found.new.items
-        ≡ shown_pairs found.old.items ++ flat path_below (block place number (fin_map.entries object.now))) }
+        ≡ shown_pairs found.old.items ++ flat_entries path_below (block place number (fin_map.entries object.now))) }
 {
     for index in 0..object.len() {
         let (instance, held) = object.entry(index);

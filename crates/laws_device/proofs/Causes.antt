@@ -17,7 +17,8 @@ use Rattle.device_requests.specs.Client.{Client}
 use Rattle.device_notifications.specs.Period.{pmin_of, pmax_of}
 use Rattle.device_notifications.specs.Report.{number_at}
 use Rattle.device_notifications.specs.Message.{open_notification}
-use Rattle.device_notifications.specs.Second.{age_of, is_due_now, present, second, seconds, triggers_now, turn_of}
+use Rattle.device_notifications.specs.Second.{age_of, is_due_now, present_answer, second, seconds, triggers_now}
+use Rattle.device_notifications.specs.Second.{turn_of}
 use Rattle.device_notifications.specs.declared.datagram.Datagram.{Datagram}
 use Rattle.device_notifications.proofs.Turns.{by_all, first_of, of_option, due_waits}
 use Rattle.laws_device.specs.Notifying.{IsCaused, IsCausedBy, IsCausedInOneOf, NotifiesForCause, Passes}
@@ -147,42 +148,44 @@ over_due age pmin pmax true w a f o = grind (arith, nat_tests)
 over_due age pmin pmax false w a f o = grind (arith, nat_tests)
 
 cause_of : (client : Client) (clock : ℕ) (o : Observation)
-    → is_due_now client clock o (present client o).payload ≡ true → IsCaused client clock o
+    → is_due_now client clock o (present_answer client o).payload ≡ true → IsCaused client clock o
 cause_of client clock o due =
     let gt = condition client o name.Gt in
     let lt = condition client o name.Lt in
     let st = condition client o name.St in
     by_due (age_of clock o) (pmin_of client o.server o.path) (pmax_of client o.server o.path)
-    (triggers_now client o (present client o).payload) (IsCaused client clock o) due
-    (by_trigger gt lt st o.report.number (number_at client o.path) o.report.payload (present client o).payload
+    (triggers_now client o (present_answer client o).payload) (IsCaused client clock o) due
+    (by_trigger gt lt st o.report.number (number_at client o.path) o.report.payload (present_answer client o).payload
     (IsCaused client clock o)
     (λ x y e f c t. passed x y (record { condition_is_set = c; reported = e; present_is = f })
     (passes gt lt st x y t))
     (λ none n. changed (λ x y c. none x y c.condition_is_set c.reported c.present_is)
-    (unlike o.report.payload (present client o).payload n)))
+    (unlike o.report.payload (present_answer client o).payload n)))
     (λ m is above follows over. elapsed m is above follows over)
 
 pub due_of : (client : Client) (clock : ℕ) (o : Observation) → pmin_of client o.server o.path ≤ age_of clock o
     → IsCaused client clock o
-    → is_due_now client clock o (present client o).payload ≡ true
+    → is_due_now client clock o (present_answer client o).payload ≡ true
 due_of client clock o w (elapsed m is above follows over) =
     ap (λ p. is_due (age_of clock o) (pmin_of client o.server o.path) p
-    (triggers_now client o (present client o).payload)) is
-    ∙ over_due (age_of clock o) (pmin_of client o.server o.path) m (triggers_now client o (present client o).payload) w
+    (triggers_now client o (present_answer client o).payload)) is
+    ∙ over_due (age_of clock o) (pmin_of client o.server o.path) m
+    (triggers_now client o (present_answer client o).payload) w
     above follows over
 due_of client clock o w (passed x y c p) =
     ap (is_due (age_of clock o) (pmin_of client o.server o.path) (pmax_of client o.server o.path))
     (trigger_of_numbers (condition client o name.Gt) (condition client o name.Lt) (condition client o name.St)
-    o.report.number (number_at client o.path) o.report.payload (present client o).payload x y c.reported c.present_is
+    o.report.number (number_at client o.path) o.report.payload
+    (present_answer client o).payload x y c.reported c.present_is
     c.condition_is_set
     (passing (condition client o name.Gt) (condition client o name.Lt) (condition client o name.St) x y p))
     ∙ waited_due (age_of clock o) (pmin_of client o.server o.path) (pmax_of client o.server o.path) w
 due_of client clock o w (changed none n) =
     ap (is_due (age_of clock o) (pmin_of client o.server o.path) (pmax_of client o.server o.path))
     (trigger_of_payloads (condition client o name.Gt) (condition client o name.Lt) (condition client o name.St)
-    o.report.number (number_at client o.path) o.report.payload (present client o).payload
+    o.report.number (number_at client o.path) o.report.payload (present_answer client o).payload
     (λ x y c e f. none x y (record { condition_is_set = c; reported = e; present_is = f }))
-    (unequal o.report.payload (present client o).payload n))
+    (unequal o.report.payload (present_answer client o).payload n))
     ∙ waited_due (age_of clock o) (pmin_of client o.server o.path) (pmax_of client o.server o.path) w
 
 -- ---- each datagram of a second, and of more
@@ -203,7 +206,7 @@ sent_by client clock next_id o os =
             content = content;
             waited =
                 due_waits (age_of clock o) (pmin_of client o.server o.path) (pmax_of client o.server o.path)
-                (triggers_now client o (present client o).payload) due;
+                (triggers_now client o (present_answer client o).payload) due;
           },
           cause_of client clock o due,
         ),

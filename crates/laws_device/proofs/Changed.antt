@@ -12,7 +12,7 @@ use Rattle.object_defs.specs.declared.path.FullPath.{FullPath}
 use Rattle.object_defs.specs.declared.path.Path.{Path}
 use Rattle.instance_store.specs.Stored.{Stored, value_at, with_value}
 use Rattle.instance_store.proofs.SetValues.{value_elsewhere}
-use Rattle.notifier.specs.Observed.{cancelled, is_named, next_number, number_for, registered}
+use Rattle.notifier.specs.Observed.{is_named, next_number, number_for, with_registered, without_cancelled}
 use Rattle.notifier.specs.declared.observation.Observation.{Observation}
 use Rattle.device_firmware.specs.Firmware.{firmware_after, outcome_in, uri_of, with_outcome, with_uri}
 use Rattle.device_firmware.specs.declared.event.FirmwareEvent.TheVariants.{Ended}
@@ -36,9 +36,9 @@ use Rattle.laws_requests.specs.Done.{Changes, DoneIsChanged}
 use Rattle.laws_requests.specs.Taken.{IsTaken}
 use Rattle.laws_requests.proofs.Taking.{is_taken}
 use Rattle.laws_requests.proofs.Asking.{asked}
-use Rattle.device_machine.specs.Observing.{begun, entered, lacks_place, noted_by, unobserved}
+use Rattle.device_machine.specs.Observing.{after_registration, lacks_place, new_observation, no_observe, noted_by}
 use Rattle.device_machine.specs.Reactions.{flat_after, on_firmware}
-use Rattle.device_machine.specs.State.{Kept, Machine, with_client}
+use Rattle.device_machine.specs.State.{DeviceState, Machine, with_client}
 use Rattle.device_machine.specs.declared.event.Event.TheVariants.{Put, Recv}
 use Rattle.device_machine.proofs.Counting.{named_self}
 use Rattle.laws_device.specs.Changing.{EndsAreTaken, EndsMiss, PutsMiss, PutsSetOne, RequestsAreDone}
@@ -60,50 +60,54 @@ filter_twice p (x ∷ xs) = by (p x) refl (filter_twice p xs)
     by false e k = k
 
 twice : (os : List Observation) (server : ℕ) (token : List ℕ)
-    → cancelled (cancelled os server token) server token ≡ cancelled os server token
+    → without_cancelled (without_cancelled os server token) server token ≡ without_cancelled os server token
 twice os server token = filter_twice (λ o. not (is_named server token o)) os
 
 first_named : (new : Observation) (n : ℕ) (os : List Observation)
-    → cancelled (record new { number = n } ∷ os) new.server new.token ≡ cancelled os new.server new.token
+    → without_cancelled (record new { number = n } ∷ os) new.server new.token
+    ≡ without_cancelled os new.server new.token
 first_named new n os =
-    let rest = cancelled os new.server new.token in
+    let rest = without_cancelled os new.server new.token in
     ap (λ b. cond (not b) (record new { number = n } ∷ rest) rest) (named_self new)
 
 registered_others : (os : List Observation) (new : Observation)
-    → cancelled (registered os new) new.server new.token ≡ cancelled os new.server new.token
+    → without_cancelled (with_registered os new) new.server new.token ≡ without_cancelled os new.server new.token
 registered_others [] new = first_named new 0 []
 registered_others (o ∷ os) new =
-    let rest = cancelled os new.server new.token in
+    let rest = without_cancelled os new.server new.token in
     elim (is_named new.server new.token o) as (λ b. is_named new.server new.token o ≡ b
-    → cancelled (if b then record new { number = next_number o.number } ∷ os else o ∷ registered os new) new.server
+    → without_cancelled (if b then record new { number = next_number o.number } ∷ os else o ∷ with_registered os new)
+    new.server
     new.token
     ≡ cond (not b) (o ∷ rest) rest) [
       | true ↦ λ e. first_named new (next_number o.number) os
-      | false ↦ λ e. ap (λ b. cond (not b) (o ∷ cancelled (registered os new) new.server new.token)
-          (cancelled (registered os new) new.server new.token)) e
+      | false ↦ λ e. ap (λ b. cond (not b) (o ∷ without_cancelled (with_registered os new) new.server new.token)
+          (without_cancelled (with_registered os new) new.server new.token)) e
           ∙ ap (λ ps. o ∷ ps) (registered_others os new)
     ] refl
 
 entered_others : (os : List Observation) (new : Observation)
-    → cancelled (entered os new).left new.server new.token ≡ cancelled os new.server new.token
+    → without_cancelled (after_registration os new).left new.server new.token
+    ≡ without_cancelled os new.server new.token
 entered_others os new =
-    elim (lacks_place os new.server new.token) as (λ b. cancelled (if b then unobserved os
-    else record { number = Some (number_for os new.server new.token); left = registered os new }).left new.server
-    new.token ≡ cancelled os new.server new.token) [
+    elim (lacks_place os new.server new.token) as (λ b. without_cancelled (if b then no_observe os
+    else record { number = Some (number_for os new.server new.token); left = with_registered os new }).left new.server
+    new.token ≡ without_cancelled os new.server new.token) [
       | true ↦ refl
       | false ↦ registered_others os new
     ]
 
-noted_others : (k : Kept) (server : ℕ) (m : Message) (answer : Answer) (interest : Option Interest)
-    → cancelled (noted_by k server m answer interest).left server m.token ≡ cancelled k.observations server m.token
+noted_others : (k : DeviceState) (server : ℕ) (m : Message) (answer : Answer) (interest : Option Interest)
+    → without_cancelled (noted_by k server m answer interest).left server m.token
+    ≡ without_cancelled k.observations server m.token
 noted_others k server m answer None = refl
 noted_others k server m answer (Some Cancel) = twice k.observations server m.token
 noted_others k server m answer (Some (Register path accept)) =
-    elim (is_content answer) as (λ b. cancelled (if b
-    then entered k.observations (begun k server m path accept answer.payload)
-    else unobserved (cancelled k.observations server m.token)).left server m.token
-    ≡ cancelled k.observations server m.token) [
-      | true ↦ entered_others k.observations (begun k server m path accept answer.payload)
+    elim (is_content answer) as (λ b. without_cancelled (if b
+    then after_registration k.observations (new_observation k server m path accept answer.payload)
+    else no_observe (without_cancelled k.observations server m.token)).left server m.token
+    ≡ without_cancelled k.observations server m.token) [
+      | true ↦ entered_others k.observations (new_observation k server m path accept answer.payload)
       | false ↦ twice k.observations server m.token
     ]
 
@@ -139,7 +143,7 @@ are_done law f server bytes m path operation fresh kind asks code =
       changes = subst (λ (c : Client). Changes f.kept.client server m path operation
           (record { answer = outcome.answer; client = c })) (sym s.client)
           (law f.kept.client server m path operation asks code);
-      others = ap (λ os. cancelled os server m.token) left
+      others = ap (λ os. without_cancelled os server m.token) left
           ∙ noted_others k server m outcome.answer (interest_of m);
       unasked = λ h. left
           ∙ ap (λ (i : Option Interest). (noted_by k server m outcome.answer i).left)

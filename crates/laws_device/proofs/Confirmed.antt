@@ -22,12 +22,12 @@ use Rattle.device_requests.specs.Observe.{interest_of}
 use Rattle.device_requests.specs.Request.{outcome_of}
 use Rattle.device_requests.specs.declared.answer.Act.TheVariants.{Missed}
 use Rattle.device_notifications.specs.ConfirmableLaws.{IsClosed, SendsFiveTimesAtMost, resends_within}
-use Rattle.device_notifications.specs.Message.{notification, resent}
-use Rattle.device_notifications.specs.Second.{Sweep, next_notification, notified_kind, present, second, seconds}
+use Rattle.device_notifications.specs.Message.{notification, resent_datagram}
+use Rattle.device_notifications.specs.Second.{Sweep, next_notification, notified_kind, present_answer, second, seconds}
 use Rattle.device_notifications.specs.Second.{turn_of}
 use Rattle.device_notifications.specs.declared.datagram.Datagram.{Datagram}
 use Rattle.device_notifications.proofs.Turns.{by_all}
-use Rattle.device_machine.specs.Observing.{noted}
+use Rattle.device_machine.specs.Observing.{observe_result}
 use Rattle.device_machine.specs.Reactions.{Reaction, on_datagram, on_firmware, reaction_to, reply_to}
 use Rattle.device_machine.specs.Reactions.{send_of, silence, sweep_in}
 use Rattle.device_machine.specs.State.{Machine, with_client, with_observations}
@@ -62,7 +62,7 @@ turn_nons client clock next_id o non closed =
     (λ is content due. record {
       sent = (
         (
-          notification (notified_kind client) o next_id (Some (next_number o.number)) (present client o),
+          notification (notified_kind client) o next_id (Some (next_number o.number)) (present_answer client o),
           ap (λ n. if n == 0 then Non else Con) non,
           refl,
         ),
@@ -70,7 +70,7 @@ turn_nons client clock next_id o non closed =
       );
       left = (
         ap (λ n. if n == 0 then None else Some (record {
-          bytes = (next_notification client next_id o (present client o)).bytes;
+          bytes = (next_notification client next_id o (present_answer client o)).bytes;
           first = client.notify;
         })) non,
         tt,
@@ -78,7 +78,7 @@ turn_nons client clock next_id o non closed =
     })
     (λ is content rests. record { sent = tt; left = (closed, tt) })
     (λ is no_content. record {
-      sent = ((notification Non o next_id None (present client o), refl, refl), tt);
+      sent = ((notification Non o next_id None (present_answer client o), refl, refl), tt);
       left = tt;
     })
     (λ is. record { sent = tt; left = (closed, tt) })
@@ -143,7 +143,7 @@ stays_on f server (repeated m r) h = h
 stays_on f server (fresh m) h =
     let outcome = outcome_of f.kept.client server m in
     let before = with_client f.kept outcome.client in
-    let told = noted before server m outcome.answer in
+    let told = observe_result before server m outcome.answer in
     let k = with_observations before told.left in
     let reply = reply_to f.kept.next_id m m.kind told.number outcome.answer in
     record {
@@ -209,6 +209,6 @@ unanswered five f o timer n one h =
     ∙ five f.kept.client o timer n f.kept.next_id h.is_open h.timed in
     record {
       sent = ap (λ (t : Sweep). map send_of t.sent) all
-          ∙ sent_each (resends_within timer.first n) (resent o timer);
+          ∙ sent_each (resends_within timer.first n) (resent_datagram o timer);
       left = ap (λ (t : Sweep). t.left) all;
     }

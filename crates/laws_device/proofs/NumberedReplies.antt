@@ -30,9 +30,9 @@ use Rattle.device_requests.specs.declared.observe.Interest.{Interest}
 use Rattle.device_notifications.proofs.Turns.{first_of}
 use Rattle.device_machine.specs.Laws.{IsFresh}
 use Rattle.device_machine.specs.Observing.{noted_by, replies_non, reply_mid}
-use Rattle.device_machine.specs.Reactions.{Reaction, acted, again, on_firmware, reaction_to, record_of}
-use Rattle.device_machine.specs.Reactions.{reset, response, sent_to}
-use Rattle.device_machine.specs.State.{Kept, Machine, with_client}
+use Rattle.device_machine.specs.Reactions.{Reaction, again, on_firmware, outputs_of_act, reaction_to, record_of, reset}
+use Rattle.device_machine.specs.Reactions.{response, sent_to}
+use Rattle.device_machine.specs.State.{DeviceState, Machine, with_client}
 use Rattle.device_machine.specs.declared.event.Event.{Event}
 use Rattle.device_machine.specs.declared.event.Event.TheVariants.{Firmware, Put, Recv, Tick}
 use Rattle.device_machine.specs.declared.output.Output.{Output}
@@ -100,7 +100,7 @@ nothing event before f g h is =
     }
 
 acts_given : (event : Event) (before : List Output) (next : ℕ) (act : Option Deed)
-    → Given event before next (acted act) next
+    → Given event before next (outputs_of_act act) next
 acts_given event before next None = given_none event before next
 acts_given event before next (Some act) = given_free event before next (Act act) (none_to_act act)
 
@@ -193,7 +193,7 @@ asks_none m u =
     ap (λ b. interest_for (if b then Err BadOption else request_on m (path_of (segments_of m.options)))) u
 
 -- the observations that are left, the one that begins among them, were sent their last messages
-noted_sent : (before : List Output) (f : Machine) (k : Kept) (server : ℕ) (m : Message) (number : Option ℕ)
+noted_sent : (before : List Output) (f : Machine) (k : DeviceState) (server : ℕ) (m : Message) (number : Option ℕ)
     (answer : Answer) (reply : Option Message) (next : ℕ) (rest : List Output)
     → Replies f m number answer reply next → k.next_id ≡ f.kept.next_id
     → AllByRecursion (WasSent (before ++ (sent_to server (option_map spelling reply) ++ rest))) k.observations
@@ -251,7 +251,7 @@ served_numbers before f server bytes m h b s =
     let outcome = outcome_of f.kept.client server m in
     let k = with_client f.kept outcome.client in
     let reply = sent_to server (option_map spelling s.reply) in
-    let acts = acted outcome.answer.act in
+    let acts = outputs_of_act outcome.answer.act in
     let told = noted_sent before f k server m s.number outcome.answer s.reply r.flat.kept.next_id acts s.replies refl
     (all_still before (reply ++ acts) f.kept.observations h.observations) in
     let left = (observed k server m outcome.answer s.number r.flat.kept.observations s.observes).left_is in

@@ -15,9 +15,9 @@ use Rattle.notifier.specs.declared.observation.Observation.{Observation}
 use Rattle.notifier.specs.declared.observation.Timer.{Timer}
 use Rattle.device_requests.specs.Client.{Client}
 use Rattle.device_requests.specs.declared.answer.Answer.{Answer}
-use Rattle.device_notifications.specs.Message.{notification, open_notification, resent}
-use Rattle.device_notifications.specs.Second.{Sweep, next_notification, notified_kind, present, second, seconds}
-use Rattle.device_notifications.specs.Second.{sends_nons, told, turn_of}
+use Rattle.device_notifications.specs.Message.{notification, open_notification, resent_datagram}
+use Rattle.device_notifications.specs.Second.{Sweep, after_next_notification, next_notification, notified_kind}
+use Rattle.device_notifications.specs.Second.{present_answer, second, seconds, sends_nons, turn_of}
 use Rattle.device_notifications.specs.declared.datagram.Datagram.{Datagram}
 use Rattle.device_notifications.proofs.Turns.{by_all, first_of}
 use Rattle.device_machine.specs.Reactions.{send_of}
@@ -75,7 +75,8 @@ open_when false bytes first timer h =
     (refl, sym (ap (λ (t : Timer). t.bytes) (same_Some (record { bytes = bytes; first = first }) timer h)))
 
 told_sent : (before : List Output) (client : Client) (clock next_id : ℕ) (o : Observation) (answer : Answer)
-    → WasSent (before ++ send_of (next_notification client next_id o answer) ∷ []) (told client clock next_id o answer)
+    → WasSent (before ++ send_of (next_notification client next_id o answer) ∷ [])
+    (after_next_notification client clock next_id o answer)
 told_sent before client clock next_id o answer =
     let m = notification (notified_kind client) o next_id (Some (next_number o.number)) answer in
     let out = Send o.server (spelling m) in
@@ -90,7 +91,7 @@ told_sent before client clock next_id o answer =
 
 resend_given : (event : Event) (before : List Output) (next : ℕ) (o : Observation) (timer : Option Timer)
     → WasSent before o → o.timer ≡ timer
-    → Given event before next (map send_of (option_to_list (option_map (resent o) timer))) next
+    → Given event before next (map send_of (option_to_list (option_map (resent_datagram o) timer))) next
 resend_given event before next o None h is = given_none event before next
 resend_given event before next o (Some timer) h is =
     let sent = h.open_is timer is in
@@ -102,13 +103,13 @@ turn_numbers : (event : Event) (before : List Output) (client : Client) (clock n
     → WasSent before o → Numbers event before next_id (turn_of client clock next_id o)
 turn_numbers event before client clock next_id o h =
     let quiet_left = sent_still before [] o h in
-    let m = notification (notified_kind client) o next_id (Some (next_number o.number)) (present client o) in
-    let last = notification Non o next_id None (present client o) in
+    let m = notification (notified_kind client) o next_id (Some (next_number o.number)) (present_answer client o) in
+    let last = notification Non o next_id None (present_answer client o) in
     by_all client clock next_id o (Numbers event before next_id)
     (λ is content due. record {
       given = given_own event before next_id next_id (Send o.server (spelling m))
           (own_kind event before o.server m (sends_nons client) refl) refl;
-      left = (told_sent before client clock next_id o (present client o), tt);
+      left = (told_sent before client clock next_id o (present_answer client o), tt);
     })
     (λ is content rests. record { given = given_none event before next_id; left = (quiet_left, tt) })
     (λ is no_content. record {

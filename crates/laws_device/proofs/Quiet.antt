@@ -9,7 +9,7 @@ use Rattle.device_requests.specs.Client.{Client}
 use Rattle.device_notifications.specs.Laws.{StayInOrder}
 use Rattle.device_notifications.specs.Laws.StayInOrder.{none, stays, goes, expires}
 use Rattle.device_notifications.specs.Outlooks.{outlooks_of}
-use Rattle.device_notifications.specs.Second.{Sweep, and_then, quiet, second, seconds}
+use Rattle.device_notifications.specs.Second.{Sweep, and_then, quiet_sweep, second, seconds}
 use Rattle.device_notifications.proofs.Resting.{first_due, first_sending, jumps, loud_second, none_left, none_right}
 use Rattle.device_notifications.proofs.Resting.{quiet_second, quiet_seconds, rests_by_second}
 use Rattle.device_notifications.proofs.Jumps.{no_more_then}
@@ -120,7 +120,7 @@ ends_quiet f first h =
     }
   where
     whole : sweep_in f.kept (first - f.kept.clock)
-        ≡ and_then (turns_in f first) (quiet (turns_in f first).next_id (turns_in f first).left)
+        ≡ and_then (turns_in f first) (quiet_sweep (turns_in f first).next_id (turns_in f first).left)
     whole =
         let s = turns_in f first in
         let after = h.later in

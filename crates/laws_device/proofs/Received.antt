@@ -9,7 +9,7 @@ use Rattle.coap_codec.specs.declared.kind.Kind.{Kind}
 use Rattle.coap_codec.specs.declared.kind.Kind.TheVariants.{Con, Non, Ack, Rst}
 use Rattle.coap_codec.proofs.Soundness.{AreBytes}
 use Rattle.object_defs.specs.declared.path.Path.{Path}
-use Rattle.notifier.specs.Observed.{cancelled, number_for, registered}
+use Rattle.notifier.specs.Observed.{number_for, with_registered, without_cancelled}
 use Rattle.notifier.specs.declared.observation.Observation.{Observation}
 use Rattle.device_requests.specs.Answer.{is_content}
 use Rattle.device_requests.specs.Observe.{interest_of}
@@ -17,12 +17,11 @@ use Rattle.device_requests.specs.Request.{outcome_of}
 use Rattle.device_requests.specs.declared.answer.Answer.{Answer}
 use Rattle.device_requests.specs.declared.observe.Interest.{Interest}
 use Rattle.device_requests.specs.declared.observe.Interest.TheVariants.{Cancel, Register}
-use Rattle.device_machine.specs.Observing.{Noted, begun, lacks_place, noted, noted_by, unobserved}
-use Rattle.device_machine.specs.Reactions.{Reaction, acted, again}
-use Rattle.device_machine.specs.Reactions.{kept_after}
-use Rattle.device_machine.specs.Reactions.{reaction_to, record_of, reply_to, reset, response}
-use Rattle.device_machine.specs.Reactions.{sent_to}
-use Rattle.device_machine.specs.State.{Kept, Machine, with_client, with_observations}
+use Rattle.device_machine.specs.Observing.{ObserveResult, lacks_place, new_observation, no_observe, noted_by}
+use Rattle.device_machine.specs.Observing.{observe_result}
+use Rattle.device_machine.specs.Reactions.{Reaction, again, kept_after, outputs_of_act, reaction_to, record_of}
+use Rattle.device_machine.specs.Reactions.{reply_to, reset, response, sent_to}
+use Rattle.device_machine.specs.State.{DeviceState, Machine, with_client, with_observations}
 use Rattle.device_machine.specs.declared.event.Event.TheVariants.{Recv}
 use Rattle.device_machine.specs.declared.output.Output.{Output}
 use Rattle.device_machine.specs.declared.recorded.Recorded.{Recorded}
@@ -108,7 +107,7 @@ fresh_reacts f server m k =
 -- nothing changes
 still : (f : Machine) (server : ℕ) (arrival : Arrival) (reply : Option (List ℕ)) (outputs : List Output)
     → Responds f server None arrival reply f.kept.next_id
-    → outputs ≡ sent_to server reply ++ acted (act_on f server arrival)
+    → outputs ≡ sent_to server reply ++ outputs_of_act (act_on f server arrival)
     → recorded_on f server reply arrival ≡ []
     → LeavesObservations f server None arrival f.kept.observations
     → f.kept.client ≡ client_on f server arrival
@@ -208,59 +207,63 @@ joined a b h = λ j. record {
 }
 
 -- the Observe number and the observations are those that are noted
-pub record IsNoted (number : Option ℕ) (left : List Observation) (told : Noted) : Type 0 where
+pub record IsNoted (number : Option ℕ) (left : List Observation) (told : ObserveResult) : Type 0 where
   pub number_is : number ≡ told.number
   pub left_is : left ≡ told.left
 
-noted_as : (k : Kept) (server : ℕ) (m : Message) (answer : Answer) (interest : Option Interest) (number : Option ℕ)
+noted_as : (k : DeviceState) (server : ℕ) (m : Message) (answer : Answer) (interest : Option Interest)
+    (number : Option ℕ)
     (left : List Observation) → interest_of m ≡ interest
-    → IsNoted number left (noted_by k server m answer interest) → IsNoted number left (noted k server m answer)
+    → IsNoted number left (noted_by k server m answer interest) → IsNoted number left (observe_result k server m answer)
 noted_as k server m answer interest number left i h =
     subst (λ o. IsNoted number left (noted_by k server m answer o)) (sym i) h
 
-abbrev told_by : Kept → ℕ → Message → Path → Option ℕ → Answer → Bool → Bool → Noted
+abbrev told_by : DeviceState → ℕ → Message → Path → Option ℕ → Answer → Bool → Bool → ObserveResult
 told_by k server m path accept answer c l =
-    if c then (if l then unobserved k.observations
+    if c then (if l then no_observe k.observations
     else record {
       number = Some (number_for k.observations server m.token);
-      left = registered k.observations (begun k server m path accept answer.payload);
-    }) else unobserved (cancelled k.observations server m.token)
+      left = with_registered k.observations (new_observation k server m path accept answer.payload);
+    }) else no_observe (without_cancelled k.observations server m.token)
 
-registers_as : (k : Kept) (server : ℕ) (m : Message) (path : Path) (accept : Option ℕ) (answer : Answer) (c l : Bool)
+registers_as : (k : DeviceState) (server : ℕ) (m : Message) (path : Path) (accept : Option ℕ) (answer : Answer)
+    (c l : Bool)
     → is_content answer ≡ c → lacks_place k.observations server m.token ≡ l
     → noted_by k server m answer (Some (Register path accept)) ≡ told_by k server m path accept answer c l
 registers_as k server m path accept answer c l h e =
     ap (λ b. told_by k server m path accept answer b (lacks_place k.observations server m.token)) h
     ∙ ap (told_by k server m path accept answer c) e
 
-told_as : (k : Kept) (server : ℕ) (m : Message) (path : Path) (accept : Option ℕ) (answer : Answer) (c l : Bool)
+told_as : (k : DeviceState) (server : ℕ) (m : Message) (path : Path) (accept : Option ℕ) (answer : Answer) (c l : Bool)
     (number : Option ℕ) (left : List Observation) → interest_of m ≡ Some (Register path accept)
     → is_content answer ≡ c → lacks_place k.observations server m.token ≡ l
-    → IsNoted number left (told_by k server m path accept answer c l) → IsNoted number left (noted k server m answer)
+    → IsNoted number left (told_by k server m path accept answer c l)
+    → IsNoted number left (observe_result k server m answer)
 told_as k server m path accept answer c l number left i h e is =
     noted_as k server m answer (Some (Register path accept)) number left i
     (subst (IsNoted number left) (sym (registers_as k server m path accept answer c l h e)) is)
 
-pub observed : (k : Kept) (server : ℕ) (m : Message) (answer : Answer) (number : Option ℕ) (left : List Observation)
-    → Observes k server m answer number left → IsNoted number left (noted k server m answer)
+pub observed : (k : DeviceState) (server : ℕ) (m : Message) (answer : Answer) (number : Option ℕ)
+    (left : List Observation)
+    → Observes k server m answer number left → IsNoted number left (observe_result k server m answer)
 observed k server m answer number left (asks_nothing i) =
     noted_as k server m answer None None k.observations i (record { number_is = refl; left_is = refl })
 observed k server m answer number left (cancels i) =
-    noted_as k server m answer (Some Cancel) None (cancelled k.observations server m.token) i
+    noted_as k server m answer (Some Cancel) None (without_cancelled k.observations server m.token) i
     (record { number_is = refl; left_is = refl })
 observed k server m answer number left (is_refused path accept i c) =
     told_as k server m path accept answer false (lacks_place k.observations server m.token) None
-    (cancelled k.observations server m.token) i c refl (record { number_is = refl; left_is = refl })
+    (without_cancelled k.observations server m.token) i c refl (record { number_is = refl; left_is = refl })
 observed k server m answer number left (finds_no_place path accept i c l) =
     told_as k server m path accept answer true true None k.observations i c l
     (record { number_is = refl; left_is = refl })
 observed k server m answer number left (registers path accept i c l) =
     told_as k server m path accept answer true false (Some (number_for k.observations server m.token))
-    (registered k.observations (begun k server m path accept answer.payload)) i c l
+    (with_registered k.observations (new_observation k server m path accept answer.payload)) i c l
     (record { number_is = refl; left_is = refl })
 
 -- the reply, and the next message ID then
-record IsReplied (f : Machine) (m : Message) (number : Option ℕ) (answer : Answer) (kept : Kept)
+record IsReplied (f : Machine) (m : Message) (number : Option ℕ) (answer : Answer) (kept : DeviceState)
     (response : Option Message) (next_id : ℕ) : Type 0 where
   reply_is : response ≡ reply_to f.kept.next_id m m.kind number answer
   next_id_is : next_id ≡ (kept_after kept m.kind (reply_to f.kept.next_id m m.kind number answer)).next_id
@@ -269,7 +272,7 @@ abbrev non_reply : Machine → Message → Option ℕ → Answer → Bool → Op
 non_reply f m number answer refused =
     if refused then None else Some (response Non f.kept.next_id m.token number answer)
 
-replied_as : (f : Machine) (m : Message) (number : Option ℕ) (answer : Answer) (kept : Kept) (kind : Kind)
+replied_as : (f : Machine) (m : Message) (number : Option ℕ) (answer : Answer) (kept : DeviceState) (kind : Kind)
     (to : Option Message) (response : Option Message) (next_id : ℕ) → m.kind ≡ kind
     → reply_to f.kept.next_id m kind number answer ≡ to → response ≡ to → next_id ≡ (kept_after kept kind to).next_id
     → IsReplied f m number answer kept response next_id
@@ -282,7 +285,8 @@ replied_as f m number answer kept kind to response next_id k e r n =
           ∙ ap (λ o. (kept_after kept m.kind o).next_id) (sym is);
     }
 
-replied : (f : Machine) (m : Message) (number : Option ℕ) (answer : Answer) (kept : Kept) (response : Option Message)
+replied : (f : Machine) (m : Message) (number : Option ℕ) (answer : Answer) (kept : DeviceState)
+    (response : Option Message)
     (next_id : ℕ) → kept.next_id ≡ f.kept.next_id → Replies f m number answer response next_id
     → IsReplied f m number answer kept response next_id
 replied f m number answer kept response next_id same (Replies.acknowledges k) =
@@ -293,7 +297,7 @@ replied f m number answer kept response next_id same (Replies.answers k u) =
 replied f m number answer kept response next_id same (Replies.rejects k u) =
     replied_as f m number answer kept Non _ _ _ k (ap (non_reply f m number answer) u) refl (sym same)
 
-kept_parts : (k : Kept) (kind : Kind) (reply : Option Message)
+kept_parts : (k : DeviceState) (kind : Kind) (reply : Option Message)
     → ((kept_after k kind reply).client ≡ k.client) × ((kept_after k kind reply).observations ≡ k.observations)
     × ((kept_after k kind reply).clock ≡ k.clock)
 kept_parts k Con reply = (refl, refl, refl)
@@ -308,7 +312,7 @@ fresh_parts : (f : Machine) (server : ℕ) (m : Message) (reaction : Reaction)
 fresh_parts f server m reaction h =
     let outcome = outcome_of f.kept.client server m in
     let before = with_client f.kept outcome.client in
-    let told = noted before server m outcome.answer in
+    let told = observe_result before server m outcome.answer in
     let k = with_observations before told.left in
     let reply = reply_to f.kept.next_id m m.kind told.number outcome.answer in
     let o = observed before server m outcome.answer h.number reaction.flat.kept.observations h.observations in
@@ -318,7 +322,7 @@ fresh_parts f server m reaction h =
     let said : h.reply ≡ option_map spelling reply = h.responds.2 ∙ ap (λ r. option_map spelling r) is.reply_is in
     let kept = kept_parts k m.kind reply in
     record {
-      outputs = h.sent ∙ ap (λ r. sent_to server r ++ acted outcome.answer.act) said;
+      outputs = h.sent ∙ ap (λ r. sent_to server r ++ outputs_of_act outcome.answer.act) said;
       recorded = h.recorded ∙ ap (λ r. f.recorded ++ record_of f.kept server m r ∷ []) said;
       client = h.client ∙ sym kept.0;
       observations = o.left_is ∙ sym kept.1;

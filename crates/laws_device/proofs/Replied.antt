@@ -25,11 +25,11 @@ use Rattle.device_machine.specs.Laws.{IsFresh}
 use Rattle.device_machine.specs.Observing.{noted_by}
 use Rattle.device_requests.specs.Observe.{interest_of}
 use Rattle.device_requests.specs.declared.observe.Interest.{Interest}
-use Rattle.device_machine.specs.Reactions.{Reaction, acted, again, claimed_mid, claims_confirmable, flat_after}
+use Rattle.device_machine.specs.Reactions.{Reaction, again, claimed_mid, claims_confirmable, flat_after, outputs_of_act}
 use Rattle.device_machine.specs.Reactions.{is_request, is_same, on_datagram, on_firmware, on_message, on_request}
-use Rattle.device_machine.specs.Reactions.{on_acknowledgement, on_reset}
-use Rattle.device_machine.specs.Reactions.{reaction_to, record_of, repeat_of, reset, sends, sent_to, silence}
-use Rattle.device_machine.specs.State.{Kept, is_live, with_client}
+use Rattle.device_machine.specs.Reactions.{on_acknowledgement, on_reset, reaction_to, record_of, repeat_of, reset}
+use Rattle.device_machine.specs.Reactions.{sends, sent_to, silence}
+use Rattle.device_machine.specs.State.{DeviceState, is_live, with_client}
 use Rattle.device_machine.specs.declared.event.Event.{Event}
 use Rattle.device_machine.specs.declared.event.Event.TheVariants.{Firmware, Put, Recv, Tick}
 use Rattle.device_machine.specs.declared.output.Output.TheVariants.{Act}
@@ -80,7 +80,7 @@ claimed_fits bytes h c =
     let b : slice_index bytes 3 < 256 = byte_at bytes h 3 (omega (arith, long)) in
     omega (arith, a, b)
 
-observed_fits : (k : Kept) (server : ℕ) (m : Message) (answer : Answer) (interest : Option Interest)
+observed_fits : (k : DeviceState) (server : ℕ) (m : Message) (answer : Answer) (interest : Option Interest)
     → AllByRecursion HasMessages k.observations → length m.token ≤ 8
     → AllByRecursion HasMessages (noted_by k server m answer interest).left
 observed_fits k server m answer interest h t =
@@ -101,7 +101,7 @@ sent_message : (server : ℕ) (reply : Option (List ℕ)) → IsReply reply
 sent_message server None h = tt
 sent_message server (Some bytes) h = (h, tt)
 
-acts : (act : Option Deed) → AllByRecursion SendsMessage (acted act)
+acts : (act : Option Deed) → AllByRecursion SendsMessage (outputs_of_act act)
 acts None = tt
 acts (Some act) = (tt, tt)
 
@@ -120,7 +120,7 @@ served_fits f server bytes m h good s served =
     (flat_after f (Recv server bytes)).kept.observations served.observes).left_is in
     record {
       sent = subst (λ os. AllByRecursion SendsMessage os) (sym served.sent)
-          (each_appended SendsMessage (sent_to server bytes_sent) (acted outcome.answer.act)
+          (each_appended SendsMessage (sent_to server bytes_sent) (outputs_of_act outcome.answer.act)
           (sent_message server bytes_sent fits.0) (acts outcome.answer.act));
       sound = record {
         next_id = fits.1;

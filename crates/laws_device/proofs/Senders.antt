@@ -23,8 +23,8 @@ use Rattle.device_requests.specs.Request.{outcome_of}
 use Rattle.device_requests.specs.declared.answer.Act.{Act as Deed}
 use Rattle.device_requests.specs.declared.answer.Act.TheVariants.{Missed}
 use Rattle.device_template.specs.Values.{misses, with_value_at}
-use Rattle.device_machine.specs.Observing.{noted}
-use Rattle.device_machine.specs.Reactions.{Reaction, acted, again, claimed_mid, claims_confirmable, is_request}
+use Rattle.device_machine.specs.Observing.{observe_result}
+use Rattle.device_machine.specs.Reactions.{Reaction, again, claimed_mid, claims_confirmable, is_request, outputs_of_act}
 use Rattle.device_machine.specs.Reactions.{on_acknowledgement, on_datagram, on_reset, reaction_to, reply_to, reset}
 use Rattle.device_machine.specs.Reactions.{on_firmware, on_message, on_request, repeat_of, sends, sent_to, silence}
 use Rattle.device_machine.specs.State.{Machine, with_client}
@@ -48,7 +48,7 @@ reply_to_it : (server : ℕ) (bytes : Option (List ℕ)) → AllByRecursion (IsT
 reply_to_it server None = tt
 reply_to_it server (Some bytes) = (refl, tt)
 
-act_to_none : (server : ℕ) (act : Option Deed) → AllByRecursion (IsTo server) (acted act)
+act_to_none : (server : ℕ) (act : Option Deed) → AllByRecursion (IsTo server) (outputs_of_act act)
 act_to_none server None = tt
 act_to_none server (Some act) = (tt, tt)
 
@@ -62,9 +62,9 @@ repeated_to_it server Rst reply = tt
 answered_it : (f : Machine) (server : ℕ) (m : Message) (r : Option Recorded) → IsAllTo server (on_request f server m r)
 answered_it f server m None =
     let outcome = outcome_of f.kept.client server m in
-    let told = noted (with_client f.kept outcome.client) server m outcome.answer in
+    let told = observe_result (with_client f.kept outcome.client) server m outcome.answer in
     let reply = option_map spelling (reply_to f.kept.next_id m m.kind told.number outcome.answer) in
-    each_appended (IsTo server) (sent_to server reply) (acted outcome.answer.act) (reply_to_it server reply)
+    each_appended (IsTo server) (sent_to server reply) (outputs_of_act outcome.answer.act) (reply_to_it server reply)
     (act_to_none server outcome.answer.act)
 answered_it f server m (Some r) = repeated_to_it server m.kind r.reply
 

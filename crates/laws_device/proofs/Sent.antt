@@ -11,7 +11,7 @@ use Rattle.notifier.specs.declared.turn.Turn.{Turn}
 use Rattle.notifier.specs.declared.turn.Turn.TheVariants.{Evaluate, Wait, Resend, Expire}
 use Rattle.device_requests.specs.Client.{Client}
 use Rattle.device_notifications.specs.Laws.{Notifies, Repeats}
-use Rattle.device_notifications.specs.Second.{is_due_now, present, second, seconds, turn_as, turn_of}
+use Rattle.device_notifications.specs.Second.{is_due_now, present_answer, second, seconds, turn_as, turn_of}
 use Rattle.device_notifications.specs.declared.datagram.Datagram.{Datagram}
 use Rattle.device_notifications.proofs.Turns.{by_all, first_of, resends_one}
 use Rattle.laws_device.specs.Notifying.{CausedIsSent, IsDue, IsTold, IsToldAgain, OpenIsSentAgain, SecondsSendAgain}
@@ -36,7 +36,7 @@ only_evaluated o clock t closed is = sym (ap (λ timer. turn_with o.second timer
 told_by : (client : Client) (clock next_id : ℕ) (o : Observation) → IsDue client clock o
     → IsTold client clock o (turn_of client clock next_id o).sent
 told_by client clock next_id o h =
-    let due_now : is_due_now client clock o (present client o).payload ≡ true =
+    let due_now : is_due_now client clock o (present_answer client o).payload ≡ true =
     due_of client clock o h.waited h.cause in
     by_all client clock next_id o (λ t. IsTold client clock o t.sent)
     (λ is content due. (

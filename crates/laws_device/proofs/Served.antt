@@ -7,7 +7,7 @@ use Rattle.coap_codec.specs.declared.kind.Kind.{Kind}
 use Rattle.coap_codec.specs.declared.kind.Kind.TheVariants.{Con, Non, Ack, Rst}
 use Rattle.object_defs.specs.Lines.{first_line}
 use Rattle.object_defs.specs.declared.path.Path.{Path}
-use Rattle.notifier.specs.Observed.{cancelled, number_for, registered}
+use Rattle.notifier.specs.Observed.{number_for, with_registered, without_cancelled}
 use Rattle.notifier.specs.declared.observation.Observation.{Observation}
 use Rattle.device_requests.specs.Answer.{Outcome, code_byte, is_content}
 use Rattle.std.proofs.lemmas.List.{append-nil}
@@ -25,11 +25,11 @@ use Rattle.device_requests.specs.declared.observe.Interest.TheVariants.{Cancel, 
 use Rattle.device_requests.proofs.Answering.{says}
 use Rattle.device_requests.proofs.Refusing.{refused_alone, refused_keeps}
 use Rattle.device_machine.specs.Laws.{IsFresh}
-use Rattle.device_machine.specs.Observing.{begun, lacks_place, noted, noted_by, unobserved}
-use Rattle.device_machine.specs.Reactions.{answer_options, flat_after}
-use Rattle.device_machine.specs.Reactions.{acted, kept_after, on_message, on_outcome, on_request, reaction_to}
-use Rattle.device_machine.specs.Reactions.{Reaction, is_request, record_of, repeat_of, reply_to, response, sent_to}
-use Rattle.device_machine.specs.State.{Kept, Machine, with_client, with_observations}
+use Rattle.device_machine.specs.Observing.{lacks_place, new_observation, no_observe, noted_by, observe_result}
+use Rattle.device_machine.specs.Reactions.{answer_options, flat_after, kept_after, on_message, on_outcome, on_request}
+use Rattle.device_machine.specs.Reactions.{outputs_of_act, reaction_to, Reaction, is_request, record_of, repeat_of}
+use Rattle.device_machine.specs.Reactions.{reply_to, response, sent_to}
+use Rattle.device_machine.specs.State.{DeviceState, Machine, with_client, with_observations}
 use Rattle.device_machine.specs.declared.event.Event.TheVariants.{Recv}
 use Rattle.device_machine.specs.declared.recorded.Recorded.{Recorded}
 use Rattle.device_machine.proofs.Repeating.{client_after, reached}
@@ -66,7 +66,7 @@ pub record Serves (f : Machine) (server : ℕ) (m : Message) (outcome : Outcome)
   pub number : Option ℕ
   pub reply : Option Message
   pub replies : Replies f m number outcome.answer reply reaction.flat.kept.next_id
-  pub sent : reaction.outputs ≡ sent_to server (option_map spelling reply) ++ acted outcome.answer.act
+  pub sent : reaction.outputs ≡ sent_to server (option_map spelling reply) ++ outputs_of_act outcome.answer.act
   pub recorded : reaction.flat.recorded ≡ f.recorded ++ record_of f.kept server m (option_map spelling reply) ∷ []
   pub observes : Observes (with_client f.kept outcome.client) server m outcome.answer number
       reaction.flat.kept.observations
@@ -75,7 +75,7 @@ pub record Serves (f : Machine) (server : ℕ) (m : Message) (outcome : Outcome)
 
 non_reply : (f : Machine) (m : Message) (number : Option ℕ) (answer : Answer) (refused : Bool) → m.kind ≡ Non
     → has_unrecognized_critical m.options ≡ refused
-    → (kept : Kept) → kept.next_id ≡ f.kept.next_id
+    → (kept : DeviceState) → kept.next_id ≡ f.kept.next_id
     → Replies f m number answer
     (if refused then None else Some (response Non f.kept.next_id m.token number answer))
     (kept_after kept Non (if refused then None else Some (response Non f.kept.next_id m.token number answer))).next_id
@@ -85,7 +85,7 @@ non_reply f m number answer false k h kept same =
     subst (λ n. Replies f m number answer (Some (response Non f.kept.next_id m.token number answer)) (id_after n))
     (sym same) (answers k h)
 
-reply_by : (f : Machine) (m : Message) (number : Option ℕ) (answer : Answer) (kept : Kept) (kind : Kind)
+reply_by : (f : Machine) (m : Message) (number : Option ℕ) (answer : Answer) (kept : DeviceState) (kind : Kind)
     → m.kind ≡ kind → (kind ≡ Con) ⊎ (kind ≡ Non) → kept.next_id ≡ f.kept.next_id
     → Replies f m number answer (reply_to f.kept.next_id m kind number answer)
     (kept_after kept kind (reply_to f.kept.next_id m kind number answer)).next_id
@@ -99,19 +99,20 @@ reply_by f m number answer kept Ack k (inr h) same = cc
 reply_by f m number answer kept Rst k (inl h) same = cc
 reply_by f m number answer kept Rst k (inr h) same = cc
 
-register_by : (k : Kept) (server : ℕ) (m : Message) (answer : Answer) (path : Path) (accept : Option ℕ) (c l : Bool)
+register_by : (k : DeviceState) (server : ℕ) (m : Message) (answer : Answer) (path : Path) (accept : Option ℕ)
+    (c l : Bool)
     → interest_of m ≡ Some (Register path accept) → is_content answer ≡ c
     → lacks_place k.observations server m.token ≡ l
-    → let new = begun k server m path accept answer.payload in
-    let told = if c then (if l then unobserved k.observations
-    else record { number = Some (number_for k.observations server m.token); left = registered k.observations new })
-    else unobserved (cancelled k.observations server m.token) in
+    → let new = new_observation k server m path accept answer.payload in
+    let told = if c then (if l then no_observe k.observations
+    else record { number = Some (number_for k.observations server m.token); left = with_registered k.observations new })
+    else no_observe (without_cancelled k.observations server m.token) in
     Observes k server m answer told.number told.left
 register_by k server m answer path accept true true i c l = finds_no_place path accept i c l
 register_by k server m answer path accept true false i c l = registers path accept i c l
 register_by k server m answer path accept false l i c n = is_refused path accept i c
 
-observes_by : (k : Kept) (server : ℕ) (m : Message) (answer : Answer) (interest : Option Interest)
+observes_by : (k : DeviceState) (server : ℕ) (m : Message) (answer : Answer) (interest : Option Interest)
     → interest_of m ≡ interest
     → Observes k server m answer (noted_by k server m answer interest).number (noted_by k server m answer interest).left
 observes_by k server m answer None i = asks_nothing i
@@ -124,7 +125,7 @@ pub serves : (f : Machine) (server : ℕ) (m : Message) (outcome : Outcome) → 
     → Serves f server m outcome (on_outcome f server m outcome)
 serves f server m outcome h =
     let before = with_client f.kept outcome.client in
-    let told = noted before server m outcome.answer in
+    let told = observe_result before server m outcome.answer in
     let k = with_observations before told.left in
     let reply = reply_to f.kept.next_id m m.kind told.number outcome.answer in
     record {
@@ -162,7 +163,8 @@ other_kind : (kind : Kind) → kind ≡ Con → kind ≡ Non → ⊥
 other_kind kind h k = cc
 
 -- what is not content has no Observe number, and leaves no observation of its name
-unnumbered : (k : Kept) (server : ℕ) (m : Message) (answer : Answer) (number : Option ℕ) (left : List Observation)
+unnumbered : (k : DeviceState) (server : ℕ) (m : Message) (answer : Answer) (number : Option ℕ)
+    (left : List Observation)
     → is_content answer ≡ false → Observes k server m answer number left → number ≡ None
 unnumbered k server m answer number left h (asks_nothing i) = refl
 unnumbered k server m answer number left h (cancels i) = refl
@@ -170,15 +172,15 @@ unnumbered k server m answer number left h (is_refused path accept i c) = refl
 unnumbered k server m answer number left h (finds_no_place path accept i c l) = refl
 unnumbered k server m answer number left h (registers path accept i c l) = absurd (never_both (is_content answer) c h)
 
-left_by : (k : Kept) (server : ℕ) (m : Message) (interest : Option Interest) → interest_of m ≡ interest
-    → (if is_some interest then cancelled k.observations server m.token else k.observations)
-    ≡ (if is_some (interest_of m) then cancelled k.observations server m.token else k.observations)
+left_by : (k : DeviceState) (server : ℕ) (m : Message) (interest : Option Interest) → interest_of m ≡ interest
+    → (if is_some interest then without_cancelled k.observations server m.token else k.observations)
+    ≡ (if is_some (interest_of m) then without_cancelled k.observations server m.token else k.observations)
 left_by k server m interest i =
-    ap (λ o. if is_some o then cancelled k.observations server m.token else k.observations) (sym i)
+    ap (λ o. if is_some o then without_cancelled k.observations server m.token else k.observations) (sym i)
 
-left_then : (k : Kept) (server : ℕ) (m : Message) (answer : Answer) (number : Option ℕ) (left : List Observation)
+left_then : (k : DeviceState) (server : ℕ) (m : Message) (answer : Answer) (number : Option ℕ) (left : List Observation)
     → is_content answer ≡ false → Observes k server m answer number left
-    → left ≡ (if is_some (interest_of m) then cancelled k.observations server m.token else k.observations)
+    → left ≡ (if is_some (interest_of m) then without_cancelled k.observations server m.token else k.observations)
 left_then k server m answer number left h (asks_nothing i) = left_by k server m None i
 left_then k server m answer number left h (cancels i) = left_by k server m (Some Cancel) i
 left_then k server m answer number left h (is_refused path accept i c) =
@@ -209,7 +211,7 @@ refused f server bytes m reply next_id s h same next =
     let outcome = outcome_of f.kept.client server m in
     let alone = refused_alone f.kept.client server m h in
     record {
-      sent = s.sent ∙ ap (λ a. sent_to server (option_map spelling s.reply) ++ acted a) alone.act
+      sent = s.sent ∙ ap (λ a. sent_to server (option_map spelling s.reply) ++ outputs_of_act a) alone.act
           ∙ append-nil (sent_to server (option_map spelling s.reply))
           ∙ ap (λ r. sent_to server (option_map spelling r)) same;
       recorded = s.recorded

@@ -17,8 +17,8 @@ use Rattle.notifier.specs.declared.turn.Turn.TheVariants.{Resend, Expire}
 use Rattle.device_requests.specs.Client.{Client}
 use Rattle.device_notifications.specs.Period.{pmin_of}
 use Rattle.device_notifications.specs.Report.{number_at}
-use Rattle.device_notifications.specs.Second.{age_of, and_then, beside, is_due_now, next_notification, present, quiet}
-use Rattle.device_notifications.specs.Second.{second, seconds, triggers_now, turn_of}
+use Rattle.device_notifications.specs.Second.{age_of, and_then, is_due_now, next_notification, present_answer}
+use Rattle.device_notifications.specs.Second.{quiet_sweep, second, seconds, sweep_of_both, triggers_now, turn_of}
 use Rattle.device_notifications.proofs.Turns.{by_all}
 use Rattle.laws_device.specs.Notifying.{IsSettled, JustReportedIsSettled, SettledAreQuiet, condition}
 use Rattle.laws_device.proofs.Sent.{not_expire, not_resend, only_evaluated}
@@ -72,22 +72,22 @@ not_due : (age pmin : ℕ) → is_due age pmin None false ≡ false
 not_due age pmin = grind (arith, nat_tests)
 
 rests : (client : Client) (clock : ℕ) (o : Observation) → IsSettled client o
-    → is_due_now client clock o (present client o).payload ≡ false
+    → is_due_now client clock o (present_answer client o).payload ≡ false
 rests client clock o h =
     ap (λ p. is_due (age_of clock o) (pmin_of client o.server o.path) p
-    (triggers_now client o (present client o).payload)) h.no_pmax
+    (triggers_now client o (present_answer client o).payload)) h.no_pmax
     ∙ ap (λ r. is_due (age_of clock o) (pmin_of client o.server o.path) None
     (is_triggered (condition client o name.Gt) (condition client o name.Lt) (condition client o name.St) r.number
-    (number_at client o.path) r.payload (present client o).payload)) h.reported
+    (number_at client o.path) r.payload (present_answer client o).payload)) h.reported
     ∙ ap (is_due (age_of clock o) (pmin_of client o.server o.path) None)
     (not_triggered (condition client o name.Gt) (condition client o name.Lt) (condition client o name.St)
-    (number_at client o.path) (present client o).payload h.st_above_0)
+    (number_at client o.path) (present_answer client o).payload h.st_above_0)
     ∙ not_due (age_of clock o) (pmin_of client o.server o.path)
 
 quiet_turn : (client : Client) (clock next_id : ℕ) (o : Observation) → IsSettled client o
-    → turn_of client clock next_id o ≡ quiet next_id (o ∷ [])
+    → turn_of client clock next_id o ≡ quiet_sweep next_id (o ∷ [])
 quiet_turn client clock next_id o h =
-    by_all client clock next_id o (λ t. t ≡ quiet next_id (o ∷ []))
+    by_all client clock next_id o (λ t. t ≡ quiet_sweep next_id (o ∷ []))
     (λ is content due. absurd (never_both _ due (rests client clock o h)))
     (λ is content rest. refl)
     (λ is no_content. absurd (never_both _ h.content no_content))
@@ -96,24 +96,24 @@ quiet_turn client clock next_id o h =
     (λ is. absurd (not_expire (only_evaluated o clock Expire h.closed is)))
 
 quiet_second : (client : Client) (clock next_id : ℕ) (os : List Observation) → AllByRecursion (IsSettled client) os
-    → second client clock next_id os ≡ quiet next_id os
+    → second client clock next_id os ≡ quiet_sweep next_id os
 quiet_second client clock next_id [] h = refl
 quiet_second client clock next_id (o ∷ os) h =
-    ap (λ t. beside t (second client clock t.next_id os)) (quiet_turn client clock next_id o h.0)
-    ∙ ap (beside (quiet next_id (o ∷ []))) (quiet_second client clock next_id os h.1)
+    ap (λ t. sweep_of_both t (second client clock t.next_id os)) (quiet_turn client clock next_id o h.0)
+    ∙ ap (sweep_of_both (quiet_sweep next_id (o ∷ []))) (quiet_second client clock next_id os h.1)
 
 pub settled_are_quiet : SettledAreQuiet
 settled_are_quiet client clock zero next_id os h = refl
 settled_are_quiet client clock (suc n) next_id os h =
     ap (λ t. and_then t (seconds client (clock + 1) n t.next_id t.left)) (quiet_second client (clock + 1) next_id os h)
-    ∙ ap (and_then (quiet next_id os)) (settled_are_quiet client (clock + 1) n next_id os h)
+    ∙ ap (and_then (quiet_sweep next_id os)) (settled_are_quiet client (clock + 1) n next_id os h)
 
 pub just_reported : JustReportedIsSettled
 just_reported client clock mid o content no_pmax st =
     record {
       of_a_non = λ non. record {
         closed = ap (λ n. if n == 0 then None else Some (record {
-          bytes = (next_notification client mid o (present client o)).bytes;
+          bytes = (next_notification client mid o (present_answer client o)).bytes;
           first = client.notify;
         })) non;
         content = content;

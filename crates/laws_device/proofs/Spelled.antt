@@ -23,9 +23,9 @@ use Rattle.device_requests.specs.declared.answer.Code.TheVariants.{Created, Dele
 use Rattle.device_requests.specs.declared.answer.Code.TheVariants.{Unauthorized, BadOption, NotFound, MethodNotAllowed}
 use Rattle.device_requests.specs.declared.answer.Code.TheVariants.{NotAcceptable, UnsupportedContentFormat}
 use Rattle.device_requests.specs.declared.answer.Code.TheVariants.{InternalServerError}
-use Rattle.device_notifications.specs.Message.{datagram_of, format_options, open_notification, resent}
-use Rattle.device_notifications.specs.Second.{Sweep, next_notification, notified_kind, present, second, seconds}
-use Rattle.device_notifications.specs.Second.{sends_nons, told, turn_of}
+use Rattle.device_notifications.specs.Message.{datagram_of, format_options, open_notification, resent_datagram}
+use Rattle.device_notifications.specs.Second.{Sweep, after_next_notification, next_notification, notified_kind}
+use Rattle.device_notifications.specs.Second.{present_answer, second, seconds, sends_nons, turn_of}
 use Rattle.device_notifications.specs.declared.datagram.Datagram.{Datagram}
 use Rattle.device_notifications.proofs.Turns.{by_all, of_option}
 use Rattle.device_notifications.proofs.Options.{format_follows}
@@ -118,12 +118,12 @@ timer_fits false bytes first timer h e =
     subst (λ (t : Timer). IsMessage t.bytes) (same_Some (record { bytes = bytes; first = first }) timer e) h
 
 open_fits : (o : Observation) (timer : Option Timer) (d : Datagram)
-    → ((t : Timer) → timer ≡ Some t → IsMessage t.bytes) → option_map (resent o) timer ≡ Some d → HasMessage d
+    → ((t : Timer) → timer ≡ Some t → IsMessage t.bytes) → option_map (resent_datagram o) timer ≡ Some d → HasMessage d
 open_fits o None d h e = absurd (none-some d e)
-open_fits o (Some t) d h e = subst HasMessage (same_Some (resent o t) d e) (h t refl)
+open_fits o (Some t) d h e = subst HasMessage (same_Some (resent_datagram o t) d e) (h t refl)
 
 told_fits : (client : Client) (clock next_id : ℕ) (o : Observation) (answer : Answer) → HasMessages o
-    → next_id < 65536 → HasMessages (told client clock next_id o answer)
+    → next_id < 65536 → HasMessages (after_next_notification client clock next_id o answer)
 told_fits client clock next_id o answer h k =
     record {
       token = h.token;
@@ -138,15 +138,15 @@ turn_fits client clock next_id o h k =
     by_all client clock next_id o Fits
     (λ is content due. record {
       sent = (
-        notified (notified_kind client) o next_id (Some (next_number o.number)) (present client o) h.token k,
+        notified (notified_kind client) o next_id (Some (next_number o.number)) (present_answer client o) h.token k,
         tt,
       );
-      left = (told_fits client clock next_id o (present client o) h k, tt);
+      left = (told_fits client clock next_id o (present_answer client o) h k, tt);
       next_id = id_fits next_id;
     })
     (λ is content rests. record { sent = tt; left = (h, tt); next_id = k })
     (λ is no_content. record {
-      sent = (notified Non o next_id None (present client o) h.token k, tt);
+      sent = (notified Non o next_id None (present_answer client o) h.token k, tt);
       left = tt;
       next_id = id_fits next_id;
     })

@@ -2,7 +2,7 @@
 use Rattle.std.proofs.Common.{◌≡◌, ℕ, zero, suc, List, [], ◌∷◌, map, refl, sym, ap, subst, arith}
 use Rattle.std.specs.List.{AllByRecursion, Contains}
 use Rattle.lemmas.proofs.Lists.{contains_later}
-use Rattle.device_notifications.specs.Second.{quiet as still}
+use Rattle.device_notifications.specs.Second.{quiet_sweep as still}
 use Rattle.device_notifications.specs.declared.datagram.Datagram.{Datagram}
 use Rattle.device_machine.specs.Reactions.{flat_after, send_of, sweep_in}
 use Rattle.device_machine.specs.State.{Machine}

@@ -8,7 +8,7 @@ use Rattle.object_defs.specs.Path.{full_path}
 use Rattle.object_defs.specs.declared.path.FullPath.{FullPath}
 use Rattle.object_defs.specs.declared.path.Path.{Path}
 use Rattle.instance_store.specs.Stored.{value_at}
-use Rattle.notifier.specs.Observed.{cancelled}
+use Rattle.notifier.specs.Observed.{without_cancelled}
 use Rattle.device_firmware.specs.Firmware.{outcome_in}
 use Rattle.device_firmware.specs.declared.event.FirmwareEvent.TheVariants.{Ended}
 use Rattle.device_template.specs.Values.{misses}
@@ -35,8 +35,8 @@ pub record IsDone (f : Machine) (server : ℕ) (bytes : List ℕ) (m : Message) 
     answer = (outcome_of f.kept.client server m).answer;
     client = (flat_after f (Recv server bytes)).kept.client;
   })
-  pub others : cancelled (flat_after f (Recv server bytes)).kept.observations server m.token
-      ≡ cancelled f.kept.observations server m.token
+  pub others : without_cancelled (flat_after f (Recv server bytes)).kept.observations server m.token
+      ≡ without_cancelled f.kept.observations server m.token
   pub unasked : operation ≢ Read → (flat_after f (Recv server bytes)).kept.observations ≡ f.kept.observations
   pub clock : (flat_after f (Recv server bytes)).kept.clock ≡ f.kept.clock
 

@@ -9,7 +9,7 @@ use Rattle.notifier.specs.declared.observation.Observation.{Observation}
 use Rattle.notifier.specs.declared.observation.Timer.{Timer}
 use Rattle.device_template.specs.Template.{Template}
 use Rattle.device_notifications.specs.ConfirmableLaws.{IsClosed, resends_within}
-use Rattle.device_notifications.specs.Message.{resent}
+use Rattle.device_notifications.specs.Message.{resent_datagram}
 use Rattle.device_machine.specs.declared.event.Event.{Event}
 use Rattle.device_machine.specs.declared.event.Event.TheVariants.{Recv, Tick}
 use Rattle.device_machine.specs.declared.output.Output.{Output}
@@ -55,7 +55,7 @@ pub record IsJustSent (f : Machine) (o : Observation) (timer : Timer) : Type 0 w
 -- in a tick the same bytes are sent once more 1, 3, 7 and 15 first timeouts later, and at no other time; after 31 the
 -- observation is removed, with no message
 pub record IsSentAgain (f : Machine) (o : Observation) (timer : Timer) (n : ℕ) : Type 0 where
-  pub sent : outputs_of f (Tick n) ≡ replicate (resends_within timer.first n) (send_of (resent o timer))
+  pub sent : outputs_of f (Tick n) ≡ replicate (resends_within timer.first n) (send_of (resent_datagram o timer))
   pub left : (flat_after f (Tick n)).kept.observations ≡ (if nat_le (31 * timer.first) n then [] else o ∷ [])
 
 -- so it is of the one observation of a device that nothing arrives at

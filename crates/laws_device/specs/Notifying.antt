@@ -2,7 +2,7 @@
 use Rattle.std.specs.Prelude.{◌≡◌, ◌≢◌, ℕ, ◌+◌, ◌*◌, ◌<◌, ◌≤◌, ℤ, pos, ◌-ℤ◌, nat_abs, int_le, int_lt, true}
 use Rattle.std.specs.Prelude.{List, Option, None, Some, ◌⊎◌}
 use Rattle.std.specs.List.{AllByRecursion, Contains}
-use Rattle.notifier.specs.Attributes.{assigned}
+use Rattle.notifier.specs.Attributes.{assigned_number}
 use Rattle.notifier.specs.Observed.{as_closed}
 use Rattle.notifier.specs.Resending.{turn_at}
 use Rattle.notifier.specs.Trigger.{has_condition, is_above, is_below}
@@ -15,12 +15,13 @@ use Rattle.device_requests.specs.Client.{Client}
 use Rattle.device_notifications.specs.Laws.{Ends, Notifies, Repeats}
 use Rattle.device_notifications.specs.Period.{pmin_of, pmax_of}
 use Rattle.device_notifications.specs.Report.{number_at, report_of}
-use Rattle.device_notifications.specs.Second.{age_of, present, quiet, second, seconds, told}
+use Rattle.device_notifications.specs.Second.{after_next_notification, age_of, present_answer, quiet_sweep, second}
+use Rattle.device_notifications.specs.Second.{seconds}
 use Rattle.device_notifications.specs.declared.datagram.Datagram.{Datagram}
 
 -- the gt, lt or st that the observation's server set on its path, in thousandths
 abbrev pub condition : Client → Observation → Name → Option ℤ
-condition client o n = assigned client.attributes o.server o.path n
+condition client o n = assigned_number client.attributes o.server o.path n
 
 -- from the one number to the other a threshold is passed: one is above gt and the other is not, one is below lt and the
 -- other is not, or they are st or more apart
@@ -46,7 +47,8 @@ pub data IsCaused (client : Client) (clock : ℕ) (o : Observation) : Type 0 whe
   passed : (old now : ℤ) → ComparesNumbers client o old now
       → Passes (condition client o name.Gt) (condition client o name.Lt) (condition client o name.St) old now
       → IsCaused client clock o
-  changed : ((old now : ℤ) → ComparesNumbers client o old now → ⊥) → (present client o).payload ≢ o.report.payload
+  changed : ((old now : ℤ) → ComparesNumbers client o old now → ⊥)
+      → (present_answer client o).payload ≢ o.report.payload
       → IsCaused client clock o
 
 -- a datagram of a second notifies one of these observations, for a cause, or ends one, or is the open notification of
@@ -81,7 +83,7 @@ pub record IsDue (client : Client) (clock : ℕ) (o : Observation) : Type 0 wher
   pub closed : o.timer ≡ None
   pub cause : IsCaused client clock o
   pub waited : pmin_of client o.server o.path ≤ age_of clock o
-  pub content : is_content (present client o) ≡ true
+  pub content : is_content (present_answer client o) ≡ true
 
 -- then the notification is sent in this second
 abbrev pub CausedIsSent : Type 0
@@ -119,8 +121,8 @@ SecondsSendAgain =
 -- Servers can set no st but one above 0
 pub record IsSettled (client : Client) (o : Observation) : Type 0 where
   pub closed : o.timer ≡ None
-  pub content : is_content (present client o) ≡ true
-  pub reported : o.report ≡ report_of client o.path (present client o).payload
+  pub content : is_content (present_answer client o) ≡ true
+  pub reported : o.report ≡ report_of client o.path (present_answer client o).payload
   pub no_pmax : pmax_of client o.server o.path ≡ None
   pub st_above_0 : (z : ℤ) → condition client o name.St ≡ Some z → int_lt (pos 0) z ≡ true
 
@@ -128,18 +130,19 @@ pub record IsSettled (client : Client) (o : Observation) : Type 0 where
 abbrev pub SettledAreQuiet : Type 0
 SettledAreQuiet =
     (client : Client) (clock n next_id : ℕ) (os : List Observation) → AllByRecursion (IsSettled client) os
-    → seconds client clock n next_id os ≡ quiet next_id os
+    → seconds client clock n next_id os ≡ quiet_sweep next_id os
 
 -- an observation is settled after its notification: at once where notifications are Non-confirmable, else once an
 -- acknowledgement has closed it
 pub record SettlesOnceClosed (client : Client) (clock mid : ℕ) (o : Observation) : Type 0 where
-  pub of_a_non : client.notify ≡ 0 → IsSettled client (told client clock mid o (present client o))
-  pub acknowledged : IsSettled client (as_closed (told client clock mid o (present client o)))
+  pub of_a_non : client.notify ≡ 0
+      → IsSettled client (after_next_notification client clock mid o (present_answer client o))
+  pub acknowledged : IsSettled client (as_closed (after_next_notification client clock mid o (present_answer client o)))
 
 -- so it is of what was just reported, where it has no pmax
 abbrev pub JustReportedIsSettled : Type 0
 JustReportedIsSettled =
-    (client : Client) (clock mid : ℕ) (o : Observation) → is_content (present client o) ≡ true
+    (client : Client) (clock mid : ℕ) (o : Observation) → is_content (present_answer client o) ≡ true
     → pmax_of client o.server o.path ≡ None
     → ((z : ℤ) → condition client o name.St ≡ Some z → int_lt (pos 0) z ≡ true)
     → SettlesOnceClosed client clock mid o

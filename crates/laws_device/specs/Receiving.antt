@@ -15,7 +15,7 @@ use Rattle.device_requests.specs.Options.{has_unrecognized_critical}
 use Rattle.device_requests.specs.Request.{outcome_of}
 use Rattle.device_requests.specs.declared.answer.Act.{Act as Deed}
 use Rattle.device_requests.specs.declared.answer.Answer.{Answer}
-use Rattle.device_machine.specs.Reactions.{Reaction, acted, location_options, reaction_to, sent_to}
+use Rattle.device_machine.specs.Reactions.{Reaction, location_options, outputs_of_act, reaction_to, sent_to}
 use Rattle.device_machine.specs.State.{Machine, lifetime, with_client}
 use Rattle.device_machine.specs.declared.event.Event.TheVariants.{Recv}
 use Rattle.device_machine.specs.declared.recorded.Recorded.{Recorded}
@@ -195,7 +195,7 @@ pub record IsReactionTo (f : Machine) (server : ℕ) (arrival : Arrival) (reacti
   pub number : Option ℕ
   pub reply : Option (List ℕ)
   pub responds : Responds f server number arrival reply reaction.flat.kept.next_id
-  pub sent : reaction.outputs ≡ sent_to server reply ++ acted (act_on f server arrival)
+  pub sent : reaction.outputs ≡ sent_to server reply ++ outputs_of_act (act_on f server arrival)
   pub recorded : reaction.flat.recorded ≡ f.recorded ++ recorded_on f server reply arrival
   pub observations : LeavesObservations f server number arrival reaction.flat.kept.observations
   pub client : reaction.flat.kept.client ≡ client_on f server arrival

@@ -6,7 +6,7 @@ use Rattle.coap_codec.specs.declared.kind.Kind.{Kind}
 use Rattle.coap_codec.specs.declared.kind.Kind.TheVariants.{Con, Non, Ack}
 use Rattle.object_defs.specs.Lines.{first_line}
 use Rattle.object_defs.specs.declared.path.Path.{Path}
-use Rattle.notifier.specs.Observed.{cancelled, number_for, registered}
+use Rattle.notifier.specs.Observed.{number_for, with_registered, without_cancelled}
 use Rattle.notifier.specs.declared.observation.Observation.{Observation}
 use Rattle.device_requests.specs.Answer.{code_byte, is_content}
 use Rattle.device_requests.specs.Laws.{is_refusal, request_lines}
@@ -17,9 +17,9 @@ use Rattle.device_requests.specs.declared.answer.Answer.{Answer}
 use Rattle.device_requests.specs.declared.answer.Code.{Code}
 use Rattle.device_requests.specs.declared.observe.Interest.TheVariants.{Cancel, Register}
 use Rattle.device_machine.specs.Laws.{IsFresh}
-use Rattle.device_machine.specs.Observing.{begun, lacks_place}
-use Rattle.device_machine.specs.Reactions.{acted, flat_after, outputs_of, record_of, response, sent_to}
-use Rattle.device_machine.specs.State.{Kept, Machine, with_client}
+use Rattle.device_machine.specs.Observing.{lacks_place, new_observation}
+use Rattle.device_machine.specs.Reactions.{flat_after, outputs_of, outputs_of_act, record_of, response, sent_to}
+use Rattle.device_machine.specs.State.{DeviceState, Machine, with_client}
 use Rattle.device_machine.specs.declared.event.Event.TheVariants.{Recv}
 
 -- the message ID after this one, modulo 65,536
@@ -42,7 +42,7 @@ pub record IsRefused (f : Machine) (server : ℕ) (bytes : List ℕ) (m : Messag
       ≡ f.recorded ++ record_of f.kept server m (option_map spelling reply) ∷ []
   pub next_id_is : (flat_after f (Recv server bytes)).kept.next_id ≡ next_id
   pub observations : (flat_after f (Recv server bytes)).kept.observations
-      ≡ (if is_some (interest_of m) then cancelled f.kept.observations server m.token else f.kept.observations)
+      ≡ (if is_some (interest_of m) then without_cancelled f.kept.observations server m.token else f.kept.observations)
   pub client : (flat_after f (Recv server bytes)).kept.client ≡ f.kept.client
   pub clock : (flat_after f (Recv server bytes)).kept.clock ≡ f.kept.clock
 
@@ -83,21 +83,21 @@ pub data Replies (f : Machine) (m : Message) (number : Option ℕ) (answer : Ans
 -- the Observe number of the reply to a request, and the observations then: as they were, where the request asks nothing
 -- of one, or there is no place; without that of its name, where it cancels or its Read is not content; else with that
 -- of its name, which begins anew
-pub data Observes (kept : Kept) (server : ℕ) (m : Message) (answer : Answer)
+pub data Observes (kept : DeviceState) (server : ℕ) (m : Message) (answer : Answer)
     : Option ℕ → List Observation → Type 0 where
   asks_nothing : interest_of m ≡ None → Observes kept server m answer None kept.observations
   cancels : interest_of m ≡ Some Cancel
-      → Observes kept server m answer None (cancelled kept.observations server m.token)
+      → Observes kept server m answer None (without_cancelled kept.observations server m.token)
   is_refused : (path : Path) (accept : Option ℕ) → interest_of m ≡ Some (Register path accept)
       → is_content answer ≡ false
-      → Observes kept server m answer None (cancelled kept.observations server m.token)
+      → Observes kept server m answer None (without_cancelled kept.observations server m.token)
   finds_no_place : (path : Path) (accept : Option ℕ) → interest_of m ≡ Some (Register path accept)
       → is_content answer ≡ true → lacks_place kept.observations server m.token ≡ true
       → Observes kept server m answer None kept.observations
   registers : (path : Path) (accept : Option ℕ) → interest_of m ≡ Some (Register path accept)
       → is_content answer ≡ true → lacks_place kept.observations server m.token ≡ false
       → Observes kept server m answer (Some (number_for kept.observations server m.token))
-      (registered kept.observations (begun kept server m path accept answer.payload))
+      (with_registered kept.observations (new_observation kept server m path accept answer.payload))
 
 -- all that a request leaves: the reply, after which the device may act; a record of the request with it; the device's
 -- next message ID; the observations; what is managed, as the request changes it; and the clock as it was
@@ -107,7 +107,7 @@ pub record IsServed (f : Machine) (server : ℕ) (bytes : List ℕ) (m : Message
   pub replies : Replies f m number (outcome_of f.kept.client server m).answer reply
       (flat_after f (Recv server bytes)).kept.next_id
   pub sent : outputs_of f (Recv server bytes)
-      ≡ sent_to server (option_map spelling reply) ++ acted (outcome_of f.kept.client server m).answer.act
+      ≡ sent_to server (option_map spelling reply) ++ outputs_of_act (outcome_of f.kept.client server m).answer.act
   pub recorded : (flat_after f (Recv server bytes)).recorded
       ≡ f.recorded ++ record_of f.kept server m (option_map spelling reply) ∷ []
   pub observes : Observes (with_client f.kept (outcome_of f.kept.client server m).client) server m

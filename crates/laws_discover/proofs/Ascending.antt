@@ -22,8 +22,8 @@ use Rattle.object_defs.specs.Catalog.{object_of}
 use Rattle.object_defs.specs.Order.{IsInOrder}
 use Rattle.instance_store.specs.Stored.{Stored, instances_of}
 use Rattle.instance_store.proofs.InstanceLaws.{keys_of-under, sorted-under, under}
-use Rattle.device_requests.specs.Discover.{instance_paths, linked, resources_below}
-use Rattle.device_requests.specs.Targets.{defined, exists, resources_as}
+use Rattle.device_requests.specs.Discover.{instance_paths, linked_paths, resources_below}
+use Rattle.device_requests.specs.Targets.{exists, resources_as, resources_defined}
 use Rattle.laws_discover.proofs.Lists.{all_each, all_flat, all_mapped, Ordered}
 use Rattle.laws_discover.proofs.Lists.{ordered_filtered, ordered_flat, ordered_mapped, ordered_unmapped}
 use Rattle.laws_discover.proofs.Lists.{ordered_weaker, pairs}
@@ -57,7 +57,7 @@ by_sorted (n ∷ ns) h = (
 )
 
 defined_has : (P : List ResourceDef → Type 0) → P [] → (o : ℕ) (catalog : List ObjectDef)
-    → AllByRecursion (λ d. P d.resources) catalog → P (defined catalog o)
+    → AllByRecursion (λ d. P d.resources) catalog → P (resources_defined catalog o)
 defined_has P none o [] h = none
 defined_has P none o (d ∷ ds) h =
     elim (d.id == o) as (λ b. P (resources_as (cond b (Some d) (object_of ds o)))) [
@@ -69,14 +69,14 @@ Rising : List ResourceDef → Type 0
 Rising resources = IsStrictlyIncreasing (map (λ r. r.id) resources)
 
 resources_rise : (catalog : List ObjectDef) (o : ℕ) → IsInOrder catalog
-    → Ordered (λ c d. c.id < d.id) (defined catalog o)
+    → Ordered (λ c d. c.id < d.id) (resources_defined catalog o)
 unfolding Rising
 resources_rise catalog o h =
-    let rises : Rising (defined catalog o) =
+    let rises : Rising (resources_defined catalog o) =
     defined_has Rising (λ k short. absurd (omega arith)) o catalog
     (recursion_from_All (λ d. Rising d.resources) catalog h.resources) in
-    ordered_unmapped (λ m n. m < n) (λ r. r.id) (defined catalog o)
-    (by_sorted (map (λ r. r.id) (defined catalog o)) (sorted_from_strictly_increasing _ rises))
+    ordered_unmapped (λ m n. m < n) (λ r. r.id) (resources_defined catalog o)
+    (by_sorted (map (λ r. r.id) (resources_defined catalog o)) (sorted_from_strictly_increasing _ rises))
 
 -- the links ascend
 
@@ -87,15 +87,16 @@ below_rise : (catalog : List ObjectDef) (stored : Stored) (o i : ℕ) → IsInOr
     → Ordered ComesBefore (resources_below catalog stored o i)
 below_rise catalog stored o i h =
     ordered_filtered ComesBefore (exists catalog stored) _
-    (ordered_mapped ComesBefore (λ d. Resource o i d.id) (defined catalog o)
+    (ordered_mapped ComesBefore (λ d. Resource o i d.id) (resources_defined catalog o)
     (ordered_weaker (λ c d. c.id < d.id) (λ c d. ComesBefore (Resource o i c.id) (Resource o i d.id))
-    (λ c d l. inr (refl, inr (refl, inl l))) (defined catalog o) (resources_rise catalog o h)))
+    (λ c d l. inr (refl, inr (refl, inl l))) (resources_defined catalog o) (resources_rise catalog o h)))
 
 below_are : (P : Path → Type 0) (catalog : List ObjectDef) (stored : Stored) (o i : ℕ)
     → ((r : ℕ) → P (Resource o i r)) → AllByRecursion P (resources_below catalog stored o i)
 below_are P catalog stored o i each =
     each_filtered P (exists catalog stored) _
-    (all_mapped P (λ d. Resource o i d.id) (defined catalog o) (all_each _ (λ d. each d.id) (defined catalog o)))
+    (all_mapped P (λ d. Resource o i d.id) (resources_defined catalog o)
+    (all_each _ (λ d. each d.id) (resources_defined catalog o)))
 
 instance_rises : (catalog : List ObjectDef) (stored : Stored) (o i : ℕ) → IsInOrder catalog
     → Ordered ComesBefore (instance_paths catalog stored o i)
@@ -121,7 +122,7 @@ unfolding LiesIn
 under_object o i p h = subst (AreBefore (o ∷ [])) (sym h.1) (inr (refl, tt))
 
 links_rise : (catalog : List ObjectDef) (stored : Stored) (path : Path) → IsInOrder catalog
-    → Ordered ComesBefore (linked catalog stored path)
+    → Ordered ComesBefore (linked_paths catalog stored path)
 links_rise catalog stored (Object o) h = (
   all_flat (ComesBefore (Object o)) (instance_paths catalog stored o) (instances_of stored o)
       (λ i. each_weaker (LiesIn o i) (ComesBefore (Object o)) (under_object o i)
@@ -136,7 +137,7 @@ links_rise catalog stored (Part o i r n) h = (tt, tt)
 
 pub links_ascend : LinksAscend
 links_ascend catalog stored path h =
-    pairs ComesBefore (linked catalog stored path) (links_rise catalog stored path h)
+    pairs ComesBefore (linked_paths catalog stored path) (links_rise catalog stored path h)
 
 not_before_itself : (ns : List ℕ) → AreBefore ns ns → ⊥
 not_before_itself [] h = h

@@ -15,21 +15,21 @@ use Rattle.device_requests.specs.declared.operation.Operation.TheVariants.{Write
 use Rattle.device_requests.specs.declared.request.Request.{Request}
 use Rattle.device_requests.specs.Client.{Client}
 use Rattle.device_requests.specs.Create.{create_unless, newborn, Newborn}
-use Rattle.device_requests.specs.Delete.{delete_unless, forgotten}
+use Rattle.device_requests.specs.Delete.{attributes_after_delete, delete_unless}
 use Rattle.device_requests.specs.Execute.{execute_unless}
 use Rattle.device_requests.specs.Operation.{operation_of}
 use Rattle.device_requests.specs.Options.{accept_of, content_format_of, has_query, has_unrecognized_critical}
 use Rattle.device_requests.specs.Options.{path_of as path_in, queries_of, segments_of}
 use Rattle.device_requests.specs.Refusals.{refusal_of, to_create, to_delete, to_execute, to_write, to_write_attributes}
 use Rattle.device_requests.specs.Request.{outcome_at, outcome_for, outcome_of, request_by, request_on, request_with}
-use Rattle.device_requests.specs.Write.{event_of, left, mode_at, new_values, write_unless}
+use Rattle.device_requests.specs.Write.{after_write_with_event, event_of, mode_at, new_values, write_unless}
 use Rattle.device_requests.specs.WriteAttributes.{annotate_unless, attributes_given}
 
 pub data Becomes (client : Client) (server : ℕ) : Numbers → Type 0 where
   stays : Becomes client server client.attributes
   is_set : (path : Path) (queries : List (List ℕ)) (m : Numbers)
       → attributes_given client server path queries ≡ Some m → Becomes client server m
-  goes : (path : Path) → Becomes client server (forgotten client path)
+  goes : (path : Path) → Becomes client server (attributes_after_delete client path)
 
 wrote : (code : Option Code) (client : Client) (server : ℕ) (s : Stored)
     → Becomes client server (write_unless code client s).client.attributes
@@ -70,11 +70,11 @@ becomes_at client server m path WriteAttributes =
 becomes_at client server m path WriteReplace =
     let values = new_values client path (content_format_of m.options) m.payload in
     wrote (refusal_of client server path (to_write Replace (content_format_of m.options) m.payload)) client server
-    (left (mode_at Replace path) client path values (event_of path values))
+    (after_write_with_event (mode_at Replace path) client path values (event_of path values))
 becomes_at client server m path WritePartial =
     let values = new_values client path (content_format_of m.options) m.payload in
     wrote (refusal_of client server path (to_write Update (content_format_of m.options) m.payload)) client server
-    (left (mode_at Update path) client path values (event_of path values))
+    (after_write_with_event (mode_at Update path) client path values (event_of path values))
 becomes_at client server m path Create =
     made (refusal_of client server path (to_create (content_format_of m.options) m.payload)) client server
     (object_in path) (newborn client (object_in path) m.payload)

@@ -16,7 +16,7 @@ use Rattle.instance_store.specs.Existence.{exists_as}
 use Rattle.instance_store.specs.Stored.{has_instance, parts_of, Stored}
 use Rattle.scenario_words.specs.PathWord.{IsPath}
 use Rattle.device_requests.specs.Client.{Client}
-use Rattle.device_requests.specs.Discover.{dimension, linked}
+use Rattle.device_requests.specs.Discover.{dimension, linked_paths}
 use Rattle.device_requests.specs.Laws.{IsAmong, lies_at, LinksWhatExists}
 use Rattle.device_requests.specs.Options.{numbers_of, path_from, path_of}
 use Rattle.device_requests.specs.Targets.{exists, is_multiple, place_of, resource_place}
@@ -99,14 +99,14 @@ path_fits client within path is (Part o i r n) lies there = absurd (no_part path
 
 pub paths_fit : LinksWhatExists → (client : Client) → IsWithinTypes client → (path : Path) → IsPath path
     → exists client.catalog client.store path ≡ true
-    → AllByRecursion IsPath (linked client.catalog client.store path)
+    → AllByRecursion IsPath (linked_paths client.catalog client.store path)
 paths_fit law client within (Part o i r n) is there = (is, tt)
 paths_fit law client within (Object o) is there =
-    among_all IsPath (linked client.catalog client.store (Object o)) (λ q h.
+    among_all IsPath (linked_paths client.catalog client.store (Object o)) (λ q h.
     let k = (law client.catalog client.store (Object o) q there refl).0 h in
     path_fits client within (Object o) is q k.0 k.1)
 paths_fit law client within (Instance o i) is there =
-    among_all IsPath (linked client.catalog client.store (Instance o i)) (λ q h.
+    among_all IsPath (linked_paths client.catalog client.store (Instance o i)) (λ q h.
     let k = (law client.catalog client.store (Instance o i) q there refl).0 h in
     path_fits client within (Instance o i) is q k.0 k.1)
 paths_fit law client within (Resource o i r) is there = (is, tt)

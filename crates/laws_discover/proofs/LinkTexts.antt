@@ -19,12 +19,11 @@ use Rattle.scenario_words.specs.PathWord.{IsPath}
 use Rattle.device_requests.specs.declared.answer.Code.TheVariants.{Content, InternalServerError, NotFound}
 use Rattle.device_requests.specs.declared.answer.Code.TheVariants.{BadOption, Unauthorized}
 use Rattle.device_requests.specs.declared.operation.Operation.TheVariants.{Discover}
-use Rattle.device_requests.specs.Answer.{answered, content, Outcome, refused_or}
+use Rattle.device_requests.specs.Answer.{answer_alone, content, Outcome, refused_or}
 use Rattle.device_requests.specs.Client.{Client}
-use Rattle.device_requests.specs.Discover.{attribute_text, attributes_text, behind}
-use Rattle.device_requests.specs.Discover.{dimension, dimension_text}
-use Rattle.device_requests.specs.Discover.{discover_payload, inherits_at, link, linked, links_text}
-use Rattle.device_requests.specs.Discover.{more_links, name_text, number_text, shown_attribute, shown_number}
+use Rattle.device_requests.specs.Discover.{attribute_text, attributes_text, dimension, dimension_text, discover_payload}
+use Rattle.device_requests.specs.Discover.{inherits_at, link, link_parameters, linked_paths, links_text, more_links}
+use Rattle.device_requests.specs.Discover.{name_text, number_text, shown_attribute, shown_number}
 use Rattle.device_requests.specs.Laws.{LinksWhatExists}
 use Rattle.device_requests.specs.Operation.{link_format}
 use Rattle.device_requests.specs.Options.{path_of, segments_of}
@@ -129,7 +128,7 @@ shown_said client h server inherits path n =
 
 behind_said : (client : Client) → HasValidAttributes client → (server : ℕ) (inherits : Bool) (path : Path)
     → dimension client.catalog client.store path < 2 ^ 64
-    → AreParameters (behind client server inherits path) (link_to client server inherits path).parameters
+    → AreParameters (link_parameters client server inherits path) (link_to client server inherits path).parameters
 behind_said client h server inherits path small =
     let shown = shown_attribute client.attributes server inherits path in
     let parameter = λ (n : Name). attribute_parameter n (shown_number client.attributes server inherits path n) in
@@ -152,7 +151,7 @@ link_said : (client : Client) → HasValidAttributes client → (server : ℕ) (
     → IsPath path → dimension client.catalog client.store path < 2 ^ 64
     → IsLink (link client server inherits path) (link_to client server inherits path)
 link_said client h server inherits path is small =
-    (behind client server inherits path, refl, is, behind_said client h server inherits path small)
+    (link_parameters client server inherits path, refl, is, behind_said client h server inherits path small)
 
 more_said : (client : Client) → HasValidAttributes client → (server : ℕ) (ps : List Path)
     → AllByRecursion IsPath ps → AllByRecursion (λ p. dimension client.catalog client.store p < 2 ^ 64) ps
@@ -213,18 +212,18 @@ content_exists client server path h =
 payload_said : LinksWhatExists → (client : Client) (server : ℕ) (path : Path) → IsWithinTypes client → IsPath path
     → (discover_answer client server path).code ≡ Content
     → AreLinks (discover_answer client server path).payload
-    (links_to client server (linked client.catalog client.store path))
+    (links_to client server (linked_paths client.catalog client.store path))
 payload_said law client server path within is h =
-    subst (λ t. AreLinks t (links_to client server (linked client.catalog client.store path)))
+    subst (λ t. AreLinks t (links_to client server (linked_paths client.catalog client.store path)))
     (sym (payload_is client server path h))
-    (links_said client within.attributes server (linked client.catalog client.store path)
+    (links_said client within.attributes server (linked_paths client.catalog client.store path)
     (paths_fit law client within path is (content_exists client server path h))
-    (counts_fit client within (linked client.catalog client.store path)))
+    (counts_fit client within (linked_paths client.catalog client.store path)))
 
 -- the answer to a request
 
 comes_to : (client : Client) (server : ℕ) (m : Message) (path : Path) → Asks m path Discover
-    → outcome_of client server m ≡ answered client (discover_answer client server path)
+    → outcome_of client server m ≡ answer_alone client (discover_answer client server path)
 comes_to client server m path asks =
     ap (outcome_for client server m)
     (ap (λ (b : Bool). if b then Err BadOption else request_on m (path_of (segments_of m.options))) asks.understood
@@ -233,18 +232,18 @@ comes_to client server m path asks =
 answer_said : LinksWhatExists → (client : Client) (server : ℕ) (m : Message) (path : Path) → IsWithinTypes client
     → Asks m path Discover → (outcome_of client server m).answer.code ≡ Content
     → AreLinks (outcome_of client server m).answer.payload
-    (links_to client server (linked client.catalog client.store path))
+    (links_to client server (linked_paths client.catalog client.store path))
 answer_said law client server m path within asks h =
     let same = comes_to client server m path asks in
     subst (λ (o : Outcome). AreLinks o.answer.payload
-    (links_to client server (linked client.catalog client.store path))) (sym same)
+    (links_to client server (linked_paths client.catalog client.store path))) (sym same)
     (payload_said law client server path within (path_of_fits (segments_of m.options) path asks.goes_to)
     (subst (λ (o : Outcome). o.answer.code ≡ Content) same h))
 
 pub discovers_are_read : LinksWhatExists → DiscoversAreRead
 discovers_are_read law client server m path within asks h ls =
     let text = (outcome_of client server m).answer.payload in
-    let links = links_to client server (linked client.catalog client.store path) in
+    let links = links_to client server (linked_paths client.catalog client.store path) in
     let here = answer_said law client server m path within asks h in (
       (λ said. one_reading text ls links said here),
       (λ same. subst (AreLinks text) (sym same) here),
@@ -262,4 +261,4 @@ paths_of client server (p ∷ ps) = ap (λ qs. p ∷ qs) (paths_mapped client se
 pub paths_are_read : LinksWhatExists → PathsAreRead
 paths_are_read law client server m path within asks h ls said =
     ap (map (λ (l : PathLink). l.path)) ((discovers_are_read law client server m path within asks h ls).0 said)
-    ∙ paths_of client server (linked client.catalog client.store path)
+    ∙ paths_of client server (linked_paths client.catalog client.store path)

@@ -21,7 +21,7 @@ use Rattle.object_defs.specs.declared.path.ResourcePath.{ResourcePath}
 use Rattle.instance_store.specs.Stored.{Stored, parts_of, value_at}
 use Rattle.notifier.specs.declared.attribute.Name.{Name}
 use Rattle.notifier.specs.declared.attribute.Name.TheVariants.{Pmin, Pmax, Gt, Lt, St}
-use Rattle.notifier.specs.Attributes.{assigned, effective}
+use Rattle.notifier.specs.Attributes.{assigned_number, effective}
 use Rattle.lwm2m_payloads.proofs.Held.{held_at, held_distinct}
 use Rattle.device_requests.specs.Client.{Client}
 use Rattle.device_requests.specs.Discover.{dimension, inherits_at, is_period, name_text, number_text, shown_number}
@@ -247,17 +247,17 @@ first_attribute : (client : Client) (server o i r : ℕ) (n : Name) (z : ℤ)
 first_attribute client server o i r n z h =
     elim (is_period n) as (λ b. is_period n ≡ b
     → (if b then effective client.attributes server (Resource o i r) n
-    else assigned client.attributes server (Resource o i r) n) ≡ Some z
+    else assigned_number client.attributes server (Resource o i r) n) ≡ Some z
     → IsShownFirst client server (Resource o i r) (set_to n z)) [
-      | true ↦ λ is k. by (inherited n is) (assigned client.attributes server (Resource o i r) n) refl
-          (assigned client.attributes server (Instance o i) n) refl
-          (assigned client.attributes server (Object o) n) refl k
+      | true ↦ λ is k. by (inherited n is) (assigned_number client.attributes server (Resource o i r) n) refl
+          (assigned_number client.attributes server (Instance o i) n) refl
+          (assigned_number client.attributes server (Object o) n) refl k
       | false ↦ λ is k. its_own (Resource o i r) (set_to n z) (its_attribute (Resource o i r) n z k)
     ] refl h
   where
-    by : IsInherited n → (a : Option ℤ) → assigned client.attributes server (Resource o i r) n ≡ a
-        → (b : Option ℤ) → assigned client.attributes server (Instance o i) n ≡ b
-        → (c : Option ℤ) → assigned client.attributes server (Object o) n ≡ c
+    by : IsInherited n → (a : Option ℤ) → assigned_number client.attributes server (Resource o i r) n ≡ a
+        → (b : Option ℤ) → assigned_number client.attributes server (Instance o i) n ≡ b
+        → (c : Option ℤ) → assigned_number client.attributes server (Object o) n ≡ c
         → option_or a (option_or b (option_or c None)) ≡ Some z
         → IsShownFirst client server (Resource o i r) (set_to n z)
     by p (Some y) is b at c on k =
@@ -284,16 +284,16 @@ shown_first client server path x h =
 
 -- the number of an attribute at a resource is shown, whether or not it could be inherited
 own_number : (client : Client) (server : ℕ) (path : Path) (n : Name) (z : ℤ)
-    → assigned client.attributes server path n ≡ Some z
+    → assigned_number client.attributes server path n ≡ Some z
     → shown_number client.attributes server (inherits_at path) path n ≡ Some z
 own_number client server (Object o) n z h = h
 own_number client server (Instance o i) n z h = h
 own_number client server (Part o i r p) n z h = h
 own_number client server (Resource o i r) n z h =
     elim (is_period n) as (λ b. (if b then effective client.attributes server (Resource o i r) n
-    else assigned client.attributes server (Resource o i r) n) ≡ Some z) [
-      | true ↦ ap (λ (a : Option ℤ). option_or a (option_or (assigned client.attributes server (Instance o i) n)
-          (option_or (assigned client.attributes server (Object o) n) None))) h
+    else assigned_number client.attributes server (Resource o i r) n) ≡ Some z) [
+      | true ↦ ap (λ (a : Option ℤ). option_or a (option_or (assigned_number client.attributes server (Instance o i) n)
+          (option_or (assigned_number client.attributes server (Object o) n) None))) h
       | false ↦ h
     ]
 
@@ -302,7 +302,7 @@ inherited_number : (client : Client) (server o i r : ℕ) (n : Name) (z : ℤ) �
     → shown_number client.attributes server true (Resource o i r) n ≡ Some z
 inherited_number client server o i r n z p h =
     ap (λ (b : Bool). if b then effective client.attributes server (Resource o i r) n
-    else assigned client.attributes server (Resource o i r) n) (inherits n p) ∙ h
+    else assigned_number client.attributes server (Resource o i r) n) (inherits n p) ∙ h
 
 first_shown : (client : Client) (server : ℕ) (path : Path) (x : Parameter) → IsShownFirst client server path x
     → IsAmong x (parameters client server (inherits_at path) path)
@@ -313,7 +313,7 @@ first_shown client server path x (its_own _ _ (its_attribute _ n z is)) =
 first_shown client server path x (of_instance o i r n z p none is) =
     attribute_there client server true (Resource o i r) n z (inherited_number client server o i r n z p
     (ap (λ (t : Option ℤ × Option ℤ). option_or t.0 (option_or t.1
-    (option_or (assigned client.attributes server (Object o) n) None))) (λ j. (none j, is j))))
+    (option_or (assigned_number client.attributes server (Object o) n) None))) (λ j. (none j, is j))))
 first_shown client server path x (of_object o i r n z p none neither is) =
     attribute_there client server true (Resource o i r) n z (inherited_number client server o i r n z p
     (ap (λ (t : Option ℤ × Option ℤ × Option ℤ). option_or t.0 (option_or t.1 (option_or t.2 None)))

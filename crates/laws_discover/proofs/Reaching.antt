@@ -17,11 +17,11 @@ use Rattle.device_template.specs.Values.{misses, with_value_at}
 use Rattle.device_requests.specs.Client.{Client, has_account, with_stored}
 use Rattle.device_requests.specs.Request.{outcome_of}
 use Rattle.device_requests.specs.declared.answer.Act.TheVariants.{Missed}
-use Rattle.device_machine.specs.Observing.{noted}
+use Rattle.device_machine.specs.Observing.{observe_result}
 use Rattle.device_machine.specs.Reactions.{Reaction, claimed_mid, claims_confirmable, is_request, kept_after}
 use Rattle.device_machine.specs.Reactions.{on_acknowledgement, on_datagram, on_firmware, on_message, on_put, on_request}
 use Rattle.device_machine.specs.Reactions.{on_reset, reaction_to, repeat_of, reply_to, reset, sends, silence}
-use Rattle.device_machine.specs.State.{Kept, Machine, with_client, with_observations}
+use Rattle.device_machine.specs.State.{DeviceState, Machine, with_client, with_observations}
 use Rattle.device_machine.specs.Template.{start_of}
 use Rattle.device_machine.specs.declared.event.Event.{Event}
 use Rattle.device_machine.specs.declared.event.Event.TheVariants.{Firmware, Put, Recv, Tick}
@@ -48,7 +48,8 @@ stored_fit client stored h = record { valid = h.valid; agree = h.agree }
 abbrev LeavesFit : Reaction → Type 0
 LeavesFit r = IsFit r.flat.kept.client
 
-replied : (k : Kept) (kind : Kind) (reply : Option Message) → IsFit k.client → IsFit (kept_after k kind reply).client
+replied : (k : DeviceState) (kind : Kind) (reply : Option Message) → IsFit k.client
+    → IsFit (kept_after k kind reply).client
 replied k Con reply h = h
 replied k Non None h = h
 replied k Non (Some reply) h = h
@@ -60,7 +61,7 @@ request_fit : (f : Machine) (server : ℕ) (m : Message) (o : Option Recorded) �
 request_fit f server m None h =
     let outcome = outcome_of f.kept.client server m in
     let before = with_client f.kept outcome.client in
-    let told = noted before server m outcome.answer in
+    let told = observe_result before server m outcome.answer in
     replied (with_observations before told.left) m.kind
     (reply_to f.kept.next_id m m.kind told.number outcome.answer) (asked f.kept.client server m h)
 request_fit f server m (Some r) h = h

@@ -6,7 +6,7 @@ use Rattle.object_defs.specs.declared.path.Path.{Path}
 use Rattle.object_defs.specs.declared.path.Path.TheVariants.{Instance, Object, Part, Resource}
 use Rattle.notifier.specs.declared.attribute.Name.{Name}
 use Rattle.notifier.specs.declared.attribute.Name.TheVariants.{Gt, Lt, Pmax, Pmin, St}
-use Rattle.notifier.specs.Attributes.{assigned, effective, first_assigned, key_of, levels_of}
+use Rattle.notifier.specs.Attributes.{assigned_number, effective, first_assigned, key_of, levels_of}
 use Rattle.notifier.specs.Query.{stands_at}
 use Rattle.device_requests.specs.Client.{Client}
 use Rattle.device_requests.specs.Discover.{shown_number}
@@ -17,7 +17,7 @@ abbrev Valid : Client → Path → Name → ℤ → Type 0
 Valid client path n z = IsAttributeNumber n z × (stands_at n (level_at client.catalog path) ≡ true)
 
 assigned_valid : (client : Client) → HasValidAttributes client → (server : ℕ) (path : Path) (n : Name) (z : ℤ)
-    → assigned client.attributes server path n ≡ Some z → Valid client path n z
+    → assigned_number client.attributes server path n ≡ Some z → Valid client path n z
 assigned_valid client h server (Object o) n z e = h (key_of server (Object o) n) z e
 assigned_valid client h server (Instance o i) n z e = h (key_of server (Instance o i) n) z e
 assigned_valid client h server (Resource o i r) n z e = h (key_of server (Resource o i r) n) z e
@@ -27,9 +27,9 @@ first_in_range : (client : Client) → HasValidAttributes client → (server : �
     → first_assigned client.attributes server ps n ≡ Some z → IsAttributeNumber n z
 first_in_range client h server [] n z e = cc e
 first_in_range client h server (p ∷ ps) n z e =
-    by (assigned client.attributes server p n) refl (first_in_range client h server ps n z) e
+    by (assigned_number client.attributes server p n) refl (first_in_range client h server ps n z) e
   where
-    by : (o : Option ℤ) → assigned client.attributes server p n ≡ o
+    by : (o : Option ℤ) → assigned_number client.attributes server p n ≡ o
         → (first_assigned client.attributes server ps n ≡ Some z → IsAttributeNumber n z)
         → option_or o (first_assigned client.attributes server ps n) ≡ Some z → IsAttributeNumber n z
     by None is later e = later e
@@ -37,7 +37,8 @@ first_in_range client h server (p ∷ ps) n z e =
 
 period_valid : (client : Client) → HasValidAttributes client → (server : ℕ) (b : Bool) (path : Path) (n : Name) (z : ℤ)
     → stands_at n (level_at client.catalog path) ≡ true
-    → (if b then effective client.attributes server path n else assigned client.attributes server path n) ≡ Some z
+    → (if b then effective client.attributes server path n else assigned_number client.attributes server path n)
+    ≡ Some z
     → Valid client path n z
 period_valid client h server true path n z stands e = (first_in_range client h server (levels_of path) n z e, stands)
 period_valid client h server false path n z stands e = assigned_valid client h server path n z e

@@ -21,7 +21,7 @@ use Rattle.notifier.specs.declared.attribute.Level.{Level}
 use Rattle.notifier.specs.declared.attribute.Name.{Name}
 use Rattle.notifier.specs.declared.fault.QueryFault.{QueryFault}
 use Rattle.notifier.specs.Attributes.{is_consistent, key_cmp, key_of, lies_under, Numbers, path_of, with_number}
-use Rattle.notifier.specs.Attributes.{without_under, written}
+use Rattle.notifier.specs.Attributes.{with_changes, without_under}
 use Rattle.notifier.specs.Query.{changes_of, stands_at}
 use Rattle.notifier.proofs.Keys.{key_exact, key_total}
 use Rattle.device_requests.specs.declared.answer.Code.{Code}
@@ -32,16 +32,16 @@ use Rattle.device_requests.specs.declared.operation.Operation.TheVariants.{Write
 use Rattle.device_requests.specs.declared.request.Request.{Request}
 use Rattle.device_requests.specs.Client.{Client}
 use Rattle.device_requests.specs.Create.{create_unless, newborn, Newborn}
-use Rattle.device_requests.specs.Delete.{delete_unless, deleted, taken_away, without_controls}
+use Rattle.device_requests.specs.Delete.{after_delete, delete_unless, taken_away, without_controls}
 use Rattle.device_requests.specs.Execute.{execute_unless}
 use Rattle.device_requests.specs.Operation.{operation_of}
 use Rattle.device_requests.specs.Options.{accept_of, content_format_of, has_query, has_unrecognized_critical}
 use Rattle.device_requests.specs.Options.{path_of as path_in, queries_of, segments_of}
 use Rattle.device_requests.specs.Refusals.{refusal_of, to_create, to_delete, to_execute, to_write, to_write_attributes}
 use Rattle.device_requests.specs.Request.{outcome_at, outcome_for, request_by, request_on, request_with}
-use Rattle.device_requests.specs.Write.{event_of, left, mode_at, new_values, write_unless}
+use Rattle.device_requests.specs.Write.{after_write_with_event, event_of, mode_at, new_values, write_unless}
 use Rattle.device_requests.specs.WriteAttributes.{new_numbers, annotate_unless, attributes_given, level_at}
-use Rattle.device_requests.specs.WriteAttributes.{spelled}
+use Rattle.device_requests.specs.WriteAttributes.{changes_or_none}
 use Rattle.laws_reading.specs.Queries.{AreSaid, SaysTarget}
 use Rattle.laws_reading.proofs.Saying.{changes_are_said}
 use Rattle.laws_discover.specs.Printed.{HasValidAttributes, IsAttributeNumber, NoneIsValid, RequestsKeepValid}
@@ -105,7 +105,7 @@ key_valid catalog server (Part o i r p) n z h stands = (h, stands)
 
 written_valid : (catalog : List ObjectDef) (m : Numbers) (server : ℕ) (path : Path) (cs : List Change)
     → AreValid catalog m → AllByRecursion (SetsValid (level_at catalog path)) cs
-    → AreValid catalog (written m server path cs)
+    → AreValid catalog (with_changes m server path cs)
 unfolding SetsValid
 written_valid catalog m server path [] h all = h
 written_valid catalog m server path (c ∷ cs) h all =
@@ -119,16 +119,16 @@ GivesValid catalog o = (m : Numbers) → o ≡ Some m → AreValid catalog m
 
 given_valid : (catalog : List ObjectDef) (m : Numbers) (server : ℕ) (path : Path) (qs : List (List ℕ))
     (r : Result (List Change) QueryFault) → changes_of [] (level_at catalog path) qs ≡ r → AreValid catalog m
-    → GivesValid catalog (option_and_then (new_numbers m server path) (spelled r))
+    → GivesValid catalog (option_and_then (new_numbers m server path) (changes_or_none r))
 unfolding GivesValid
 given_valid catalog m server path qs (Err f) is h = λ w e. cc e
 given_valid catalog m server path qs (Ok cs) is h = λ w e.
-    by w (is_consistent (written m server path cs) server path) e
+    by w (is_consistent (with_changes m server path cs) server path) e
   where
-    by : (w : Numbers) (b : Bool) → (if b then Some (written m server path cs) else None) ≡ Some w
+    by : (w : Numbers) (b : Bool) → (if b then Some (with_changes m server path cs) else None) ≡ Some w
         → AreValid catalog w
     by w true e =
-        let same : written m server path cs ≡ w = cc e in
+        let same : with_changes m server path cs ≡ w = cc e in
         let level = level_at catalog path in
         subst (AreValid catalog) same (written_valid catalog m server path cs h
         (changes_valid [] level qs cs ((changes_are_said level qs cs).0 is)))
@@ -177,7 +177,7 @@ took : (code : Option Code) (client : Client) (path : Path) → HasValidAttribut
 unfolding AreValid IsValidAt
 took None client path h =
     controls_valid client.catalog (without_under client.attributes path)
-    (taken_away client.store (deleted client.store path)) (without_valid client.catalog client.attributes path h)
+    (taken_away client.store (after_delete client.store path)) (without_valid client.catalog client.attributes path h)
 took (Some code) client path h = h
 
 annotated : (code : Option Code) (client : Client) (given : Option Numbers) → HasValidAttributes client
@@ -200,11 +200,11 @@ kept_at client server m path WriteAttributes h =
 kept_at client server m path WriteReplace h =
     let values = new_values client path (content_format_of m.options) m.payload in
     wrote (refusal_of client server path (to_write Replace (content_format_of m.options) m.payload)) client
-    (left (mode_at Replace path) client path values (event_of path values)) h
+    (after_write_with_event (mode_at Replace path) client path values (event_of path values)) h
 kept_at client server m path WritePartial h =
     let values = new_values client path (content_format_of m.options) m.payload in
     wrote (refusal_of client server path (to_write Update (content_format_of m.options) m.payload)) client
-    (left (mode_at Update path) client path values (event_of path values)) h
+    (after_write_with_event (mode_at Update path) client path values (event_of path values)) h
 kept_at client server m path Create h =
     made (refusal_of client server path (to_create (content_format_of m.options) m.payload)) client server
     (object_in path) (newborn client (object_in path) m.payload) h

@@ -12,14 +12,14 @@ use Rattle.notifier.specs.declared.attribute.AttributeKey.{AttributeKey}
 use Rattle.notifier.specs.declared.attribute.Change.{Change}
 use Rattle.notifier.specs.declared.attribute.Name.{Name}
 use Rattle.notifier.specs.declared.fault.QueryFault.{QueryFault}
-use Rattle.notifier.specs.Attributes.{assigned, is_consistent, key_cmp, key_of, Numbers, written}
+use Rattle.notifier.specs.Attributes.{assigned_number, is_consistent, key_cmp, key_of, Numbers, with_changes}
 use Rattle.notifier.specs.Query.{changes_of}
 use Rattle.notifier.proofs.Keys.{key_exact, key_total}
 use Rattle.device_requests.specs.declared.answer.Code.{Code}
 use Rattle.device_requests.specs.Client.{Client}
 use Rattle.device_requests.specs.Refusals.{refusal_of, to_write_attributes}
 use Rattle.device_requests.specs.WriteAttributes.{new_numbers, annotate_unless, attributes_given, level_at}
-use Rattle.device_requests.specs.WriteAttributes.{spelled}
+use Rattle.device_requests.specs.WriteAttributes.{changes_or_none}
 use Rattle.laws_discover.specs.Links.{attribute_names, attribute_parameters, query_of, settings, settings_shown}
 use Rattle.laws_discover.specs.Links.{WrittenBackIsTheSame}
 use Rattle.laws_discover.proofs.LinkQueries.{parameters_are_queries}
@@ -34,32 +34,32 @@ inserted_again m k z h =
     by q false is = refl
 
 written_again : (m : Numbers) (server : ℕ) (path : Path) (numbers : Name → Option ℤ)
-    → ((n : Name) (z : ℤ) → numbers n ≡ Some z → assigned m server path n ≡ Some z) → (ns : List Name)
-    → written m server path (flat_map (λ n. settings n (numbers n)) ns) ≡ m
+    → ((n : Name) (z : ℤ) → numbers n ≡ Some z → assigned_number m server path n ≡ Some z) → (ns : List Name)
+    → with_changes m server path (flat_map (λ n. settings n (numbers n)) ns) ≡ m
 written_again m server path numbers same [] = refl
 written_again m server path numbers same (n ∷ ns) =
     by (numbers n) (same n) (written_again m server path numbers same ns)
   where
-    by : (o : Option ℤ) → ((z : ℤ) → o ≡ Some z → assigned m server path n ≡ Some z)
-        → written m server path (flat_map (λ n. settings n (numbers n)) ns) ≡ m
-        → written m server path (settings n o ++ flat_map (λ n. settings n (numbers n)) ns) ≡ m
+    by : (o : Option ℤ) → ((z : ℤ) → o ≡ Some z → assigned_number m server path n ≡ Some z)
+        → with_changes m server path (flat_map (λ n. settings n (numbers n)) ns) ≡ m
+        → with_changes m server path (settings n o ++ flat_map (λ n. settings n (numbers n)) ns) ≡ m
     by None here later = later
     by (Some z) here later =
-        ap (λ w. written w server path (flat_map (λ n. settings n (numbers n)) ns))
+        ap (λ w. with_changes w server path (flat_map (λ n. settings n (numbers n)) ns))
         (inserted_again m (key_of server path n) z (here z refl)) ∙ later
 
 given_again : (m : Numbers) (server : ℕ) (path : Path) (cs : List Change) (r : Result (List Change) QueryFault)
-    → r ≡ Ok cs → written m server path cs ≡ m → (w : Numbers)
-    → option_and_then (new_numbers m server path) (spelled r) ≡ Some w → w ≡ m
+    → r ≡ Ok cs → with_changes m server path cs ≡ m → (w : Numbers)
+    → option_and_then (new_numbers m server path) (changes_or_none r) ≡ Some w → w ≡ m
 given_again m server path cs (Err f) is same w e = cc is
 given_again m server path cs (Ok ds) is same w e =
-    by (is_consistent (written m server path ds) server path) e
+    by (is_consistent (with_changes m server path ds) server path) e
   where
-    by : (b : Bool) → (if b then Some (written m server path ds) else None) ≡ Some w → w ≡ m
+    by : (b : Bool) → (if b then Some (with_changes m server path ds) else None) ≡ Some w → w ≡ m
     by true e =
-        let found : written m server path ds ≡ w = cc e in
+        let found : with_changes m server path ds ≡ w = cc e in
         let changes : ds ≡ cs = cc is in
-        sym found ∙ ap (written m server path) changes ∙ same
+        sym found ∙ ap (with_changes m server path) changes ∙ same
     by false e = cc e
 
 left_alone : (code : Option Code) (client : Client) (given : Option Numbers)
@@ -81,5 +81,5 @@ written_back client server path h =
     left_alone (refusal_of client server path (to_write_attributes qs)) client given
     (given_again client.attributes server path (settings_shown client server false path)
     (changes_of [] (level_at client.catalog path) qs) (parameters_are_queries client server false path h)
-    (written_again client.attributes server path (assigned client.attributes server path) (λ n z e. e)
+    (written_again client.attributes server path (assigned_number client.attributes server path) (λ n z e. e)
     attribute_names))

@@ -20,7 +20,7 @@ use Rattle.scenario_words.specs.PathWord.{IsPath}
 use Rattle.device_requests.specs.declared.answer.Code.TheVariants.{Content}
 use Rattle.device_requests.specs.declared.operation.Operation.TheVariants.{Discover}
 use Rattle.device_requests.specs.Client.{Client}
-use Rattle.device_requests.specs.Discover.{dimension, inherits_at, linked, name_text, number_text, shown_number}
+use Rattle.device_requests.specs.Discover.{dimension, inherits_at, linked_paths, name_text, number_text, shown_number}
 use Rattle.device_requests.specs.Order.{Asks}
 use Rattle.device_requests.specs.Outcomes.{attributes_outcome}
 use Rattle.device_requests.specs.Request.{outcome_of}
@@ -124,7 +124,7 @@ DiscoversAreRead =
     → (outcome_of client server m).answer.code ≡ Content
     → (ls : List PathLink)
     → AreLinks (outcome_of client server m).answer.payload ls
-    ↔ (ls ≡ links_to client server (linked client.catalog client.store path))
+    ↔ (ls ≡ links_to client server (linked_paths client.catalog client.store path))
 
 -- so the paths that are read from it are those that the Discover shows
 abbrev pub PathsAreRead : Type 0
@@ -132,7 +132,7 @@ PathsAreRead =
     (client : Client) (server : ℕ) (m : Message) (path : Path) → IsWithinTypes client → Asks m path Discover
     → (outcome_of client server m).answer.code ≡ Content
     → (ls : List PathLink) → AreLinks (outcome_of client server m).answer.payload ls
-    → map (λ l. l.path) ls ≡ linked client.catalog client.store path
+    → map (λ l. l.path) ls ≡ linked_paths client.catalog client.store path
 
 -- a parameter as a query: its name and its value with a `=` between them
 abbrev pub query_of : List ℕ × List ℕ → List ℕ

@@ -6,7 +6,7 @@ use Rattle.object_defs.specs.declared.path.Path.{Path}
 use Rattle.object_defs.specs.declared.path.Path.TheVariants.{Object, Instance, Resource, Part}
 use Rattle.object_defs.specs.Order.{IsInOrder}
 use Rattle.instance_store.specs.Stored.{Stored}
-use Rattle.device_requests.specs.Discover.{linked}
+use Rattle.device_requests.specs.Discover.{linked_paths}
 
 -- the numbers of a path
 abbrev pub path_numbers : Path → List ℕ
@@ -30,10 +30,10 @@ ComesBefore p q = AreBefore (path_numbers p) (path_numbers q)
 abbrev pub LinksAscend : Type 0
 LinksAscend =
     (catalog : List ObjectDef) (stored : Stored) (path : Path) → IsInOrder catalog
-    → AllPairs ComesBefore (linked catalog stored path)
+    → AllPairs ComesBefore (linked_paths catalog stored path)
 
 -- so none is shown twice
 abbrev pub LinksDiffer : Type 0
 LinksDiffer =
     (catalog : List ObjectDef) (stored : Stored) (path : Path) → IsInOrder catalog
-    → AllPairs (λ p q. p ≢ q) (linked catalog stored path)
+    → AllPairs (λ p q. p ≢ q) (linked_paths catalog stored path)

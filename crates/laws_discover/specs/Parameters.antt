@@ -14,7 +14,7 @@ use Rattle.object_defs.specs.declared.path.ResourcePath.{ResourcePath}
 use Rattle.instance_store.specs.Stored.{Stored, value_at}
 use Rattle.notifier.specs.declared.attribute.Name.{Name}
 use Rattle.notifier.specs.declared.attribute.Name.TheVariants.{Pmin, Pmax}
-use Rattle.notifier.specs.Attributes.{assigned}
+use Rattle.notifier.specs.Attributes.{assigned_number}
 use Rattle.device_requests.specs.Client.{Client}
 use Rattle.device_requests.specs.Discover.{inherits_at, name_text, number_text}
 use Rattle.device_requests.specs.Laws.{IsAmong}
@@ -36,7 +36,7 @@ pub data IsShownOn (client : Client) (server : ℕ) : Path → Parameter → Typ
   its_dimension : (o i r : ℕ) (d : ResourceDef) (ns : List ℕ) → definition_of client.catalog o r ≡ Some d
       → d.multiple ≡ true → HoldsNumbers client.store (resource_place o i r) ns → ns ≢ []
       → IsShownOn client server (Resource o i r) (codes "dim", decimal (length ns))
-  its_attribute : (path : Path) (n : Name) (z : ℤ) → assigned client.attributes server path n ≡ Some z
+  its_attribute : (path : Path) (n : Name) (z : ℤ) → assigned_number client.attributes server path n ≡ Some z
       → IsShownOn client server path (name_text n, number_text n z)
 
 -- pmin and pmax
@@ -48,13 +48,13 @@ IsInherited n = (n ≡ Pmin) ⊎ (n ≡ Pmax)
 pub data IsShownFirst (client : Client) (server : ℕ) : Path → Parameter → Type 0 where
   its_own : (path : Path) (x : Parameter) → IsShownOn client server path x → IsShownFirst client server path x
   of_instance : (o i r : ℕ) (n : Name) (z : ℤ) → IsInherited n
-      → assigned client.attributes server (Resource o i r) n ≡ None
-      → assigned client.attributes server (Instance o i) n ≡ Some z
+      → assigned_number client.attributes server (Resource o i r) n ≡ None
+      → assigned_number client.attributes server (Instance o i) n ≡ Some z
       → IsShownFirst client server (Resource o i r) (name_text n, number_text n z)
   of_object : (o i r : ℕ) (n : Name) (z : ℤ) → IsInherited n
-      → assigned client.attributes server (Resource o i r) n ≡ None
-      → assigned client.attributes server (Instance o i) n ≡ None
-      → assigned client.attributes server (Object o) n ≡ Some z
+      → assigned_number client.attributes server (Resource o i r) n ≡ None
+      → assigned_number client.attributes server (Instance o i) n ≡ None
+      → assigned_number client.attributes server (Object o) n ≡ Some z
       → IsShownFirst client server (Resource o i r) (name_text n, number_text n z)
 
 abbrev pub FirstLinkShows : Type 0

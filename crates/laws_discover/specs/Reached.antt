@@ -2,7 +2,7 @@
 use Rattle.std.specs.Prelude.{◌≡◌, ℕ, ℤ, pos, ◌+ℤ◌, ◌*ℤ◌, int_lt, true, List, [], ◌∷◌, Some}
 use Rattle.object_defs.specs.declared.path.Path.{Path}
 use Rattle.notifier.specs.declared.attribute.Name.TheVariants.{Gt, Lt, St}
-use Rattle.notifier.specs.Attributes.{Numbers, assigned}
+use Rattle.notifier.specs.Attributes.{Numbers, assigned_number}
 use Rattle.device_requests.specs.Client.{Client}
 use Rattle.device_template.specs.Template.{Template}
 use Rattle.device_machine.specs.declared.event.Event.{Event}
@@ -13,10 +13,10 @@ use Rattle.laws_discover.specs.Printed.{HasValidAttributes}
 
 -- what a server set at a path agrees: lt is below gt, and so is lt + 2 st
 pub record NumbersAgree (m : Numbers) (server : ℕ) (path : Path) : Type 0 where
-  pub below : (lt gt : ℤ) → assigned m server path Lt ≡ Some lt → assigned m server path Gt ≡ Some gt
+  pub below : (lt gt : ℤ) → assigned_number m server path Lt ≡ Some lt → assigned_number m server path Gt ≡ Some gt
       → int_lt lt gt ≡ true
-  pub apart : (lt gt st : ℤ) → assigned m server path Lt ≡ Some lt → assigned m server path Gt ≡ Some gt
-      → assigned m server path St ≡ Some st → int_lt (lt +ℤ (pos 2 *ℤ st)) gt ≡ true
+  pub apart : (lt gt st : ℤ) → assigned_number m server path Lt ≡ Some lt → assigned_number m server path Gt ≡ Some gt
+      → assigned_number m server path St ≡ Some st → int_lt (lt +ℤ (pos 2 *ℤ st)) gt ≡ true
 
 -- each attribute has a number that it may have, at a level at which it stands, and those of a server at a path agree
 pub record HasSoundAttributes (client : Client) : Type 0 where

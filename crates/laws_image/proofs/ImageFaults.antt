@@ -3,7 +3,7 @@ use Rattle.std.proofs.Common.{◌≡◌, inl, inr, ℕ, true, List, [], ◌∷�
 use Rattle.std.specs.Prelude.{nat_lt}
 use Rattle.std.specs.List.{list_all}
 use Rattle.byte_layout.specs.Layout.{raw, number, each}
-use Rattle.byte_layout.specs.Whole.{placed}
+use Rattle.byte_layout.specs.Whole.{fault_of_break}
 use Rattle.byte_layout.specs.declared.fault.Break.{Break}
 use Rattle.byte_layout.specs.declared.fault.Break.TheVariants as breaks
 use Rattle.scenario_layout.specs.Class.{class, notify, notify_in}
@@ -14,7 +14,7 @@ use Rattle.laws_image.specs.WorkedImage.{HasWorkedFaults, class_bytes, nothing, 
 use Rattle.laws_image.proofs.Bytes.{are_bytes}
 
 broken : (bytes : List ℕ) (b : Break) → list_all (λ b. nat_lt b 256) bytes ≡ true → image.read bytes ≡ Err b
-    → HasImageFault bytes (placed (length bytes) b)
+    → HasImageFault bytes (fault_of_break (length bytes) b)
 broken bytes b all h = (b, inl (image_exact.broken bytes (are_bytes bytes all) b h), refl)
 
 magic : image.read (0x00 ∷ 0x57 ∷ 0x53 ∷ 0x43 ∷ 0x02 ∷ 0x00 ∷ 0x00 ∷ 0x00 ∷ 0x00 ∷ []) ≡ Err breaks.Magic
@@ -44,7 +44,7 @@ unfolding image lists classes raw number each
 limit = refl
 
 trailing : HasImageFault (0x4C ∷ 0x57 ∷ 0x53 ∷ 0x43 ∷ 0x02 ∷ 0x00 ∷ 0x00 ∷ 0x00 ∷ 0x00 ∷ 0x00 ∷ [])
-    (placed 10 breaks.Trailing)
+    (fault_of_break 10 breaks.Trailing)
 trailing =
     let t = image_exact.taken (0x4C ∷ 0x57 ∷ 0x53 ∷ 0x43 ∷ 0x02 ∷ 0x00 ∷ 0x00 ∷ 0x00 ∷ 0x00 ∷ 0x00 ∷ [])
     (are_bytes (0x4C ∷ 0x57 ∷ 0x53 ∷ 0x43 ∷ 0x02 ∷ 0x00 ∷ 0x00 ∷ 0x00 ∷ 0x00 ∷ 0x00 ∷ []) refl) (2, nothing)

@@ -16,7 +16,7 @@ use Rattle.scenario_words.specs.declared.cause.Cause.TheVariants.{Token}
 use Rattle.scenario_words.specs.HexWord.{IsHex, bytes_of}
 use Rattle.scenario_words.specs.Number.{number_of}
 use Rattle.scenario_words.specs.PathWord.{IsPath, path_of}
-use Rattle.scenario_words.specs.Reading.{◌>>=◌, ended, word_by}
+use Rattle.scenario_words.specs.Reading.{◌>>=◌, check_of_end, word_by}
 use Rattle.scenario_words.specs.ValueWords.{name_fault}
 use Rattle.scenario_words.proofs.Pairs.{hex_law}
 use Rattle.scenario_words.proofs.PathLaws.{bind_ok, path_law, path_again}
@@ -36,8 +36,8 @@ use Rattle.scenario_mnemonics.specs.declared.verb.Verb.TheVariants as verb
 use Rattle.scenario_mnemonics.specs.Messages.{fields_of}
 use Rattle.scenario_mnemonics.specs.MnemonicWords.{action_at, content_at, format_of, format_word, formats, head_at}
 use Rattle.scenario_mnemonics.specs.MnemonicWords.{keyword_named, keyword_of, keyword_word, keywords, last_by}
-use Rattle.scenario_mnemonics.specs.MnemonicWords.{mnemonic_at, queries_at, said, short_token, token_at, type_of}
-use Rattle.scenario_mnemonics.specs.MnemonicWords.{type_word}
+use Rattle.scenario_mnemonics.specs.MnemonicWords.{mnemonic_at, queries_at, server_and_request, short_token, token_at}
+use Rattle.scenario_mnemonics.specs.MnemonicWords.{type_of, type_word}
 use Rattle.scenario_mnemonics.specs.Queries.{are_queries, is_query}
 use Rattle.scenario_mnemonics.proofs.Spelling.{type_again, format_again}
 use Rattle.scenario_statements.specs.Spelling.{IsWithin}
@@ -174,7 +174,7 @@ queries_again (q ∷ qs) h all =
 
 format_alone : (ws : List (List ℕ)) (f : Format) → last_by format_of ws ≡ Ok f → ws ≡ format_word f ∷ []
 format_alone ws f h =
-    let t = taken format_of ws (λ x. ended x.1 >>= (λ e. Ok x.0)) f h in
+    let t = taken format_of ws (λ x. check_of_end x.1 >>= (λ e. Ok x.0)) f h in
     let end = ended_read t.others t.value f t.rest in
     let n = format_read t.word t.value t.first in
     t.all ∙ ap (λ o. t.word ∷ o) end.0 ∙ ap (λ v. v ∷ []) (n ∙ ap format_word end.1)
@@ -182,7 +182,7 @@ format_alone ws f h =
 payload_alone : (ws : List (List ℕ)) (b : List ℕ) → last_by bytes_of ws ≡ Ok b
     → (w : List ℕ) × (ws ≡ w ∷ []) × IsHex w b
 payload_alone ws b h =
-    let t = taken bytes_of ws (λ x. ended x.1 >>= (λ e. Ok x.0)) b h in
+    let t = taken bytes_of ws (λ x. check_of_end x.1 >>= (λ e. Ok x.0)) b h in
     let end = ended_read t.others t.value b t.rest in
     (t.word, t.all ∙ ap (λ o. t.word ∷ o) end.0, subst (IsHex t.word) end.1 ((hex_law t.word t.value).0 t.first))
 
@@ -315,7 +315,7 @@ head_again s k m w t p others a b c d e =
 -- ---- mnemonics
 
 abbrev pub acted : Verb → Head × List (List ℕ) → Result (ℕ × Mnemonic) Cause
-acted v h = action_at v h.1 >>= (λ a. Ok (said h.0 a))
+acted v h = action_at v h.1 >>= (λ a. Ok (server_and_request h.0 a))
 
 abbrev IsSaid : Keyword → List (List ℕ) → ℕ × Mnemonic → Type 0
 IsSaid k ws y = (keyword_of y.1 ≡ k) × AreAsked y.0 y.1 ws
@@ -323,8 +323,8 @@ IsSaid k ws y = (keyword_of y.1 ≡ k) × AreAsked y.0 y.1 ws
 mnemonic_read : (k : Keyword) (ws : List (List ℕ)) (y : ℕ × Mnemonic) → mnemonic_at k ws ≡ Ok y → IsSaid k ws y
 mnemonic_read (keyword.Request v) ws y h =
     let b = bind_ok (head_at ws) (acted v) y h in
-    let c = bind_ok (action_at v b.0.1) (λ a. Ok (said b.0.0 a)) y b.2 in
-    let same : said b.0.0 c.0 ≡ y = cc (c.2) in
+    let c = bind_ok (action_at v b.0.1) (λ a. Ok (server_and_request b.0.0 a)) y b.2 in
+    let same : server_and_request b.0.0 c.0 ≡ y = cc (c.2) in
     let before = head_said ws b.0 b.1 in
     let after = details_said v b.0.1 c.0 c.1 in
     subst (IsSaid (keyword.Request v) ws) same (
@@ -332,9 +332,10 @@ mnemonic_read (keyword.Request v) ws y h =
       (before.0, b.0.1, before.1, before.2, before.3, before.4, before.5, before.6, after.1),
     )
 mnemonic_read keyword.Reset ws y h =
-    let a = taken (number_of 1 65534) ws (λ s. word_by (number_of 0 65535) s.1 >>= (λ m. ended m.1 >>= (λ e.
+    let a = taken (number_of 1 65534) ws (λ s. word_by (number_of 0 65535) s.1 >>= (λ m. check_of_end m.1 >>= (λ e.
     Ok (s.0, mnemonic.Reset m.0)))) y h in
-    let b = taken (number_of 0 65535) a.others (λ m. ended m.1 >>= (λ e. Ok (a.value, mnemonic.Reset m.0))) y a.rest in
+    let b = taken (number_of 0 65535) a.others
+    (λ m. check_of_end m.1 >>= (λ e. Ok (a.value, mnemonic.Reset m.0))) y a.rest in
     let found : ℕ × Mnemonic = (a.value, mnemonic.Reset b.value) in
     let end = ended_read b.others found y b.rest in
     let n = number_read 1 65534 a.value a.word (omega arith) a.first in
@@ -354,7 +355,7 @@ mnemonic_again server (mnemonic.Request r) ws h =
     let head = headed server r.kind r.mid r.token r.path in
     ap (λ x. head_at x >>= acted v) h.2
     ∙ ap (λ x. x >>= acted v) (head_again server r.kind r.mid h.0 r.token r.path h.1 h.3 h.4 h.5 h.6 h.7)
-    ∙ ap (λ x. x >>= (λ a. Ok (said head a))) (details_again r.action h.1 h.8)
+    ∙ ap (λ x. x >>= (λ a. Ok (server_and_request head a))) (details_again r.action h.1 h.8)
 mnemonic_again server (mnemonic.Reset mid) ws h =
     ap (mnemonic_at keyword.Reset) h.0
     ∙ rw (number_again 1 65534 server (omega arith) h.1, number_again 0 65535 mid (omega arith) h.2) refl

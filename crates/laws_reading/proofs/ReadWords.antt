@@ -15,7 +15,7 @@ use Rattle.lwm2m_values.specs.declared.kind.ValueKind.TheVariants as kind
 use Rattle.object_defs.specs.declared.definition.Ops.{Ops}
 use Rattle.object_defs.specs.declared.definition.Ops.TheVariants.{R, W, RW, E}
 use Rattle.scenario_words.specs.declared.cause.Cause.{Cause}
-use Rattle.scenario_words.specs.Reading.{◌>>=◌, word_by, ended}
+use Rattle.scenario_words.specs.Reading.{◌>>=◌, word_by, check_of_end}
 use Rattle.scenario_words.specs.Number.{number_of, integer_of}
 use Rattle.scenario_words.specs.HexWord.{bytes_of}
 use Rattle.scenario_words.specs.Quoted.{text_of}
@@ -25,7 +25,7 @@ use Rattle.scenario_words.proofs.NumberLaws.{number_of-law, integer_of-law}
 use Rattle.scenario_words.proofs.Pairs.{hex_law, quoted_law}
 use Rattle.scenario_words.proofs.PathLaws.{bind_ok, link_law}
 use Rattle.scenario_words.proofs.ValueLaws.{kind_again}
-use Rattle.scenario_statements.specs.Grammar.{named, ops_named, one_of, only_number}
+use Rattle.scenario_statements.specs.Grammar.{check_of_name, ops_named, one_of, only_number}
 use Rattle.scenario_statements.specs.Spelling.{IsWithin, ops_word}
 use Rattle.laws_reading.specs.Statements.{IsValueWord, multiple_word, mandatory_word}
 
@@ -49,7 +49,8 @@ is_word word w a b e h = let same : a ≡ b = cc in e ∙ ap word same
 pub is_some_word : {A : Type 0} (word : A → List ℕ) (w : List ℕ) (a b : A) → w ≡ word a → Some a ≡ Some b → w ≡ word b
 is_some_word word w a b e h = let same : a ≡ b = cc in e ∙ ap word same
 
-pub ended_read : {A : Type 0} (ws : List (List ℕ)) (x y : A) → (ended ws >>= (λ e. Ok x)) ≡ Ok y → (ws ≡ []) × (x ≡ y)
+pub ended_read : {A : Type 0} (ws : List (List ℕ)) (x y : A) → (check_of_end ws >>= (λ e. Ok x)) ≡ Ok y → (ws ≡ [])
+    × (x ≡ y)
 ended_read [] x y h = (refl, cc)
 ended_read (w ∷ ws) x y h = cc
 
@@ -93,7 +94,7 @@ number_read low high n w small h = let l = (number_of-law low high n w small).0 
 pub only_read : (low high n : ℕ) (ws : List (List ℕ)) → high < 2 ^ 64 → only_number low high ws ≡ Ok n
     → (ws ≡ decimal n ∷ []) × IsWithin low high n
 only_read low high n ws small h =
-    let t = taken (number_of low high) ws (λ m. ended m.1 >>= (λ e. Ok m.0)) n h in
+    let t = taken (number_of low high) ws (λ m. check_of_end m.1 >>= (λ e. Ok m.0)) n h in
     let end = ended_read t.others t.value n t.rest in
     let r = number_read low high t.value t.word small t.first in (
       t.all ∙ ap (λ o. t.word ∷ o) end.0 ∙ ap (λ v. v ∷ []) (r.0 ∙ ap decimal end.1),
@@ -126,7 +127,7 @@ pub mandatory_again : (b : Bool) → one_of (codes "mandatory") (codes "optional
 mandatory_again true = refl
 mandatory_again false = refl
 
-pub con_read : (w : List ℕ) (u : Unit {0}) → named (codes "con") w ≡ Ok u → w ≡ codes "con"
+pub con_read : (w : List ℕ) (u : Unit {0}) → check_of_name (codes "con") w ≡ Ok u → w ≡ codes "con"
 con_read w u =
     by_name w (codes "con") _ _ (Ok u) (w ≡ codes "con") (λ e h. e) (λ h. cc)
 

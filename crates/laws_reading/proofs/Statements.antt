@@ -9,7 +9,7 @@ use Rattle.lwm2m_values.specs.declared.value.Value.{Value}
 use Rattle.object_defs.specs.declared.definition.ResourceDef.{ResourceDef}
 use Rattle.object_defs.specs.declared.path.Path.{Path}
 use Rattle.scenario_words.specs.declared.cause.Cause.{Cause}
-use Rattle.scenario_words.specs.Reading.{◌>>=◌, word_by, ended}
+use Rattle.scenario_words.specs.Reading.{◌>>=◌, word_by, check_of_end}
 use Rattle.scenario_words.specs.Number.{number_of}
 use Rattle.scenario_words.specs.HexWord.{bytes_of}
 use Rattle.scenario_words.specs.PathWord.{path_of}
@@ -23,7 +23,7 @@ use Rattle.scenario_mnemonics.specs.MnemonicWords.{keyword_of}
 use Rattle.scenario_mnemonics.specs.MnemonicWords.{mnemonic_at}
 use Rattle.scenario_statements.specs.declared.statement.Statement.{Statement}
 use Rattle.scenario_statements.specs.declared.statement.Statement.TheVariants as says
-use Rattle.scenario_statements.specs.Grammar.{named, ops_named, one_of, only_number, notify, definition}
+use Rattle.scenario_statements.specs.Grammar.{check_of_name, ops_named, one_of, only_number, notify, definition}
 use Rattle.scenario_statements.specs.Grammar.{instance, recv, need, request, of_device, statement_by, some}
 use Rattle.scenario_statements.specs.Grammar.{statement_of}
 use Rattle.scenario_statements.specs.Spelling.{IsWithin}
@@ -67,7 +67,7 @@ version n h =
     ap (λ d. codes "scenario" ∷ d ∷ []) (ap decimal one ∙ decimal_digit 1 (lit< tt))
 
 class_read : (y : Statement) (w : List ℕ) (ws : List (List ℕ)) → w ≡ codes "class"
-    → (ended ws >>= (λ e. Ok says.Class)) ≡ Ok y → IsSaidBy y (w ∷ ws)
+    → (check_of_end ws >>= (λ e. Ok says.Class)) ≡ Ok y → IsSaidBy y (w ∷ ws)
 class_read y w ws same h =
     let end = ended_read ws says.Class y h in
     let all : codes "class" ∷ [] ≡ w ∷ ws = cc (same, end.0) in
@@ -76,7 +76,7 @@ class_read y w ws same h =
 notify_read : (y : Statement) (w : List ℕ) (ws : List (List ℕ)) → w ≡ codes "notify" → notify ws ≡ Ok y
     → IsSaidBy y (w ∷ ws)
 notify_read y w ws same h =
-    let a = taken (named (codes "con")) ws (λ c. only_number 2 3 c.1 >>= (λ n. Ok (says.Notify n))) y h in
+    let a = taken (check_of_name (codes "con")) ws (λ c. only_number 2 3 c.1 >>= (λ n. Ok (says.Notify n))) y h in
     let b = bind_ok (only_number 2 3 a.others) (λ n. Ok (says.Notify n)) y a.rest in
     let con = con_read a.word a.value a.first in
     let n = only_read 2 3 b.0 a.others (omega arith) b.1 in
@@ -89,7 +89,7 @@ definition_read y w ws same h =
     let a = taken (number_of 0 65535) ws (λ id. word_by ops_named id.1 >>= (λ ops.
     word_by (one_of (codes "multiple") (codes "single")) ops.1 >>= (λ multiple.
     word_by (one_of (codes "mandatory") (codes "optional")) multiple.1 >>= (λ mandatory.
-    word_by kind_named mandatory.1 >>= (λ k. ended k.1 >>= (λ e. Ok (says.Def (record {
+    word_by kind_named mandatory.1 >>= (λ k. check_of_end k.1 >>= (λ e. Ok (says.Def (record {
       id = id.0;
       ops = ops.0;
       multiple = multiple.0;
@@ -100,7 +100,7 @@ definition_read y w ws same h =
     let b = taken ops_named a.others (λ ops.
     word_by (one_of (codes "multiple") (codes "single")) ops.1 >>= (λ multiple.
     word_by (one_of (codes "mandatory") (codes "optional")) multiple.1 >>= (λ mandatory.
-    word_by kind_named mandatory.1 >>= (λ k. ended k.1 >>= (λ e. Ok (says.Def (record {
+    word_by kind_named mandatory.1 >>= (λ k. check_of_end k.1 >>= (λ e. Ok (says.Def (record {
       id = a.value;
       ops = ops.0;
       multiple = multiple.0;
@@ -110,7 +110,7 @@ definition_read y w ws same h =
     }))))))) y a.rest in
     let c = taken (one_of (codes "multiple") (codes "single")) b.others (λ multiple.
     word_by (one_of (codes "mandatory") (codes "optional")) multiple.1 >>= (λ mandatory.
-    word_by kind_named mandatory.1 >>= (λ k. ended k.1 >>= (λ e. Ok (says.Def (record {
+    word_by kind_named mandatory.1 >>= (λ k. check_of_end k.1 >>= (λ e. Ok (says.Def (record {
       id = a.value;
       ops = b.value;
       multiple = multiple.0;
@@ -119,7 +119,7 @@ definition_read y w ws same h =
           k.0;
     })))))) y b.rest in
     let d = taken (one_of (codes "mandatory") (codes "optional")) c.others (λ mandatory.
-    word_by kind_named mandatory.1 >>= (λ k. ended k.1 >>= (λ e. Ok (says.Def (record {
+    word_by kind_named mandatory.1 >>= (λ k. check_of_end k.1 >>= (λ e. Ok (says.Def (record {
       id = a.value;
       ops = b.value;
       multiple = c.value;
@@ -127,7 +127,7 @@ definition_read y w ws same h =
       kind =
           k.0;
     }))))) y c.rest in
-    let k = taken kind_named d.others (λ k. ended k.1 >>= (λ e. Ok (says.Def (record {
+    let k = taken kind_named d.others (λ k. check_of_end k.1 >>= (λ e. Ok (says.Def (record {
       id = a.value;
       ops = b.value;
       multiple = c.value;
@@ -149,9 +149,9 @@ definition_read y w ws same h =
 instance_read : (y : Statement) (w : List ℕ) (ws : List (List ℕ)) → w ≡ codes "instance" → instance ws ≡ Ok y
     → IsSaidBy y (w ∷ ws)
 instance_read y w ws same h =
-    let a = taken (number_of 0 65535) ws (λ o. word_by (number_of 0 65534) o.1 >>= (λ i. ended i.1 >>= (λ e.
+    let a = taken (number_of 0 65535) ws (λ o. word_by (number_of 0 65534) o.1 >>= (λ i. check_of_end i.1 >>= (λ e.
     Ok (says.Instance (record { object = o.0; instance = i.0 }))))) y h in
-    let b = taken (number_of 0 65534) a.others (λ i. ended i.1 >>= (λ e.
+    let b = taken (number_of 0 65534) a.others (λ i. check_of_end i.1 >>= (λ e.
     Ok (says.Instance (record { object = a.value; instance = i.0 })))) y a.rest in
     let end = ended_read b.others (says.Instance (record { object = a.value; instance = b.value })) y b.rest in
     let m = number_read 0 65535 a.value a.word (omega arith) a.first in
@@ -162,8 +162,9 @@ need_read : (y : Statement) (w : List ℕ) (ws : List (List ℕ)) → w ≡ code
     → IsSaidBy y (w ∷ ws)
 need_read y w ws same h =
     let a = taken (number_of 0 255) ws
-    (λ g. word_by (number_of 1 1000000) g.1 >>= (λ n. ended n.1 >>= (λ e. Ok (says.Need g.0 n.0)))) y h in
-    let b = taken (number_of 1 1000000) a.others (λ n. ended n.1 >>= (λ e. Ok (says.Need a.value n.0))) y a.rest in
+    (λ g. word_by (number_of 1 1000000) g.1 >>= (λ n. check_of_end n.1 >>= (λ e. Ok (says.Need g.0 n.0)))) y h in
+    let b = taken (number_of 1 1000000) a.others
+    (λ n. check_of_end n.1 >>= (λ e. Ok (says.Need a.value n.0))) y a.rest in
     let end = ended_read b.others (says.Need a.value b.value) y b.rest in
     let m = number_read 0 255 a.value a.word (omega arith) a.first in
     let n = number_read 1 1000000 b.value b.word (omega arith) b.first in
@@ -173,8 +174,8 @@ recv_read : (y : Statement) (w : List ℕ) (ws : List (List ℕ)) → w ≡ code
     → IsSaidBy y (w ∷ ws)
 recv_read y w ws same h =
     let a = taken (number_of 1 65534) ws
-    (λ s. word_by bytes_of s.1 >>= (λ b. ended b.1 >>= (λ e. Ok (says.Recv s.0 b.0)))) y h in
-    let b = taken bytes_of a.others (λ b. ended b.1 >>= (λ e. Ok (says.Recv a.value b.0))) y a.rest in
+    (λ s. word_by bytes_of s.1 >>= (λ b. check_of_end b.1 >>= (λ e. Ok (says.Recv s.0 b.0)))) y h in
+    let b = taken bytes_of a.others (λ b. check_of_end b.1 >>= (λ e. Ok (says.Recv a.value b.0))) y a.rest in
     let end = ended_read b.others (says.Recv a.value b.value) y b.rest in
     let m = number_read 1 65534 a.value a.word (omega arith) a.first in
     subst (λ z. IsSaidBy z (w ∷ ws)) end.1
@@ -182,11 +183,11 @@ recv_read y w ws same h =
 
 placed : (f : Path → Value → Statement) (y : Statement) (w name : List ℕ) (ws : List (List ℕ))
     → ((p : Path) (v : Value) (all : List (List ℕ)) → AreValueWords name p v all → IsSaidBy (f p v) all) → w ≡ name
-    → (word_by path_of ws >>= (λ p. value_at p.1 >>= (λ v. ended v.1 >>= (λ e. Ok (f p.0 v.0))))) ≡ Ok y
+    → (word_by path_of ws >>= (λ p. value_at p.1 >>= (λ v. check_of_end v.1 >>= (λ e. Ok (f p.0 v.0))))) ≡ Ok y
     → IsSaidBy y (w ∷ ws)
 placed f y w name ws said same h =
-    let a = taken path_of ws (λ p. value_at p.1 >>= (λ v. ended v.1 >>= (λ e. Ok (f p.0 v.0)))) y h in
-    let b = bind_ok (value_at a.others) (λ v. ended v.1 >>= (λ e. Ok (f a.value v.0))) y a.rest in
+    let a = taken path_of ws (λ p. value_at p.1 >>= (λ v. check_of_end v.1 >>= (λ e. Ok (f p.0 v.0)))) y h in
+    let b = bind_ok (value_at a.others) (λ v. check_of_end v.1 >>= (λ e. Ok (f a.value v.0))) y a.rest in
     let end = ended_read b.0.1 (f a.value b.0.0) y b.2 in
     let p = (path_law a.word a.value).0 a.first in
     let v = value_at_read a.others b.0 b.1 in

@@ -11,12 +11,12 @@ use Rattle.scenario_words.specs.declared.cause.Cause.{Cause}
 use Rattle.scenario_words.specs.HexWord.{bytes_of}
 use Rattle.scenario_words.specs.Number.{number_of}
 use Rattle.scenario_words.specs.PathWord.{path_of}
-use Rattle.scenario_words.specs.Reading.{◌>>=◌, ended, word_by}
+use Rattle.scenario_words.specs.Reading.{◌>>=◌, check_of_end, word_by}
 use Rattle.scenario_words.specs.ValueWords.{kind_named, kind_word, value_at, value_of}
 use Rattle.scenario_words.proofs.ValueLaws.{kind_again}
 use Rattle.scenario_statements.specs.declared.statement.Statement.{Statement}
 use Rattle.scenario_statements.specs.declared.statement.Statement.TheVariants as says
-use Rattle.scenario_statements.specs.Grammar.{definition, instance as read_instance, named, need as read_need}
+use Rattle.scenario_statements.specs.Grammar.{check_of_name, definition, instance as read_instance, need as read_need}
 use Rattle.scenario_statements.specs.Grammar.{notify as read_notify, one_of, only_number, ops_named, recv as read_recv}
 use Rattle.laws_reading.specs.WrongStatements.{AreWrong}
 use Rattle.laws_reading.specs.WrongStatements.{AreWrongAsValue, IsTooMany}
@@ -41,12 +41,12 @@ pub only_placed : (f : ℕ → Statement) (low high : ℕ) → high < 2 ^ 64
     → Refuses (λ ws. only_number low high ws >>= (λ n. Ok (f n))) (AreWrong (number low high ∷ []) IsTooMany)
 only_placed f low high small ws cause =
     made_of (only_number low high ws) f cause (AreWrong (number low high ∷ []) IsTooMany ws cause)
-    (placed (number_of low high) (number low high) [] IsTooMany (λ n. ended n.1 >>= (λ e. Ok n.0))
+    (placed (number_of low high) (number low high) [] IsTooMany (λ n. check_of_end n.1 >>= (λ e. Ok n.0))
     (number_fills low high small) (λ n. all_placed n) ws cause)
 
 pub notify_placed : Refuses read_notify (AreWrong (places_after notify) IsTooMany)
 notify_placed =
-    placed (named (codes "con")) con_name (number 2 3 ∷ []) IsTooMany
+    placed (check_of_name (codes "con")) con_name (number 2 3 ∷ []) IsTooMany
     (λ c. only_number 2 3 c.1 >>= (λ n. Ok (says.Notify n))) con_fills
     (λ c. only_placed (λ n. says.Notify n) 2 3 (omega arith))
 
@@ -55,52 +55,53 @@ definition_placed =
     placed (number_of 0 65535) (number 0 65535) (operations ∷ multiple ∷ mandatory ∷ kind_name ∷ []) IsTooMany (λ id.
     word_by ops_named id.1 >>= (λ ops. word_by (one_of (codes "multiple") (codes "single")) ops.1 >>= (λ more.
     word_by (one_of (codes "mandatory") (codes "optional")) more.1 >>= (λ must. word_by kind_named must.1 >>= (λ k.
-    ended k.1 >>= (λ e. Ok (says.Def (defined id.0 ops.0 more.0 must.0 k.0))))))))
+    check_of_end k.1 >>= (λ e. Ok (says.Def (defined id.0 ops.0 more.0 must.0 k.0))))))))
     (number_fills 0 65535 (omega arith)) (λ id.
     placed ops_named operations (multiple ∷ mandatory ∷ kind_name ∷ []) IsTooMany (λ ops.
     word_by (one_of (codes "multiple") (codes "single")) ops.1 >>= (λ more.
     word_by (one_of (codes "mandatory") (codes "optional")) more.1 >>= (λ must. word_by kind_named must.1 >>= (λ k.
-    ended k.1 >>= (λ e. Ok (says.Def (defined id ops.0 more.0 must.0 k.0)))))))
+    check_of_end k.1 >>= (λ e. Ok (says.Def (defined id ops.0 more.0 must.0 k.0)))))))
     operations_fill (λ ops.
     placed (one_of (codes "multiple") (codes "single")) multiple (mandatory ∷ kind_name ∷ []) IsTooMany (λ more.
     word_by (one_of (codes "mandatory") (codes "optional")) more.1 >>= (λ must. word_by kind_named must.1 >>= (λ k.
-    ended k.1 >>= (λ e. Ok (says.Def (defined id ops more.0 must.0 k.0))))))
+    check_of_end k.1 >>= (λ e. Ok (says.Def (defined id ops more.0 must.0 k.0))))))
     multiple_fills (λ more.
     placed (one_of (codes "mandatory") (codes "optional")) mandatory (kind_name ∷ []) IsTooMany (λ must.
-    word_by kind_named must.1 >>= (λ k. ended k.1 >>= (λ e. Ok (says.Def (defined id ops more must.0 k.0)))))
+    word_by kind_named must.1 >>= (λ k. check_of_end k.1 >>= (λ e. Ok (says.Def (defined id ops more must.0 k.0)))))
     mandatory_fills (λ must.
-    placed kind_named kind_name [] IsTooMany (λ k. ended k.1 >>= (λ e. Ok (says.Def (defined id ops more must k.0))))
+    placed kind_named kind_name [] IsTooMany
+    (λ k. check_of_end k.1 >>= (λ e. Ok (says.Def (defined id ops more must k.0))))
     kind_fills (λ k. all_placed (says.Def (defined id ops more must k)))))))
 
 pub instance_placed : Refuses read_instance (AreWrong (places_after instance) IsTooMany)
 instance_placed =
     placed (number_of 0 65535) (number 0 65535) (number 0 65534 ∷ []) IsTooMany
-    (λ o. word_by (number_of 0 65534) o.1 >>= (λ i. ended i.1 >>= (λ e.
+    (λ o. word_by (number_of 0 65534) o.1 >>= (λ i. check_of_end i.1 >>= (λ e.
     Ok (says.Instance (record { object = o.0; instance = i.0 })))))
     (number_fills 0 65535 (omega arith)) (λ o.
     placed (number_of 0 65534) (number 0 65534) [] IsTooMany
-    (λ i. ended i.1 >>= (λ e. Ok (says.Instance (record { object = o; instance = i.0 }))))
+    (λ i. check_of_end i.1 >>= (λ e. Ok (says.Instance (record { object = o; instance = i.0 }))))
     (number_fills 0 65534 (omega arith))
     (λ i. all_placed (says.Instance (record { object = o; instance = i }))))
 
 pub need_placed : Refuses read_need (AreWrong (places_after need) IsTooMany)
 need_placed =
     placed (number_of 0 255) (number 0 255) (number 1 1000000 ∷ []) IsTooMany
-    (λ g. word_by (number_of 1 1000000) g.1 >>= (λ n. ended n.1 >>= (λ e. Ok (says.Need g.0 n.0))))
+    (λ g. word_by (number_of 1 1000000) g.1 >>= (λ n. check_of_end n.1 >>= (λ e. Ok (says.Need g.0 n.0))))
     (number_fills 0 255 (omega arith)) (λ g.
-    placed (number_of 1 1000000) (number 1 1000000) [] IsTooMany (λ n. ended n.1 >>= (λ e. Ok (says.Need g n.0)))
+    placed (number_of 1 1000000) (number 1 1000000) [] IsTooMany (λ n. check_of_end n.1 >>= (λ e. Ok (says.Need g n.0)))
     (number_fills 1 1000000 (omega arith)) (λ n. all_placed (says.Need g n)))
 
 pub recv_placed : Refuses read_recv (AreWrong (places_after recv) IsTooMany)
 recv_placed =
     placed (number_of 1 65534) (number 1 65534) (bytes ∷ []) IsTooMany
-    (λ s. word_by bytes_of s.1 >>= (λ b. ended b.1 >>= (λ e. Ok (says.Recv s.0 b.0))))
+    (λ s. word_by bytes_of s.1 >>= (λ b. check_of_end b.1 >>= (λ e. Ok (says.Recv s.0 b.0))))
     (number_fills 1 65534 (omega arith)) (λ s.
-    placed bytes_of bytes [] IsTooMany (λ b. ended b.1 >>= (λ e. Ok (says.Recv s b.0))) bytes_fill
+    placed bytes_of bytes [] IsTooMany (λ b. check_of_end b.1 >>= (λ e. Ok (says.Recv s b.0))) bytes_fill
     (λ b. all_placed (says.Recv s b)))
 
 abbrev pub valued : (Value → Statement) → Value × List (List ℕ) → Result Statement Cause
-valued f v = ended v.1 >>= (λ e. Ok (f v.0))
+valued f v = check_of_end v.1 >>= (λ e. Ok (f v.0))
 
 pub joined : {A B C : Type 0} (r : Result A Cause) (f : A → Result B Cause) (g : B → Result C Cause)
     → ((r >>= f) >>= g) ≡ (r >>= (λ x. f x >>= g))

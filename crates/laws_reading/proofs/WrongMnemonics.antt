@@ -12,7 +12,7 @@ use Rattle.scenario_words.specs.declared.cause.Cause.TheVariants.{Token, Unknown
 use Rattle.scenario_words.specs.HexWord.{bytes_of}
 use Rattle.scenario_words.specs.Number.{number_of}
 use Rattle.scenario_words.specs.PathWord.{path_of}
-use Rattle.scenario_words.specs.Reading.{◌>>=◌, ended, word_by}
+use Rattle.scenario_words.specs.Reading.{◌>>=◌, check_of_end, word_by}
 use Rattle.scenario_words.specs.ValueWords.{is_formed, name_fault}
 use Rattle.scenario_mnemonics.specs.declared.verb.Verb.TheVariants as verb
 use Rattle.scenario_mnemonics.specs.declared.verb.Keyword.{Keyword}
@@ -25,9 +25,9 @@ use Rattle.scenario_mnemonics.specs.declared.format.Format.TheVariants as format
 use Rattle.scenario_mnemonics.specs.declared.action.Action.TheVariants as act
 use Rattle.scenario_mnemonics.specs.declared.head.Head.{Head}
 use Rattle.scenario_mnemonics.specs.declared.mnemonic.Mnemonic.TheVariants as mnemonic
-use Rattle.scenario_mnemonics.specs.MnemonicWords.{action_at, content_at, format_of, format_word, last_by}
-use Rattle.scenario_mnemonics.specs.MnemonicWords.{mnemonic_at, queries_at}
-use Rattle.scenario_mnemonics.specs.MnemonicWords.{said, short_token, token_at, type_of, type_word}
+use Rattle.scenario_mnemonics.specs.MnemonicWords.{action_at, content_at, format_of, format_word, last_by, mnemonic_at}
+use Rattle.scenario_mnemonics.specs.MnemonicWords.{queries_at, server_and_request, short_token, token_at, type_of}
+use Rattle.scenario_mnemonics.specs.MnemonicWords.{type_word}
 use Rattle.scenario_mnemonics.specs.Queries.{are_queries, is_query}
 use Rattle.scenario_mnemonics.proofs.Spelling.{type_again, format_again}
 use Rattle.laws_reading.specs.Statements.{IsQueryWord}
@@ -128,11 +128,11 @@ made r W g so ws cause = made_of (r ws) g cause (W ws cause) (so ws cause)
 
 pub format_placed : Refuses (last_by format_of) (AreWrong (format_name ∷ []) IsTooMany)
 format_placed =
-    placed format_of format_name [] IsTooMany (λ f. ended f.1 >>= (λ e. Ok f.0)) format_fills (λ f. all_placed f)
+    placed format_of format_name [] IsTooMany (λ f. check_of_end f.1 >>= (λ e. Ok f.0)) format_fills (λ f. all_placed f)
 
 pub payload_placed : Refuses (last_by bytes_of) (AreWrong (bytes ∷ []) IsTooMany)
 payload_placed =
-    placed bytes_of bytes [] IsTooMany (λ b. ended b.1 >>= (λ e. Ok b.0)) bytes_fill (λ b. all_placed b)
+    placed bytes_of bytes [] IsTooMany (λ b. check_of_end b.1 >>= (λ e. Ok b.0)) bytes_fill (λ b. all_placed b)
 
 pub content_placed : Refuses content_at (AreWrong (format_name ∷ bytes ∷ []) IsTooMany)
 content_placed =
@@ -187,7 +187,8 @@ token_placed v s k m ws cause =
     (ap (λ r. (r >>= next) >>= acted v) (token_word ws))
     (placed_then read_token token (path ∷ []) (AreWrongAsDetails v) next (acted v) token_fills (λ t.
     placed_then path_of path [] (AreWrongAsDetails v) (λ p. Ok (headed s k m t p.0, p.1)) (acted v) path_fills (λ p.
-    made (action_at v) (AreWrongAsDetails v) (λ a. said (headed s k m t p) a) (details_placed v))) ws cause)
+    made (action_at v) (AreWrongAsDetails v) (λ a. server_and_request (headed s k m t p) a) (details_placed v))) ws
+    cause)
 
 pub request_placed : (v : Verb) → Refuses (mnemonic_at (keyword.Request v)) (AreWrongAfter (keyword.Request v))
 request_placed v =
@@ -205,10 +206,10 @@ request_placed v =
 pub reset_placed : Refuses (mnemonic_at keyword.Reset) (AreWrongAfter keyword.Reset)
 reset_placed =
     placed (number_of 1 65534) (number 1 65534) (number 0 65535 ∷ []) IsTooMany
-    (λ s. word_by (number_of 0 65535) s.1 >>= (λ m. ended m.1 >>= (λ e. Ok (s.0, mnemonic.Reset m.0))))
+    (λ s. word_by (number_of 0 65535) s.1 >>= (λ m. check_of_end m.1 >>= (λ e. Ok (s.0, mnemonic.Reset m.0))))
     (number_fills 1 65534 (omega arith)) (λ s.
     placed (number_of 0 65535) (number 0 65535) [] IsTooMany
-    (λ m. ended m.1 >>= (λ e. Ok (s, mnemonic.Reset m.0))) (number_fills 0 65535 (omega arith))
+    (λ m. check_of_end m.1 >>= (λ e. Ok (s, mnemonic.Reset m.0))) (number_fills 0 65535 (omega arith))
     (λ m. all_placed (s, mnemonic.Reset m)))
 
 pub mnemonic_placed : (k : Keyword) → Refuses (mnemonic_at k) (AreWrongAfter k)

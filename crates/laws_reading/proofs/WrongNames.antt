@@ -16,7 +16,7 @@ use Rattle.scenario_words.specs.Quoted.{IsQuoted, text_of}
 use Rattle.scenario_words.specs.ValueWords.{is_formed, kind_named, kind_word, name_fault}
 use Rattle.scenario_words.proofs.Pairs.{quoted_law}
 use Rattle.scenario_words.proofs.ValueLaws.{kind_again}
-use Rattle.scenario_statements.specs.Grammar.{named, one_of, ops_named}
+use Rattle.scenario_statements.specs.Grammar.{check_of_name, one_of, ops_named}
 use Rattle.scenario_statements.specs.Spelling.{IsWithin, ops_word}
 use Rattle.scenario_statements.proofs.Again.{ops_again}
 use Rattle.laws_reading.specs.Statements.{mandatory_word, multiple_word}
@@ -117,14 +117,14 @@ operations_named w cause =
     is_wrong (ops_named w) (IsFormed w) ((o : Ops) × (w ≡ ops_word o)) UnknownWord cause (is_formed w)
     (by_names (ops_named w) w ops_word (ops_read w) (λ o e. ap ops_named e ∙ ops_again o) ops_formed (ops_fault w))
 
-con_fault : (w : List ℕ) (e : Cause) → named (codes "con") w ≡ Err e → e ≡ name_fault w
+con_fault : (w : List ℕ) (e : Cause) → check_of_name (codes "con") w ≡ Err e → e ≡ name_fault w
 con_fault w e = named_or w (codes "con") tt _ e (no_name w e)
 
 pub con_named : ConIsNamed
 con_named w cause =
-    let reads = by_names (named (codes "con") w) w (λ (u : Unit {0}). codes "con") (con_read w)
-    (λ u e. ap (named (codes "con")) e) (λ u. refl) (con_fault w) in
-    is_wrong (named (codes "con") w) (IsFormed w) (w ≡ codes "con") UnknownWord cause (is_formed w) (record {
+    let reads = by_names (check_of_name (codes "con") w) w (λ (u : Unit {0}). codes "con") (con_read w)
+    (λ u e. ap (check_of_name (codes "con")) e) (λ u. refl) (con_fault w) in
+    is_wrong (check_of_name (codes "con") w) (IsFormed w) (w ≡ codes "con") UnknownWord cause (is_formed w) (record {
       tested = reads.tested;
       passes = reads.passes;
       unformed = reads.unformed;

@@ -22,7 +22,7 @@ use Rattle.scenario_words.specs.HexWord.{IsHex, bytes_of, or_token, pairs}
 use Rattle.scenario_words.specs.Number.{integer_of, integer_value, is_64_bits, is_natural, is_number, number_of}
 use Rattle.scenario_words.specs.PathWord.{IsPath, link_of, link_of_parts, link_word, path_of, path_of_numbers}
 use Rattle.scenario_words.specs.PathWord.{path_of_parts}
-use Rattle.scenario_words.specs.Quoted.{IsQuoted, text_of, unquoted, utf8_or_token}
+use Rattle.scenario_words.specs.Quoted.{IsQuoted, text_of, unquoted_bytes, utf8_or_token}
 use Rattle.scenario_words.specs.Reading.{◌>>=◌}
 use Rattle.scenario_words.specs.Words.{parts}
 use Rattle.scenario_words.proofs.Digits.{minus_number, plain_number}
@@ -430,8 +430,8 @@ text_err : (w : List ℕ) (e : Cause) → text_of w ≡ Err e → e ≡ Token
 text_err [] e h = sym (same_cause {A = List ℕ} Token e h)
 text_err (b ∷ bs) e h = by _ h
   where
-    by : (q : Bool) → cond q (utf8_or_token (unquoted bs)) (Err Token) ≡ Err e → e ≡ Token
-    by true k = utf8_err (unquoted bs) e k
+    by : (q : Bool) → cond q (utf8_or_token (unquoted_bytes bs)) (Err Token) ≡ Err e → e ≡ Token
+    by true k = utf8_err (unquoted_bytes bs) e k
     by false k = sym (same_cause {A = List ℕ} Token e k)
 
 pub texts_quoted : TextsAreQuoted

@@ -16,12 +16,12 @@ use Rattle.scenario_words.specs.HexWord.{IsHex, bytes_of}
 use Rattle.scenario_words.specs.Number.{integer_of, number_of}
 use Rattle.scenario_words.specs.PathWord.{link_of, link_word, path_of}
 use Rattle.scenario_words.specs.Quoted.{text_of}
-use Rattle.scenario_words.specs.Reading.{◌>>=◌, ended, word_by}
+use Rattle.scenario_words.specs.Reading.{◌>>=◌, check_of_end, word_by}
 use Rattle.scenario_words.specs.ValueWords.{kind_named, value_of}
 use Rattle.scenario_words.proofs.PathLaws.{path_law}
 use Rattle.scenario_words.proofs.Pairs.{hex_law}
 use Rattle.scenario_words.proofs.ValueLaws.{kind_again}
-use Rattle.scenario_statements.specs.Grammar.{named, one_of, ops_named}
+use Rattle.scenario_statements.specs.Grammar.{check_of_name, one_of, ops_named}
 use Rattle.scenario_statements.specs.Spelling.{IsWithin}
 use Rattle.scenario_statements.proofs.Again.{number_again, ops_again}
 use Rattle.laws_reading.specs.Statements.{IsValueWord}
@@ -106,7 +106,7 @@ placed {A} {B} read p ps after f fills next (w ∷ ws) cause =
     )
 
 -- no place is left
-pub all_placed : {B : Type 0} (y : B) → Refuses (λ ws. ended ws >>= (λ e. Ok y)) IsTooMany
+pub all_placed : {B : Type 0} (y : B) → Refuses (λ ws. check_of_end ws >>= (λ e. Ok y)) IsTooMany
 all_placed {B} y [] cause = ((λ h. cc h), (λ h. absurd h))
 all_placed {B} y (w ∷ ws) cause = (
   (λ h. sym (same_cause {A = B} Token cause h)),
@@ -135,12 +135,12 @@ number_fills low high small =
       again = λ w h. (h.0, ap (number_of low high) h.2 ∙ number_again low high h.0 small h.1);
     }
 
-pub con_fills : Fills (named (codes "con")) con_name
+pub con_fills : Fills (check_of_name (codes "con")) con_name
 con_fills =
     record {
       wrong = con_named;
       right = λ w u h. con_read w u h;
-      again = λ w h. (tt, ap (named (codes "con")) h);
+      again = λ w h. (tt, ap (check_of_name (codes "con")) h);
     }
 
 pub operations_fill : Fills ops_named operations

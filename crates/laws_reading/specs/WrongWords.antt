@@ -16,7 +16,7 @@ use Rattle.scenario_words.specs.Number.{integer_of, number_of}
 use Rattle.scenario_words.specs.PathWord.{IsPath, link_of, link_word, path_of}
 use Rattle.scenario_words.specs.Quoted.{IsQuoted, text_of}
 use Rattle.scenario_words.specs.ValueWords.{kind_named, kind_word}
-use Rattle.scenario_statements.specs.Grammar.{named, one_of, ops_named}
+use Rattle.scenario_statements.specs.Grammar.{check_of_name, one_of, ops_named}
 use Rattle.scenario_statements.specs.Spelling.{IsWithin, ops_word}
 use Rattle.laws_reading.specs.Statements.{mandatory_word, multiple_word}
 
@@ -79,7 +79,7 @@ MandatoryIsNamed =
 -- where one name alone may stand
 abbrev pub ConIsNamed : Type 0
 ConIsNamed =
-    (w : List ℕ) (cause : Cause) → (named (codes "con") w ≡ Err cause) ↔ IsWrongName (w ≡ codes "con") w cause
+    (w : List ℕ) (cause : Cause) → (check_of_name (codes "con") w ≡ Err cause) ↔ IsWrongName (w ≡ codes "con") w cause
 
 abbrev pub KindsAreNamed : Type 0
 KindsAreNamed =

@@ -12,8 +12,8 @@ use Rattle.notifier.specs.declared.attribute.AttributeKey.{AttributeKey}
 use Rattle.notifier.specs.declared.attribute.Change.{Change}
 use Rattle.notifier.specs.declared.attribute.Name.{Name}
 use Rattle.notifier.specs.declared.fault.QueryFault.{QueryFault}
-use Rattle.notifier.specs.Attributes.{Numbers, assigned, is_consistent, key_cmp, key_of, name_at, name_at-rank, rank}
-use Rattle.notifier.specs.Attributes.{with_number, written}
+use Rattle.notifier.specs.Attributes.{Numbers, assigned_number, is_consistent, key_cmp, key_of, name_at, name_at-rank}
+use Rattle.notifier.specs.Attributes.{rank, with_changes, with_number}
 use Rattle.notifier.specs.Query.{changes_of}
 use Rattle.notifier.proofs.Keys.{key_exact, key_total}
 use Rattle.notifier.proofs.AttributeLaws.{name_of_key, others_kept}
@@ -21,8 +21,8 @@ use Rattle.device_requests.specs.declared.answer.Code.{Code}
 use Rattle.device_requests.specs.Laws.{is_refusal}
 use Rattle.device_requests.specs.Outcomes.{attributes_outcome}
 use Rattle.device_requests.specs.Refusals.{refusals_of, to_write_attributes}
-use Rattle.device_requests.specs.WriteAttributes.{new_numbers, annotate_unless, attributes_given}
-use Rattle.device_requests.specs.WriteAttributes.{level_at, spelled}
+use Rattle.device_requests.specs.WriteAttributes.{new_numbers, annotate_unless, attributes_given, changes_or_none}
+use Rattle.device_requests.specs.WriteAttributes.{level_at}
 use Rattle.laws_requests.specs.Annotations.{AttributesAreSet, changed_by}
 use Rattle.laws_requests.proofs.Asking.{fails, passes}
 
@@ -40,16 +40,16 @@ name_test s p c n =
     ] refl
 
 changed_at : (m : Numbers) (s : ℕ) (p : Path) (c : Name) (z : Option ℤ) (n : Name)
-    → assigned (with_number m (key_of s p c) z) s p n ≡ (if rank c == rank n then z else assigned m s p n)
+    → assigned_number (with_number m (key_of s p c) z) s p n ≡ (if rank c == rank n then z else assigned_number m s p n)
 changed_at m s p c None n =
     map.get-remove key_total m (key_of s p c) (key_of s p n)
-    ∙ ap (λ (b : Bool). cond b None (assigned m s p n)) (name_test s p c n)
+    ∙ ap (λ (b : Bool). cond b None (assigned_number m s p n)) (name_test s p c n)
 changed_at m s p c (Some z) n =
     map.get-insert key_total m (key_of s p c) z (key_of s p n)
-    ∙ ap (λ (b : Bool). cond b (Some z) (assigned m s p n)) (name_test s p c n)
+    ∙ ap (λ (b : Bool). cond b (Some z) (assigned_number m s p n)) (name_test s p c n)
 
 own_changed : (m : Numbers) (s : ℕ) (p : Path) (cs : List Change) (n : Name)
-    → assigned (written m s p cs) s p n ≡ changed_by cs n (assigned m s p n)
+    → assigned_number (with_changes m s p cs) s p n ≡ changed_by cs n (assigned_number m s p n)
 own_changed m s p [] n = refl
 own_changed m s p (c ∷ cs) n =
     own_changed (with_number m (key_of s p c.name) c.number) s p cs n
@@ -63,10 +63,11 @@ agreed_by true w h = refl
 agreed_by false w h = cc
 
 spelled_by : (m : Numbers) (s : ℕ) (p : Path) (r : Result (List Change) QueryFault)
-    → not (is_some (option_and_then (new_numbers m s p) (spelled r))) ≡ false
-    → (cs : List Change) × (r ≡ Ok cs) × (option_and_then (new_numbers m s p) (spelled r) ≡ Some (written m s p cs))
+    → not (is_some (option_and_then (new_numbers m s p) (changes_or_none r))) ≡ false
+    → (cs : List Change) × (r ≡ Ok cs)
+    × (option_and_then (new_numbers m s p) (changes_or_none r) ≡ Some (with_changes m s p cs))
 spelled_by m s p (Err e) h = cc
-spelled_by m s p (Ok cs) h = (cs, refl, agreed_by (is_consistent (written m s p cs) s p) (written m s p cs) h)
+spelled_by m s p (Ok cs) h = (cs, refl, agreed_by (is_consistent (with_changes m s p cs) s p) (with_changes m s p cs) h)
 
 pub attributes_set : AttributesAreSet
 attributes_set client server path queries h =
@@ -79,13 +80,13 @@ attributes_set client server path queries h =
     let cs = spelled_by client.attributes server path (changes_of [] (level_at client.catalog path) queries)
     all.1.1.1.1.1.0 in
     let is : (attributes_outcome client server path queries).client.attributes
-    ≡ written client.attributes server path cs.0 =
+    ≡ with_changes client.attributes server path cs.0 =
     ap (λ (code : Option Code). (annotate_unless code client given).client.attributes) none
     ∙ ap (λ (g : Option Numbers). (annotate_unless None client g).client.attributes) cs.2 in
     record {
       changes = cs.0;
       spells = cs.1;
-      own = λ n. ap (λ (m : Numbers). assigned m server path n) is
+      own = λ n. ap (λ (m : Numbers). assigned_number m server path n) is
           ∙ own_changed client.attributes server path cs.0 n;
       others = λ k other. ap (λ (m : Numbers). map.get m k) is
           ∙ others_kept client.attributes server path cs.0 k other;

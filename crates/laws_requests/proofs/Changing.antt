@@ -35,10 +35,10 @@ use Rattle.device_requests.specs.Options.{content_format_of, queries_of}
 use Rattle.device_requests.specs.Outcomes.{write_outcome}
 use Rattle.device_requests.specs.Refusals.{refusal_of, to_create, to_execute, to_write, to_write_attributes}
 use Rattle.device_requests.specs.Request.{outcome_at, request_with}
-use Rattle.device_requests.specs.Targets.{defined, is_resource, place_of, resource_place}
+use Rattle.device_requests.specs.Targets.{is_resource, place_of, resource_place, resources_defined}
 use Rattle.device_requests.specs.Read.{format_at}
-use Rattle.device_requests.specs.Write.{event_of, given_to_part, given_to_resource, left, mode_at, new_values}
-use Rattle.device_requests.specs.Write.{values_given, write_unless, written}
+use Rattle.device_requests.specs.Write.{after_write, after_write_with_event, event_of, given_to_part, given_to_resource}
+use Rattle.device_requests.specs.Write.{mode_at, new_values, values_given, write_unless}
 use Rattle.device_requests.specs.WriteAttributes.{annotate_unless, attributes_given}
 use Rattle.laws_requests.specs.Changes.{KeepsOthers, OperationsKeepOthers}
 use Rattle.laws_requests.proofs.Asking.{comes_to}
@@ -59,15 +59,15 @@ kept_instances false mode s p given = refl
 -- what a Write leaves where nothing goes to the firmware
 abbrev writes : Client → Mode → Path → List ℕ → Option Format → Stored
 writes client mode path payload format =
-    written mode client.catalog client.store path
+    after_write mode client.catalog client.store path
     (option_and_then (values_given client.catalog path payload) format)
 
 instance_instances : (client : Client) (mode : Mode) (o i : ℕ) (payload : List ℕ) (f : Format)
-    (given : Option (List Assignment)) → instance_given (defined client.catalog o) i payload ≡ given
+    (given : Option (List Assignment)) → instance_given (resources_defined client.catalog o) i payload ≡ given
     → (writes client mode (Instance o i) payload (Some f)).instances ≡ client.store.instances
 instance_instances client mode o i payload f None h = rw h refl
 instance_instances client mode o i payload f (Some given) h =
-    rw h (written_instances mode (defined client.catalog o) client.store (place_of o i) given)
+    rw h (written_instances mode (resources_defined client.catalog o) client.store (place_of o i) given)
 
 resource_instances : (client : Client) (mode : Mode) (o i r : ℕ) (payload : List ℕ) (f : Format)
     (given : Option Given) → given_to_resource (definition_of client.catalog o r) f payload ≡ given
@@ -90,7 +90,7 @@ written_keep : (client : Client) (mode : Mode) (path : Path) (payload : List ℕ
 written_keep client mode path payload None = refl
 written_keep client mode (Object o) payload (Some f) = refl
 written_keep client mode (Instance o i) payload (Some f) =
-    instance_instances client mode o i payload f (instance_given (defined client.catalog o) i payload) refl
+    instance_instances client mode o i payload f (instance_given (resources_defined client.catalog o) i payload) refl
 written_keep client mode (Resource o i r) payload (Some f) =
     resource_instances client mode o i r payload f
     (given_to_resource (definition_of client.catalog o r) f payload) refl
@@ -99,7 +99,8 @@ written_keep client mode (Part o i r n) payload (Some f) =
 
 left_instances : (mode : Mode) (client : Client) (path : Path) (number : Option ℕ) (payload : List ℕ)
     (e : Option FirmwareEvent)
-    → (left mode client path (new_values client path number payload) e).instances ≡ client.store.instances
+    → (after_write_with_event mode client path (new_values client path number payload) e).instances
+    ≡ client.store.instances
 left_instances mode client path number payload (Some e) =
     firm_instances client.store e (firmware_after client.store e) refl
 left_instances mode client path number payload None =
@@ -143,7 +144,7 @@ pub wrote : (client : Client) (server : ℕ) (mode : Mode) (path : Path) (number
 wrote client server mode path number payload =
     let values = new_values client path number payload in
     write_keeps (refusal_of client server path (to_write mode number payload)) client
-    (left (mode_at mode path) client path values (event_of path values))
+    (after_write_with_event (mode_at mode path) client path values (event_of path values))
     (left_instances (mode_at mode path) client path number payload (event_of path values))
 
 made : (code : Option Code) (client : Client) (server o : ℕ) (new : Option Newborn)

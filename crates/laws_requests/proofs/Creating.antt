@@ -33,10 +33,10 @@ use Rattle.device_instances.proofs.Within.{kept, written_within}
 use Rattle.device_requests.specs.declared.answer.Code.{Code}
 use Rattle.device_requests.specs.Answer.{Outcome}
 use Rattle.device_requests.specs.Client.{Client}
-use Rattle.device_requests.specs.Create.{Newborn, create_unless, newborn, numbered}
+use Rattle.device_requests.specs.Create.{Newborn, create_unless, newborn, newborn_of}
 use Rattle.device_requests.specs.Laws.{is_refusal}
 use Rattle.device_requests.specs.Refusals.{is_fixed, refusals_of, to_create}
-use Rattle.device_requests.specs.Targets.{defined, place_of, resource_place}
+use Rattle.device_requests.specs.Targets.{place_of, resource_place, resources_defined}
 use Rattle.laws_requests.specs.Creations.{CreatesAdd, IsControlOf, IsCreated, IsSame}
 use Rattle.laws_requests.proofs.Asking.{chosen, fails, passes}
 
@@ -161,14 +161,14 @@ given_once (Some n) given b once h =
     subst EachOnce (ap (λ (x : Newborn). x.given) (one_newborn (record { number = n; given = given }) b h)) once
 
 born_once : (s : Stored) (o : ℕ) (c : Option Creation) (b : Newborn)
-    → ((x : Creation) → c ≡ Some x → EachOnce x.assigned) → numbered s o c ≡ Some b → EachOnce b.given
+    → ((x : Creation) → c ≡ Some x → EachOnce x.assigned) → newborn_of s o c ≡ Some b → EachOnce b.given
 born_once s o None b once h = cc
 born_once s o (Some x) b once h = given_once (number_for s o x.number) x.assigned b (once x refl) h
 
 made : (client : Client) (server o : ℕ) (payload : List ℕ) (b : Newborn) → newborn client o payload ≡ Some b
     → is_fixed o ≡ false → IsCreated client server o payload (create_unless None client server o (Some b))
 made client server o payload b gives free =
-    let resources = defined client.catalog o in
+    let resources = resources_defined client.catalog o in
     let n = length client.accounts in
     let place = place_of o b.number in
     let other : place.object ≢ 2 = λ e. false≢true (sym free ∙ ap is_fixed e) in

@@ -22,8 +22,7 @@ use Rattle.device_instances.specs.Deletions.{instance_in, goes_with, without_del
 use Rattle.device_instances.proofs.Instances.{listed}
 use Rattle.device_requests.specs.declared.answer.Code.{Code}
 use Rattle.device_requests.specs.Client.{Client}
-use Rattle.device_requests.specs.Delete.{delete_unless, forgotten, taken_away}
-use Rattle.device_requests.specs.Delete.{without_controls}
+use Rattle.device_requests.specs.Delete.{attributes_after_delete, delete_unless, taken_away, without_controls}
 use Rattle.device_requests.specs.Laws.{is_refusal}
 use Rattle.device_requests.specs.Refusals.{refusals_of, to_delete}
 use Rattle.device_requests.specs.Targets.{place_of}
@@ -149,7 +148,7 @@ goes_by s o i object (Some n) =
     ∙ control_goes s o i object n
 
 attribute_left : (client : Client) (o i : ℕ) (k : AttributeKey)
-    → map.get (forgotten client (Instance o i)) k
+    → map.get (attributes_after_delete client (Instance o i)) k
     ≡ (if goes_at client.store (place_of o i) k.object k.instance then None else map.get client.attributes k)
 attribute_left client o i k =
     let js = taken_away client.store (without_deleted client.store (place_of o i)) in

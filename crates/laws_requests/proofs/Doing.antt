@@ -42,8 +42,8 @@ use Rattle.device_requests.specs.Refusals.{done_code, is_refused_now, refusal_of
 use Rattle.device_requests.specs.Refusals.{to_execute, to_write, to_write_attributes}
 use Rattle.device_requests.specs.Request.{outcome_at, purpose_of, request_with}
 use Rattle.device_requests.specs.Targets.{is_resource, place_of, resource_place}
-use Rattle.device_requests.specs.Write.{event_of, given_to_resource, left, mode_at, new_values, values_given}
-use Rattle.device_requests.specs.Write.{write_unless, written}
+use Rattle.device_requests.specs.Write.{after_write, after_write_with_event, event_of, given_to_resource, mode_at}
+use Rattle.device_requests.specs.Write.{new_values, values_given, write_unless}
 use Rattle.device_requests.specs.WriteAttributes.{annotate_unless, attributes_given}
 use Rattle.laws_requests.specs.Creations.{IsCreated}
 use Rattle.laws_requests.specs.Deletions.{TakesAway}
@@ -68,7 +68,7 @@ use Rattle.laws_requests.proofs.Writing.{unrefused}
 is_written : (client : Client) (mode : Mode) (o i r : ℕ) (payload : List ℕ) (f : Format) (d : ResourceDef)
     (given : Given) → given_to_resource (definition_of client.catalog o r) f payload ≡ Some given
     → definition_of client.catalog o r ≡ Some d
-    → written mode client.catalog client.store (Resource o i r)
+    → after_write mode client.catalog client.store (Resource o i r)
     (values_given client.catalog (Resource o i r) payload f)
     ≡ (if can_read d.ops then with_given mode client.store (resource_place o i r) given else client.store)
 is_written client mode o i r payload f d given h k = rw (h, k) refl
@@ -80,7 +80,7 @@ untaken : (client : Client) (mode : Mode) (o i r : ℕ) (payload : List ℕ) (f 
     → leaves client mode (Resource o i r) payload (Some f)
     ≡ (if can_read d.ops then with_given mode client.store (resource_place o i r) given else client.store)
 untaken client mode o i r payload f d given h k e =
-    ap (left mode client (Resource o i r) (values_given client.catalog (Resource o i r) payload f)) e
+    ap (after_write_with_event mode client (Resource o i r) (values_given client.catalog (Resource o i r) payload f)) e
     ∙ is_written client mode o i r payload f d given h k
 
 resource_stored : (client : Client) (server : ℕ) (mode : Mode) (o i r : ℕ) (number : Option ℕ) (payload : List ℕ)
@@ -129,8 +129,8 @@ firmware_takes client server mode path number payload event is h =
     let after = some_if_denied (firmware_after client.store event) (taken_now is all.1.1.1.1.1.1.0) in
     let stored : (write_outcome client server mode path number payload).client.store ≡ after.0 =
     ap (λ (code : Option Code). (write_unless code client
-    (left (mode_at mode path) client path values (event_of path values))).client.store) none
-    ∙ ap (left (mode_at mode path) client path values) is
+    (after_write_with_event (mode_at mode path) client path values (event_of path values))).client.store) none
+    ∙ ap (after_write_with_event (mode_at mode path) client path values) is
     ∙ ap (λ (t : Option Stored). unwrap_or t client.store) after.1 in
     subst (λ (t : Stored). IsTaken client.store event t) (sym stored) (is_taken client.store after.0 event after.1)
   where

@@ -24,15 +24,14 @@ use Rattle.device_requests.specs.declared.answer.Code.{Code}
 use Rattle.device_requests.specs.declared.answer.Code.TheVariants.{Changed}
 use Rattle.device_requests.specs.Client.{Client, with_stored}
 use Rattle.device_requests.specs.Laws.{is_refusal}
-use Rattle.device_requests.specs.Execute.{executed, execute_unless}
-use Rattle.device_requests.specs.Execute.{with_no_error}
+use Rattle.device_requests.specs.Execute.{after_execute, execute_unless, with_no_error}
 use Rattle.device_requests.specs.Outcomes.{execute_outcome}
 use Rattle.device_requests.specs.Refusals.{refusal_of, refusals_of, to_execute}
 use Rattle.device_requests.specs.Targets.{is_resource, resource_place}
 use Rattle.laws_requests.specs.Executions.{BeginsUpdate, ErrorsAreReset, ExecutesKeep, HasNoError, UpdatesBegin}
 use Rattle.laws_requests.proofs.Asking.{fails, passes}
 
-same_by : (code : Option Code) (client : Client) (path : Path) → executed client.store path ≡ client.store
+same_by : (code : Option Code) (client : Client) (path : Path) → after_execute client.store path ≡ client.store
     → (execute_unless code client path).client ≡ client
 same_by None client path h = ap (λ (s : Stored). with_stored client s) h
 same_by (Some code) client path h = refl

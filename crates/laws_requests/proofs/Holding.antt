@@ -50,7 +50,7 @@ use Rattle.device_requests.specs.Laws.{IsAmong, content_within}
 use Rattle.device_requests.specs.Outcomes.{read_answer}
 use Rattle.device_requests.specs.Read.{content_in, format_at, payload_in, read_payload}
 use Rattle.device_requests.specs.Refusals.{is_oversized, is_tlv}
-use Rattle.device_requests.specs.Targets.{defined, exists, is_readable, place_of, resource_place}
+use Rattle.device_requests.specs.Targets.{exists, is_readable, place_of, resource_place, resources_defined}
 use Rattle.device_requests.proofs.ReadBack.{shown}
 use Rattle.device_requests.proofs.LinksExist.{definition_in}
 use Rattle.laws_requests.specs.Multiples.{HoldsParts, MultipleIsRead, answer_of_parts, part_records}
@@ -323,7 +323,7 @@ records resources p (e ∷ es) shows =
     ] refl
 
 pub is_defined_in : (client : Client) (o r : ℕ) → definition_of client.catalog o r
-    ≡ resource_in (defined client.catalog o) r
+    ≡ resource_in (resources_defined client.catalog o) r
 is_defined_in client o r = definition_in (object_of client.catalog o) r
 
 shown_as : (d : ResourceDef) (k : Option ℕ) → d.multiple ≡ true → can_read d.ops ≡ true
@@ -333,10 +333,10 @@ shown_as d k several readable =
     ∙ ap (λ (b : Bool). if b then is_some k else not (is_some k)) several
 
 parts_shown : (client : Client) (o i r : ℕ) (d : ResourceDef) → definition_of client.catalog o r ≡ Some d
-    → d.multiple ≡ true → can_read d.ops ≡ true → ShowsParts (defined client.catalog o) (resource_place o i r)
+    → d.multiple ≡ true → can_read d.ops ≡ true → ShowsParts (resources_defined client.catalog o) (resource_place o i r)
 parts_shown client o i r d defined_as several readable q lies =
     let t = all_three (q.object == o) (q.instance == i) (q.resource == r) lies in
-    ap (λ (s : ℕ). is_shown_as q.part (resource_in (defined client.catalog o) s)) (eqb-true q.resource r t.2)
+    ap (λ (s : ℕ). is_shown_as q.part (resource_in (resources_defined client.catalog o) s)) (eqb-true q.resource r t.2)
     ∙ ap (is_shown_as q.part) (sym (is_defined_in client o r) ∙ defined_as)
     ∙ shown_as d q.part several readable
 
@@ -379,7 +379,7 @@ payload_is : (client : Client) (server o i r : ℕ) (d : ResourceDef) (accept : 
 payload_is client server o i r d accept h k =
     let path = Resource o i r in
     let p = resource_place o i r in
-    let resources = defined client.catalog o in
+    let resources = resources_defined client.catalog o in
     let payload : payload_in client server path Tlv ≡ shortest_tlv (nodes_of (shown_in client.store resources path)) =
     rw (h.defined_as, h.several) refl in
     ap (λ (f : Option Format). unwrap_or (option_map (payload_in client server path) f) [])

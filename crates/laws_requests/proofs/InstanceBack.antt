@@ -17,8 +17,8 @@ use Rattle.object_defs.specs.declared.path.Path.TheVariants.{Instance}
 use Rattle.instance_store.specs.Stored.{lies_in, value_at}
 use Rattle.lwm2m_payloads.specs.Changes.{is_kept_as, is_lost}
 use Rattle.lwm2m_payloads.specs.PartList.{PartList}
-use Rattle.lwm2m_payloads.specs.Written.{EachOnce, GivenOnce, is_taken_away, left_of, part_value, unnamed, value_behind}
-use Rattle.lwm2m_payloads.specs.Written.{value_by, value_with}
+use Rattle.lwm2m_payloads.specs.Written.{EachOnce, GivenOnce, is_taken_away, left_of, part_value, value_behind}
+use Rattle.lwm2m_payloads.specs.Written.{value_by, value_if_unnamed, value_with}
 use Rattle.lwm2m_payloads.specs.declared.given.Assignment.{Assignment}
 use Rattle.lwm2m_payloads.specs.declared.given.Given.{Given}
 use Rattle.lwm2m_payloads.specs.declared.given.Given.TheVariants.{Single, Parts}
@@ -26,7 +26,7 @@ use Rattle.lwm2m_payloads.specs.declared.given.Mode.{Mode}
 use Rattle.lwm2m_payloads.specs.declared.given.Mode.TheVariants.{Replace, Update}
 use Rattle.lwm2m_payloads.proofs.EachOnce.{instance_once}
 use Rattle.device_requests.specs.Client.{Client}
-use Rattle.device_requests.specs.Targets.{defined, is_readable, resource_place}
+use Rattle.device_requests.specs.Targets.{is_readable, resource_place, resources_defined}
 use Rattle.device_requests.proofs.Among.{any_found, among-any}
 use Rattle.laws_requests.specs.Instances.{InstancesHoldGiven, IsGivenTo, IsNamedIn, IsOptional, left_by}
 use Rattle.laws_requests.specs.Multiples.{HasPart}
@@ -152,21 +152,22 @@ not_taken resources given r never =
     ] refl
 
 keeps_named : (mode : Mode) (resources : List ResourceDef) (given : List Assignment) (r : ℕ) (before : Option Value)
-    → IsNamedIn given r → unnamed mode resources given r before ≡ before
+    → IsNamedIn given r → value_if_unnamed mode resources given r before ≡ before
 keeps_named Update resources given r before named = refl
 keeps_named Replace resources given r before named =
     ap (λ (b : Bool). if b then None else before) (not_taken resources given r (λ t.
     let l : true ≡ false = sym (is_named given r named.0 named.1) ∙ t.unnamed in cc))
 
 keeps_left : (mode : Mode) (resources : List ResourceDef) (given : List Assignment) (r : ℕ) (before : Option Value)
-    → (mode ≡ Update) ⊎ (¬ (IsOptional resources r)) → unnamed mode resources given r before ≡ before
+    → (mode ≡ Update) ⊎ (¬ (IsOptional resources r)) → value_if_unnamed mode resources given r before ≡ before
 keeps_left Update resources given r before why = refl
 keeps_left Replace resources given r before (inl h) = cc
 keeps_left Replace resources given r before (inr never) =
     ap (λ (b : Bool). if b then None else before) (not_taken resources given r (λ t. never t.optional))
 
 takes_away : (mode : Mode) (resources : List ResourceDef) (given : List Assignment) (r : ℕ) (before : Option Value)
-    → mode ≡ Replace → ¬ (IsNamedIn given r) → IsOptional resources r → unnamed mode resources given r before ≡ None
+    → mode ≡ Replace → ¬ (IsNamedIn given r) → IsOptional resources r
+    → value_if_unnamed mode resources given r before ≡ None
 takes_away Update resources given r before h never optional = cc
 takes_away Replace resources given r before h never optional =
     ap (λ (b : Bool). if b then None else before) (is_taken resources given r never optional)
@@ -178,19 +179,19 @@ same_test None = refl
 same_test (Some d) = refl
 
 is_kept_here : (client : Client) (o r : ℕ) (b : Bool) → is_readable (definition_of client.catalog o r) ≡ b
-    → is_kept_as (resource_in (defined client.catalog o) r) ≡ b
+    → is_kept_as (resource_in (resources_defined client.catalog o) r) ≡ b
 is_kept_here client o r b h =
-    same_test (resource_in (defined client.catalog o) r) ∙ sym (ap is_readable (is_defined_in client o r)) ∙ h
+    same_test (resource_in (resources_defined client.catalog o) r) ∙ sym (ap is_readable (is_defined_in client o r)) ∙ h
 
 -- after a Write of an instance that names a resource
 behind_named : (client : Client) (mode : Mode) (o : ℕ) (given : List Assignment) (q : FullPath) (g : Given) (b : Bool)
     (before : Option Value) → EachOnce given → IsGivenTo given q.resource g
     → is_readable (definition_of client.catalog o q.resource) ≡ b
-    → value_behind mode (defined client.catalog o) given q before
+    → value_behind mode (resources_defined client.catalog o) given q before
     ≡ (if b then value_with mode g q.part before else before)
 behind_named client mode o given q g b before once is readable =
-    let resources = defined client.catalog o in
-    let was = unnamed mode resources given q.resource before in
+    let resources = resources_defined client.catalog o in
+    let was = value_if_unnamed mode resources given q.resource before in
     ap (λ (a : Option Assignment). value_by mode resources a q.part was) (is_found given q.resource g once is)
     ∙ ap (λ (k : Bool). if k then value_with mode g q.part was else was) (is_kept_here client o q.resource b readable)
     ∙ ap (λ (v : Option Value). if b then value_with mode g q.part v else v)
@@ -198,12 +199,12 @@ behind_named client mode o given q g b before once is readable =
 
 behind_unnamed : (client : Client) (mode : Mode) (o : ℕ) (given : List Assignment) (q : FullPath)
     (before : Option Value) → ¬ (IsNamedIn given q.resource)
-    → value_behind mode (defined client.catalog o) given q before
-    ≡ unnamed mode (defined client.catalog o) given q.resource before
+    → value_behind mode (resources_defined client.catalog o) given q before
+    ≡ value_if_unnamed mode (resources_defined client.catalog o) given q.resource before
 behind_unnamed client mode o given q before never =
-    let resources = defined client.catalog o in
+    let resources = resources_defined client.catalog o in
     ap (λ (a : Option Assignment). value_by mode resources a q.part
-    (unnamed mode resources given q.resource before))
+    (value_if_unnamed mode resources given q.resource before))
     (none_found given q.resource (none_named given q.resource never))
 
 has_value : (parts : PartList) (n : ℕ) → ¬ (HasPart parts n) → part_value parts (Some n) ≡ None
@@ -226,7 +227,7 @@ lies_part o i r n = grind (arith, nat_tests)
 
 pub instances_hold : InstancesHoldGiven
 instances_hold client server mode o i number payload h =
-    let resources = defined client.catalog o in
+    let resources = resources_defined client.catalog o in
     let w = instances_written client server mode o i number payload h in
     let given = w.given in
     let once = instance_once resources i payload given w.gives in

@@ -29,7 +29,7 @@ use Rattle.device_requests.specs.Laws.{IsAmong, content_within}
 use Rattle.device_requests.specs.Outcomes.{read_answer, write_outcome}
 use Rattle.device_requests.specs.Read.{format_at, payload_in, read_payload}
 use Rattle.device_requests.specs.Refusals.{refusals_of, to_write}
-use Rattle.device_requests.specs.Targets.{defined, exists, is_readable, place_of, resource_place}
+use Rattle.device_requests.specs.Targets.{exists, is_readable, place_of, resource_place, resources_defined}
 use Rattle.device_requests.proofs.ReadBack.{shown, format_same}
 use Rattle.laws_requests.specs.Instances.{HoldsGiven, InstancesAreReadBack, IsInstanceReadBack, left_by}
 use Rattle.laws_requests.specs.Multiples.{HasPart, IsPartThen}
@@ -141,7 +141,7 @@ read_back client mode o i payload stored other place h =
           let p = resource_place o i r in
           let back = multiple_read (with_stored client stored) o i r d other defined_as several readable place in
           let once : PartsOnce parts = is_once h.given r (Parts parts)
-          (instance_once (defined client.catalog o) i payload h.given h.gives) is in
+          (instance_once (resources_defined client.catalog o) i payload h.given h.gives) is in
           let can : is_readable (definition_of client.catalog o r) ≡ true = ap is_readable defined_as ∙ readable in
           let changed : (n : ℕ)
           → IsChanged mode parts n (value_at client.store (part_of p n)) (value_at stored (part_of p n)) =

@@ -15,7 +15,7 @@ use Rattle.std.proofs.lemmas.Bool.{ne_eqb, eqb-true, and_parts, and_from, or_lef
 use Rattle.std.proofs.lemmas.Bool.Decides.{nat_tests}
 use Rattle.lemmas.proofs.Numbers.{eqb_itself, below_from_lt}
 use Rattle.lemmas.proofs.Tests.{T_first, T_second, true_from_T}
-use Rattle.lwm2m_values.specs.Tree.{Tree, Trees, instance, listed}
+use Rattle.lwm2m_values.specs.Tree.{Tree, Trees, instance, trees_of_list}
 use Rattle.lwm2m_values.specs.Value.{bytes_of}
 use Rattle.lwm2m_values.specs.declared.value.Value.{Value}
 use Rattle.object_defs.specs.Catalog.{object_of, resource_in}
@@ -44,7 +44,7 @@ use Rattle.device_requests.specs.Client.{Client}
 use Rattle.device_requests.specs.Laws.{IsAmong, content_within}
 use Rattle.device_requests.specs.Read.{content_in, format_at, payload_in, read_payload}
 use Rattle.device_requests.specs.Refusals.{is_oversized}
-use Rattle.device_requests.specs.Targets.{defined, exists, place_of}
+use Rattle.device_requests.specs.Targets.{exists, place_of, resources_defined}
 use Rattle.device_requests.proofs.ReadBack.{shown}
 use Rattle.device_requests.proofs.Among.{among-filter, filtered, any_found, mapped, among-any, among-map}
 use Rattle.laws_requests.specs.ObjectReads.{Ascend, HoldsReadable, InstanceIsShown, MayRead}
@@ -203,11 +203,11 @@ lies_here o i r n = and_from (o == o) (i == i) (eqb_itself o) (eqb_itself i)
 
 -- the values that a Read of the instance lists
 abbrev listed_in : Client → ℕ → ℕ → Pairs
-listed_in client o i = shown_in client.store (defined client.catalog o) (Instance o i)
+listed_in client o i = shown_in client.store (resources_defined client.catalog o) (Instance o i)
 
 -- what is listed is held, in the instance, and can be read
 record IsListed (client : Client) (o i : ℕ) (e : FullPath × Value) : Type 0 where
-  is_shown_there : is_shown (defined client.catalog o) e.0 ≡ true
+  is_shown_there : is_shown (resources_defined client.catalog o) e.0 ≡ true
   object : e.0.object ≡ o
   place : e.0.instance ≡ i
   held : value_at client.store e.0 ≡ Some e.1
@@ -216,7 +216,7 @@ is_listed : (client : Client) (o i : ℕ) (e : FullPath × Value) → IsAmong e 
     → IsListed client o i e
 is_listed client o i e among =
     let all = finite.entries client.store.values in
-    let f = filtered (λ d. is_shown (defined client.catalog o) d.0) e
+    let f = filtered (λ d. is_shown (resources_defined client.catalog o) d.0) e
     (filter (λ d. lies_in (Instance o i) d.0) all) among in
     let g = filtered (λ d. lies_in (Instance o i) d.0) e all f.0 in
     let at = and_parts (e.0.object == o) (e.0.instance == i) g.1 in
@@ -233,10 +233,10 @@ read_is_held client o i r n bytes h =
     let d = says_one (listed_in client o i) r n bytes h in
     let e = d.0 in
     let l = is_listed client o i e d.1 in
-    let m = shown_means e.0.part (resource_in (defined client.catalog o) e.0.resource) l.is_shown_there in
+    let m = shown_means e.0.part (resource_in (resources_defined client.catalog o) e.0.resource) l.is_shown_there in
     record {
       definition = m.0;
-      is_defined = is_defined_in client o r ∙ ap (resource_in (defined client.catalog o)) (sym d.2.0) ∙ m.1;
+      is_defined = is_defined_in client o r ∙ ap (resource_in (resources_defined client.catalog o)) (sym d.2.0) ∙ m.1;
       readable = m.2;
       fits = m.3 ∙ ap is_some d.2.1;
       value = e.1;
@@ -255,12 +255,12 @@ held_is_read client o i r n bytes h =
     let q : FullPath = record { object = o; instance = i; resource = r; part = n } in
     let all = finite.entries client.store.values in
     let there = (entry_held client.store q h.value).1 h.held in
-    let is_shown_there : is_shown (defined client.catalog o) q ≡ true =
+    let is_shown_there : is_shown (resources_defined client.catalog o) q ≡ true =
     ap (is_shown_as n) (sym (is_defined_in client o r) ∙ h.is_defined)
     ∙ fits_shown (can_read h.definition.ops) h.definition.multiple (is_some n) h.readable h.fits in
     one_says (listed_in client o i) r n bytes (
       (q, h.value),
-      among-filter (λ d. is_shown (defined client.catalog o) d.0) (q, h.value)
+      among-filter (λ d. is_shown (resources_defined client.catalog o) d.0) (q, h.value)
           (filter (λ d. lies_in (Instance o i) d.0) all) is_shown_there
           (among-filter (λ d. lies_in (Instance o i) d.0) (q, h.value) all (lies_here o i r n) there),
       (refl, refl, h.written),
@@ -268,7 +268,7 @@ held_is_read client o i r n bytes h =
 
 instance_shown : (client : Client) (o i : ℕ) → ShowsInstance client o i (nodes_of (listed_in client o i))
 instance_shown client o i =
-    let resources = defined client.catalog o in
+    let resources = resources_defined client.catalog o in
     let all = finite.entries client.store.values in
     let sorted = sorted_filtered (λ d. is_shown resources d.0) (filter (λ d. lies_in (Instance o i) d.0) all)
     (sorted_filtered (λ d. lies_in (Instance o i) d.0) all (finite.entries_sorted client.store.values)) in
@@ -282,12 +282,12 @@ instance_shown client o i =
 
 -- ---- an object
 
-stands_among : (t : Tree) (ts : List Tree) → IsRecordIn t (listed ts) → IsAmong t ts
+stands_among : (t : Tree) (ts : List Tree) → IsRecordIn t (trees_of_list ts) → IsAmong t ts
 stands_among t [] h = h
 stands_among t (s ∷ ts) (inl e) = inl e
 stands_among t (s ∷ ts) (inr h) = inr (stands_among t ts h)
 
-among_stands : (t : Tree) (ts : List Tree) → IsAmong t ts → IsRecordIn t (listed ts)
+among_stands : (t : Tree) (ts : List Tree) → IsAmong t ts → IsRecordIn t (trees_of_list ts)
 among_stands t [] h = h
 among_stands t (s ∷ ts) (inl e) = inl e
 among_stands t (s ∷ ts) (inr h) = inr (among_stands t ts h)
@@ -336,10 +336,10 @@ same_instance : (n i : ℕ) (a b : Trees) → instance n a ≡ instance i b → 
 same_instance n i a b e = cc
 
 object_shown : (client : Client) (server o : ℕ)
-    → ShowsObject client server o (object_nodes client.store (defined client.catalog o) o
+    → ShowsObject client server o (object_nodes client.store (resources_defined client.catalog o) o
     (shown_instances client.store (length client.accounts) server o))
 object_shown client server o =
-    let resources = defined client.catalog o in
+    let resources = resources_defined client.catalog o in
     let may = reads client.store (length client.accounts) server o in
     let all = instances_of client.store o in
     let ns = shown_instances client.store (length client.accounts) server o in
@@ -411,7 +411,7 @@ pub object_read : ObjectIsShown
 object_read client server o d accept other is may k =
     let path = Object o in
     let format : format_at client.catalog path accept ≡ Some Tlv = is_eleven accept k in (
-      object_nodes client.store (defined client.catalog o) o
+      object_nodes client.store (resources_defined client.catalog o) o
           (shown_instances client.store (length client.accounts) server o),
       object_shown client server o,
       shown (o == 0) (not (exists client.catalog client.store path)) (not (may_read client server path)) false

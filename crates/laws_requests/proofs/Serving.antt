@@ -11,8 +11,7 @@ use Rattle.object_defs.specs.declared.definition.ResourceDef.{ResourceDef}
 use Rattle.object_defs.specs.declared.path.Path.{Path}
 use Rattle.object_defs.specs.declared.path.Path.TheVariants.{Object, Instance, Resource, Part}
 use Rattle.lwm2m_payloads.specs.Formats.{Extent, default_format, extent_as, extent_of, format_for, format_number}
-use Rattle.lwm2m_payloads.specs.Formats.{is_one}
-use Rattle.lwm2m_payloads.specs.Formats.{is_opaque, many, one, part_as, served}
+use Rattle.lwm2m_payloads.specs.Formats.{is_one, is_opaque, many, one, part_as, served_format}
 use Rattle.lwm2m_payloads.specs.declared.format.Format.{Format}
 use Rattle.lwm2m_payloads.specs.declared.format.Format.TheVariants.{PlainText, OctetStream, Tlv}
 use Rattle.device_requests.specs.Targets.{definition_at}
@@ -77,7 +76,7 @@ stands_for catalog path (one k) h = stands catalog path k h
 -- ---- what is served
 
 named : (catalog : List ObjectDef) (path : Path) (e : Extent) (n : ℕ) (f : Format) → StandsFor catalog path e
-    → served e n ≡ Some f → GetsFormat catalog path (Some n) f
+    → served_format e n ≡ Some f → GetsFormat catalog path (Some n) f
 named catalog path e n f s h =
     elim (n == 11542) as (λ b. (n == 11542) ≡ b → (if b then Some Tlv
     else if n == 0 then (if is_one e then Some PlainText else None)
@@ -182,7 +181,7 @@ pub named_given : NamedIsGiven
 named_given catalog path n f h =
     given_as_named catalog path (Some n) f (is_served catalog path (Some n) f h) n refl
 
-default_again : (e : Extent) → served e (format_number (default_format e)) ≡ Some (default_format e)
+default_again : (e : Extent) → served_format e (format_number (default_format e)) ≡ Some (default_format e)
 default_again many = refl
 default_again (one kind.Opaque) = refl
 default_again (one kind.Text) = refl

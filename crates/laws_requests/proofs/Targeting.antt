@@ -26,7 +26,7 @@ use Rattle.device_requests.specs.Laws.{IsAmong}
 use Rattle.device_requests.specs.Refusals.{is_target}
 use Rattle.device_requests.specs.Targets.{exists, is_multiple, place_of, resource_place}
 use Rattle.laws_requests.specs.Existing.{Exists, ExistsWithin, IsHeld, IsKnown, IsToWrite, WhatExists, WhatIsToWrite}
-use Rattle.laws_requests.specs.Existing.{a_part, a_resource, an_instance, an_object, around, by_part, by_value}
+use Rattle.laws_requests.specs.Existing.{a_part, a_resource, an_instance, an_object, by_part, by_value, path_around}
 use Rattle.laws_requests.specs.Existing.{write_instance, write_part, write_resource}
 use Rattle.laws_requests.proofs.Among.{found}
 
@@ -201,7 +201,7 @@ what_is_to_write client path mode format payload = (
 -- ---- what exists lies in what exists
 
 outer_there : (catalog : List ObjectDef) (stored : Stored) (path outer : Path) → Exists catalog stored path
-    → around path ≡ Some outer → Exists catalog stored outer
+    → path_around path ≡ Some outer → Exists catalog stored outer
 outer_there catalog stored path outer (an_object o k) is = cc
 outer_there catalog stored path outer (an_instance o i k h) is =
     let same : Object o ≡ outer = cc in subst (Exists catalog stored) same (an_object o k)

@@ -6,7 +6,7 @@ use Rattle.std.specs.List.{filter, flat_map, list_any}
 use Rattle.std.specs.Option.{is_some, option_and_then, option_map, unwrap_or}
 use Rattle.coap_codec.specs.Message.{Message}
 use Rattle.lwm2m_values.specs.Tlv.{shortest_tlv}
-use Rattle.lwm2m_values.specs.Tree.{Tree, instance, listed, part, single}
+use Rattle.lwm2m_values.specs.Tree.{Tree, instance, part, single, trees_of_list}
 use Rattle.object_defs.specs.Catalog.{definition_of}
 use Rattle.object_defs.specs.Lines.{first_line}
 use Rattle.object_defs.specs.Path.{object_in, part_of, path_text, single_of}
@@ -20,7 +20,7 @@ use Rattle.device_firmware.specs.Firmware.{firmware, firmware_after, firmware_re
 use Rattle.device_firmware.specs.Firmware.{with_outcome, with_uri, uri_of}
 use Rattle.device_firmware.specs.declared.event.FirmwareEvent.{FirmwareEvent}
 use Rattle.device_firmware.specs.declared.event.FirmwareEvent.TheVariants as event
-use Rattle.device_instances.specs.Numbers.{below, instance_at, is_free, number_for}
+use Rattle.device_instances.specs.Numbers.{instance_at, is_free, number_for, numbers_below}
 use Rattle.lwm2m_payloads.specs.Nodes.{Pairs, instance_node, is_shown, nodes_of}
 use Rattle.lwm2m_payloads.specs.Given.{creation_given, instance_given}
 use Rattle.lwm2m_payloads.specs.declared.format.Format.{Format}
@@ -41,10 +41,9 @@ use Rattle.device_requests.specs.declared.operation.Operation.TheVariants.{Write
 use Rattle.device_requests.specs.declared.operation.Operation.TheVariants.{Delete}
 use Rattle.device_requests.specs.declared.request.Request.{Request}
 use Rattle.device_requests.specs.Access.{may_read, reads, rights_at, shown_instances}
-use Rattle.device_requests.specs.Answer.{bare, content, created, done, refused_or}
+use Rattle.device_requests.specs.Answer.{bare, content, created_answer, done_answer, refused_or}
 use Rattle.device_requests.specs.Client.{Client, with_stored}
-use Rattle.device_requests.specs.Create.{Newborn, create_unless, lacks_room}
-use Rattle.device_requests.specs.Create.{newborn, numbered}
+use Rattle.device_requests.specs.Create.{Newborn, create_unless, lacks_room, newborn, newborn_of}
 use Rattle.device_requests.specs.Delete.{delete_unless}
 use Rattle.device_requests.specs.Discover.{attributes_text, dimension, dimension_text}
 use Rattle.device_requests.specs.Discover.{discover_payload}
@@ -62,11 +61,10 @@ use Rattle.device_requests.specs.Refusals.{is_oversized, is_plain, is_refused_no
 use Rattle.device_requests.specs.Refusals.{to_create, to_delete, to_execute, to_write, to_write_attributes}
 use Rattle.device_requests.specs.Refusals.{unless_taken}
 use Rattle.device_requests.specs.Request.{outcome_by, outcome_for, request_of}
-use Rattle.device_requests.specs.Targets.{defined, definition_at, exists, is_multiple, is_resource, place_of}
-use Rattle.device_requests.specs.Targets.{resource_place}
-use Rattle.device_requests.specs.Write.{event_of, exceeds, given_to_part, given_to_resource, left}
-use Rattle.device_requests.specs.Write.{mode_at, new_values, resource_exceeds, values_given}
-use Rattle.device_requests.specs.Write.{write_unless}
+use Rattle.device_requests.specs.Targets.{definition_at, exists, is_multiple, is_resource, place_of, resource_place}
+use Rattle.device_requests.specs.Targets.{resources_defined}
+use Rattle.device_requests.specs.Write.{after_write_with_event, event_of, exceeds, given_to_part, given_to_resource}
+use Rattle.device_requests.specs.Write.{mode_at, new_values, resource_exceeds, values_given, write_unless}
 use Rattle.device_requests.specs.WriteAttributes.{annotate_unless, attributes_given}
 use Rattle.device_requests.proofs.Reading.{said}
 use Rattle.laws_requests.specs.Unread.{AnswersHideUnread, DiffersUnread, asks_firmware, is_package}
@@ -110,15 +108,15 @@ shown_by resources es = shortest_tlv (nodes_of (filter (λ e. is_shown resources
 same_object : (client : Client) (stored : Stored) (server o : ℕ) (format : Format) → DiffersUnread client stored server
     → payload_in (with_stored client stored) server (Object o) format ≡ payload_in client server (Object o) format
 same_object client stored server o format h =
-    let resources = defined client.catalog o in
+    let resources = resources_defined client.catalog o in
     let p = reads client.store (length client.accounts) server o in
     let new = instance_node stored resources o in
     let old = instance_node client.store resources o in
     let lists : shown_instances stored (length client.accounts) server o
     ≡ shown_instances client.store (length client.accounts) server o =
     λ j. filter (λ i. same_reads client stored server o i h j) (same_list stored client.store o h.instances j) in
-    ap (λ (ns : List ℕ). shortest_tlv (listed (map new ns))) lists
-    ∙ ap (λ (ts : List Tree). shortest_tlv (listed ts))
+    ap (λ (ns : List ℕ). shortest_tlv (trees_of_list (map new ns))) lists
+    ∙ ap (λ (ts : List Tree). shortest_tlv (trees_of_list ts))
     (same_map p new old (λ i may. ap (λ (es : Pairs). instance i (nodes_of (filter (λ e. is_shown resources e.0) es)))
     (same_below client stored server (Instance o i) o i h (instance_below o i) may)) (instances_of client.store o))
 
@@ -127,7 +125,7 @@ same_resource : (client : Client) (stored : Stored) (server o i r : ℕ) (format
     → payload_in (with_stored client stored) server (Resource o i r) format
     ≡ payload_in client server (Resource o i r) format
 same_resource client stored server o i r format h may =
-    let resources = defined client.catalog o in
+    let resources = resources_defined client.catalog o in
     let path = Resource o i r in
     let all = same_below client stored server path o i h (resource_below o i r) may in
     let one = h.values (single_of (resource_place o i r)) may in
@@ -139,7 +137,7 @@ same_payload : (client : Client) (stored : Stored) (server : ℕ) (path : Path) 
     → payload_in (with_stored client stored) server path format ≡ payload_in client server path format
 same_payload client stored server (Object o) format h may = same_object client stored server o format h
 same_payload client stored server (Instance o i) format h may =
-    ap (λ (es : Pairs). shown_by (defined client.catalog o) es)
+    ap (λ (es : Pairs). shown_by (resources_defined client.catalog o) es)
     (same_below client stored server (Instance o i) o i h (instance_below o i) may)
 same_payload client stored server (Resource o i r) format h may =
     same_resource client stored server o i r format h may
@@ -174,10 +172,12 @@ same_below_path : (client : Client) (stored : Stored) (server : ℕ) (path : Pat
     → paths_below client.catalog stored path ≡ paths_below client.catalog client.store path
 same_below_path client stored server (Object o) h =
     λ j. flat_map (λ i. Instance o i
-    ∷ filter (λ p. there client stored server h p j) (map (λ d. Resource o i d.id) (defined client.catalog o)))
+    ∷ filter (λ p. there client stored server h p j)
+    (map (λ d. Resource o i d.id) (resources_defined client.catalog o)))
     (same_list stored client.store o h.instances j)
 same_below_path client stored server (Instance o i) h =
-    λ j. filter (λ p. there client stored server h p j) (map (λ d. Resource o i d.id) (defined client.catalog o))
+    λ j. filter (λ p. there client stored server h p j)
+    (map (λ d. Resource o i d.id) (resources_defined client.catalog o))
 same_below_path client stored server (Resource o i r) h = refl
 same_below_path client stored server (Part o i r n) h = refl
 
@@ -288,12 +288,12 @@ exceeds_by client stored mode path payload format =
 
 exceeds_instance : (client : Client) (stored : Stored) (server : ℕ) (mode : Mode) (o i : ℕ) (payload : List ℕ)
     (f : Format) (given : Option (List Assignment)) → DiffersUnread client stored server
-    → instance_given (defined client.catalog o) i payload ≡ given
+    → instance_given (resources_defined client.catalog o) i payload ≡ given
     → exceeds_by client stored mode (Instance o i) payload (Some f)
     ≡ exceeds_by client client.store mode (Instance o i) payload (Some f)
 exceeds_instance client stored server mode o i payload f None h is = rw is refl
 exceeds_instance client stored server mode o i payload f (Some given) h is =
-    rw is (same_excesses mode (defined client.catalog o) stored client.store (place_of o i) given h.places)
+    rw is (same_excesses mode (resources_defined client.catalog o) stored client.store (place_of o i) given h.places)
 
 same_exceeding_at : (client : Client) (stored : Stored) (server : ℕ) (mode : Mode) (o i r : ℕ) (given : Given)
     → DiffersUnread client stored server
@@ -327,7 +327,8 @@ same_exceeding : (client : Client) (stored : Stored) (server : ℕ) (mode : Mode
 same_exceeding client stored server mode path payload None h = refl
 same_exceeding client stored server mode (Object o) payload (Some f) h = refl
 same_exceeding client stored server mode (Instance o i) payload (Some f) h =
-    exceeds_instance client stored server mode o i payload f (instance_given (defined client.catalog o) i payload) h
+    exceeds_instance client stored server mode o i payload f
+    (instance_given (resources_defined client.catalog o) i payload) h
     refl
 same_exceeding client stored server mode (Resource o i r) payload (Some f) h =
     exceeds_resource client stored server mode o i r payload f
@@ -360,7 +361,7 @@ write_answers : (client : Client) (server : ℕ) (mode : Mode) (path : Path) (nu
 write_answers client server mode path number payload =
     let values = new_values client path number payload in
     write_says (refusal_of client server path (to_write mode number payload)) client
-    (left (mode_at mode path) client path values (event_of path values))
+    (after_write_with_event (mode_at mode path) client path values (event_of path values))
 
 same_write : (client : Client) (stored : Stored) (server : ℕ) (mode : Mode) (path : Path) (number : Option ℕ)
     (payload : List ℕ) → DiffersUnread client stored server → IsSeen client server (is_package path)
@@ -393,12 +394,12 @@ free_alike s t o h = λ j n. not (same_instance s t (instance_at o n) h j)
 
 same_number_for : (s t : Stored) (o : ℕ) (n : Option ℕ) → s.instances ≡ t.instances
     → number_for s o n ≡ number_for t o n
-same_number_for s t o None h = ap (λ (f : ℕ → Bool). find f (below 65535)) (free_alike s t o h)
+same_number_for s t o None h = ap (λ (f : ℕ → Bool). find f (numbers_below 65535)) (free_alike s t o h)
 same_number_for s t o (Some n) h =
     ap (λ (b : Bool). if n == 65535 || b then None else Some n) (same_instance s t (instance_at o n) h)
 
 same_numbered : (s t : Stored) (o : ℕ) (c : Option Creation) → s.instances ≡ t.instances
-    → numbered s o c ≡ numbered t o c
+    → newborn_of s o c ≡ newborn_of t o c
 same_numbered s t o None h = refl
 same_numbered s t o (Some c) h =
     ap (option_map (λ n. record { number = n; given = c.assigned })) (same_number_for s t o c.number h)
@@ -408,7 +409,8 @@ same_room : (client : Client) (stored : Stored) (server o : ℕ) (new : Option N
     → lacks_room (with_stored client stored) o new ≡ lacks_room client o new
 same_room client stored server o None h = refl
 same_room client stored server o (Some b) h =
-    let excess = same_excesses Replace (defined client.catalog o) stored client.store (place_of o b.number) b.given
+    let excess = same_excesses Replace (resources_defined client.catalog o) stored client.store
+    (place_of o b.number) b.given
     h.places in
     λ j. nat_le 64 (length (same_list stored client.store o h.instances j))
     || ((nat_le 2 (length client.accounts)
@@ -417,7 +419,7 @@ same_room client stored server o (Some b) h =
 abbrev says_created : ℕ → Option Newborn → Option Code → Answer
 says_created o new (Some code) = bare code
 says_created o None None = bare BadRequest
-says_created o (Some b) None = created (place_of o b.number)
+says_created o (Some b) None = created_answer (place_of o b.number)
 
 create_says : (code : Option Code) (client : Client) (server o : ℕ) (new : Option Newborn)
     → (create_unless code client server o new).answer ≡ says_created o new code
@@ -451,7 +453,8 @@ same_create : (client : Client) (stored : Stored) (server : ℕ) (path : Path) (
 same_create client stored server path number payload h =
     let o = object_in path in
     let rights = same_rights client stored server path h in
-    let new = same_numbered stored client.store o (creation_given (defined client.catalog o) payload) h.instances in
+    let new = same_numbered stored client.store o
+    (creation_given (resources_defined client.catalog o) payload) h.instances in
     create_answers (with_stored client stored) server path number payload
     ∙ (λ j. create_by client path number (there client stored server h path j) (rights j).create (new j)
     (lacks_room (with_stored client stored) o (new j)))
@@ -480,7 +483,7 @@ same_delete client stored server path h =
     ∙ sym (delete_says (refusal_of client server path to_delete) client path)
 
 abbrev says_done : Path → Option Code → Answer
-says_done path None = done (act_of path)
+says_done path None = done_answer (act_of path)
 says_done path (Some code) = bare code
 
 execute_says : (code : Option Code) (client : Client) (path : Path)

@@ -29,10 +29,9 @@ use Rattle.device_requests.specs.Laws.{is_refusal}
 use Rattle.device_requests.specs.Outcomes.{write_outcome}
 use Rattle.device_requests.specs.Read.{format_at}
 use Rattle.device_requests.specs.Refusals.{refusal_of, refusals_of, to_write}
-use Rattle.device_requests.specs.Targets.{defined, place_of, resource_place}
-use Rattle.device_requests.specs.Write.{event_of, given_to_resource, left, mode_at, new_values}
-use Rattle.device_requests.specs.Write.{values_given}
-use Rattle.device_requests.specs.Write.{write_unless}
+use Rattle.device_requests.specs.Targets.{place_of, resource_place, resources_defined}
+use Rattle.device_requests.specs.Write.{after_write_with_event, event_of, given_to_resource, mode_at, new_values}
+use Rattle.device_requests.specs.Write.{values_given, write_unless}
 use Rattle.laws_requests.specs.Writes.{InstancesAreWritten, ResourcesAreWritten}
 use Rattle.laws_requests.proofs.Asking.{chosen, fails, passes}
 
@@ -45,14 +44,14 @@ unrefused client server mode path number payload h =
     passes (refusals_of client server path (to_write mode number payload))
     (refl, (refl, (refl, (refl, (refl, (refl, (refl, (refl, tt))))))))
     (λ (code : Option Code). write_unless code client
-    (left (mode_at mode path) client path (new_values client path number payload) event))
+    (after_write_with_event (mode_at mode path) client path (new_values client path number payload) event))
     (λ c. refl) (ap is_refusal h)
 
 -- the store that a Write leaves, by the format
 abbrev pub leaves : Client → Mode → Path → List ℕ → Option Format → Stored
 leaves client mode path payload format =
     let values = option_and_then (values_given client.catalog path payload) format in
-    left (mode_at mode path) client path values (event_of path values)
+    after_write_with_event (mode_at mode path) client path values (event_of path values)
 
 -- the format of a Write, and the store after it
 pub record Comes (client : Client) (server : ℕ) (mode : Mode) (path : Path) (number : Option ℕ) (payload : List ℕ)
@@ -95,21 +94,21 @@ is_stored client server mode path number payload h =
 -- ---- an instance
 
 instance_good : (client : Client) (o i : ℕ) (payload : List ℕ) (f : Format) (given : Option (List Assignment))
-    → instance_given (defined client.catalog o) i payload ≡ given
+    → instance_given (resources_defined client.catalog o) i payload ≡ given
     → not (is_some (values_given client.catalog (Instance o i) payload f)) ≡ false
     → (list : List Assignment) × (given ≡ Some list)
 instance_good client o i payload f None h good = let l : true ≡ false = rw h at good in cc
 instance_good client o i payload f (Some given) h good = (given, refl)
 
 instance_leaves : (client : Client) (mode : Mode) (o i : ℕ) (payload : List ℕ) (f : Format) (given : List Assignment)
-    → instance_given (defined client.catalog o) i payload ≡ Some given
+    → instance_given (resources_defined client.catalog o) i payload ≡ Some given
     → leaves client mode (Instance o i) payload (Some f)
-    ≡ instance_written mode (defined client.catalog o) client.store (place_of o i) given
+    ≡ instance_written mode (resources_defined client.catalog o) client.store (place_of o i) given
 instance_leaves client mode o i payload f given h = rw h refl
 
 pub instances_written : InstancesAreWritten
 instances_written client server mode o i number payload h =
-    let resources = defined client.catalog o in
+    let resources = resources_defined client.catalog o in
     let c = comes client server mode (Instance o i) number payload h in
     let g = instance_good client o i payload c.format (instance_given resources i payload) refl c.good in
     let given = g.0 in

@@ -5,7 +5,7 @@ use Rattle.object_defs.specs.declared.path.Path.{Path}
 use Rattle.notifier.specs.declared.attribute.AttributeKey.{AttributeKey}
 use Rattle.notifier.specs.declared.attribute.Change.{Change}
 use Rattle.notifier.specs.declared.attribute.Name.{Name}
-use Rattle.notifier.specs.Attributes.{assigned, key_of, rank}
+use Rattle.notifier.specs.Attributes.{assigned_number, key_of, rank}
 use Rattle.notifier.specs.Query.{changes_of}
 use Rattle.device_requests.specs.declared.answer.Code.TheVariants.{Changed}
 use Rattle.device_requests.specs.Client.{Client}
@@ -22,7 +22,8 @@ pub record AreAnnotated (old new : Client) (server : ℕ) (path : Path) (queries
   pub changes : List Change
   pub spells : changes_of [] (level_at old.catalog path) queries ≡ Ok changes
   pub own : (n : Name)
-      → assigned new.attributes server path n ≡ changed_by changes n (assigned old.attributes server path n)
+      → assigned_number new.attributes server path n
+      ≡ changed_by changes n (assigned_number old.attributes server path n)
   pub others : (k : AttributeKey) → ((n : Name) → k ≢ key_of server path n)
       → map.get new.attributes k ≡ map.get old.attributes k
 

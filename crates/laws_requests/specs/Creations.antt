@@ -15,7 +15,7 @@ use Rattle.device_requests.specs.Answer.{Outcome}
 use Rattle.device_requests.specs.Client.{Client}
 use Rattle.device_requests.specs.Create.{Newborn, newborn}
 use Rattle.device_requests.specs.Outcomes.{create_outcome}
-use Rattle.device_requests.specs.Targets.{defined, place_of, resource_place}
+use Rattle.device_requests.specs.Targets.{place_of, resource_place, resources_defined}
 
 -- the number of the new instance of Access Control; with one account there is none
 abbrev pub new_control : Client → Option ℕ
@@ -48,7 +48,7 @@ pub record IsCreated (client : Client) (server o : ℕ) (payload : List ℕ) (ou
   pub there : has_instance outcome.client.store (place_of o born.number) ≡ true
   pub inside : (q : FullPath) → lies_in (Instance o born.number) q ≡ true
       → value_at outcome.client.store q
-      ≡ value_behind Replace (defined client.catalog o) born.given q (value_at client.store q)
+      ≡ value_behind Replace (resources_defined client.catalog o) born.given q (value_at client.store q)
   pub control : (j : ℕ) → new_control client ≡ Some j
       → IsControlOf client.store outcome.client.store j (place_of o born.number) server
   pub others : (p : InstancePath) → p ≢ place_of o born.number

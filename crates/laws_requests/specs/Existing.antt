@@ -60,14 +60,14 @@ WhatIsToWrite =
     ↔ IsToWrite client.catalog client.store path
 
 -- the path in which a path lies
-abbrev pub around : Path → Option Path
-around (Object o) = None
-around (Instance o i) = Some (Object o)
-around (Resource o i r) = Some (Instance o i)
-around (Part o i r n) = Some (Resource o i r)
+abbrev pub path_around : Path → Option Path
+path_around (Object o) = None
+path_around (Instance o i) = Some (Object o)
+path_around (Resource o i r) = Some (Instance o i)
+path_around (Part o i r n) = Some (Resource o i r)
 
 -- what exists lies in what exists
 abbrev pub ExistsWithin : Type 0
 ExistsWithin =
     (catalog : List ObjectDef) (stored : Stored) (path outer : Path) → exists catalog stored path ≡ true
-    → around path ≡ Some outer → exists catalog stored outer ≡ true
+    → path_around path ≡ Some outer → exists catalog stored outer ≡ true

@@ -24,7 +24,7 @@ use Rattle.device_requests.specs.Access.{may_read}
 use Rattle.device_requests.specs.Client.{Client}
 use Rattle.device_requests.specs.Laws.{IsAmong, content_within}
 use Rattle.device_requests.specs.Outcomes.{read_answer, write_outcome}
-use Rattle.device_requests.specs.Targets.{defined, is_readable, resource_place}
+use Rattle.device_requests.specs.Targets.{is_readable, resource_place, resources_defined}
 use Rattle.laws_requests.specs.Multiples.{HasPart, IsPartThen, IsReadInParts}
 
 -- the resource of this number is given this
@@ -50,7 +50,7 @@ left_by Update before = before
 -- as it was
 pub record HoldsGiven (client : Client) (mode : Mode) (o i : ℕ) (payload : List ℕ) (new : Stored) : Type 0 where
   pub given : List Assignment
-  pub gives : instance_given (defined client.catalog o) i payload ≡ Some given
+  pub gives : instance_given (resources_defined client.catalog o) i payload ≡ Some given
   pub value : (r : ℕ) (v : Value) → IsGivenTo given r (Single v)
       → is_readable (definition_of client.catalog o r) ≡ true
       → value_at new (single_of (resource_place o i r)) ≡ Some v
@@ -72,9 +72,9 @@ pub record HoldsGiven (client : Client) (mode : Mode) (o i : ℕ) (payload : Lis
       → is_readable (definition_of client.catalog o q.resource) ≡ false
       → value_at new q ≡ value_at client.store q
   pub taken_away : (q : FullPath) → lies_in (Instance o i) q ≡ true → ¬ (IsNamedIn given q.resource)
-      → mode ≡ Replace → IsOptional (defined client.catalog o) q.resource → value_at new q ≡ None
+      → mode ≡ Replace → IsOptional (resources_defined client.catalog o) q.resource → value_at new q ≡ None
   pub left_alone : (q : FullPath) → lies_in (Instance o i) q ≡ true → ¬ (IsNamedIn given q.resource)
-      → (mode ≡ Update) ⊎ (¬ (IsOptional (defined client.catalog o) q.resource))
+      → (mode ≡ Update) ⊎ (¬ (IsOptional (resources_defined client.catalog o) q.resource))
       → value_at new q ≡ value_at client.store q
   pub elsewhere : (q : FullPath) → lies_in (Instance o i) q ≡ false → value_at new q ≡ value_at client.store q
 
@@ -89,7 +89,7 @@ InstancesHoldGiven =
 -- resource that is given parts answers these, and with Partial Update the others that it held, by ascending number
 pub record IsInstanceReadBack (client : Client) (mode : Mode) (o i : ℕ) (payload : List ℕ) (new : Client) : Type 0 where
   pub given : List Assignment
-  pub gives : instance_given (defined client.catalog o) i payload ≡ Some given
+  pub gives : instance_given (resources_defined client.catalog o) i payload ≡ Some given
   pub value : (r : ℕ) (d : ResourceDef) (v : Value) → definition_of client.catalog o r ≡ Some d
       → d.multiple ≡ false → can_read d.ops ≡ true → IsGivenTo given r (Single v)
       → (server : ℕ) (accept : Option ℕ) (wanted : Format) → may_read new server (Resource o i r) ≡ true

@@ -19,15 +19,15 @@ use Rattle.device_requests.specs.declared.answer.Code.TheVariants.{Changed}
 use Rattle.device_requests.specs.Client.{Client}
 use Rattle.device_requests.specs.Outcomes.{write_outcome}
 use Rattle.device_requests.specs.Read.{format_at}
-use Rattle.device_requests.specs.Targets.{defined, resource_place}
+use Rattle.device_requests.specs.Targets.{resource_place, resources_defined}
 
 -- the payload gives values to resources of the instance; in it there is then what is given and kept, nothing where
 -- Replace takes it away, else what was there; all other values are as they were
 pub record IsInstanceWritten (client : Client) (mode : Mode) (o i : ℕ) (payload : List ℕ) (new : Stored) : Type 0 where
   pub given : List Assignment
-  pub gives : instance_given (defined client.catalog o) i payload ≡ Some given
+  pub gives : instance_given (resources_defined client.catalog o) i payload ≡ Some given
   pub inside : (q : FullPath) → lies_in (Instance o i) q ≡ true
-      → value_at new q ≡ value_behind mode (defined client.catalog o) given q (value_at client.store q)
+      → value_at new q ≡ value_behind mode (resources_defined client.catalog o) given q (value_at client.store q)
   pub outside : (q : FullPath) → lies_in (Instance o i) q ≡ false → value_at new q ≡ value_at client.store q
 
 -- a Write of an instance that is answered Changed

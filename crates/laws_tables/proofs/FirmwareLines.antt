@@ -18,7 +18,7 @@ use Rattle.device_firmware.specs.Firmware.{with_outcome, with_uri}
 use Rattle.device_firmware.specs.Laws.{uri_after}
 use Rattle.device_firmware.proofs.AfterEvent.{code-outcome, other-outcome, other-uri, same_instances, uri-outcome}
 use Rattle.device_firmware.proofs.AfterEvent.{uri-uri}
-use Rattle.laws_tables.specs.Firmware.{failed, firmware_path, Holds, IsAfter, IsInState, Line, line, lines}
+use Rattle.laws_tables.specs.Firmware.{line_of_failure, firmware_path, Holds, IsAfter, IsInState, Line, line, lines}
 use Rattle.laws_tables.specs.Firmware.{WritesAreEvents}
 
 -- ---- a store after an outcome
@@ -141,9 +141,9 @@ kept_line =
 -- a code that both tests say is a failure
 failed_line : (c : ℕ) (d u : _) → downloading_ended c ≡ Some d → updating_ended c ≡ Some u
     → ◌≡◌ {A = ℕ × ℕ} (state_number d.state, d.code) (0, c)
-    → ◌≡◌ {A = ℕ × ℕ} (state_number u.state, u.code) (0, c) → Holds (failed c)
+    → ◌≡◌ {A = ℕ × ℕ} (state_number u.state, u.code) (0, c) → Holds (line_of_failure c)
 failed_line c d u down up e f =
-    by_states (failed c) (λ s is. refused s 0 (Ended c) is refl)
+    by_states (line_of_failure c) (λ s is. refused s 0 (Ended c) is refl)
     (λ s is. subst (After s) e (taken s 1 (Ended c) (1 ∷ 3 ∷ []) d is down))
     (λ s is. refused s 2 (Ended c) is refl)
     (λ s is. subst (After s) f (taken s 3 (Ended c) (1 ∷ 3 ∷ []) u is up))

@@ -4,7 +4,7 @@ use Rattle.std.proofs.Common.{sym, ap, subst, ◌∙◌, arith}
 use Rattle.std.specs.Option.{option_or}
 use Rattle.object_defs.specs.declared.path.Path.{Path}
 use Rattle.object_defs.specs.declared.path.Path.TheVariants.{Object, Instance, Resource, Part}
-use Rattle.notifier.specs.Attributes.{Numbers, assigned, effective, first_assigned, levels_of}
+use Rattle.notifier.specs.Attributes.{Numbers, assigned_number, effective, first_assigned, levels_of}
 use Rattle.notifier.specs.declared.attribute.Name.{Name}
 use Rattle.laws_tables.specs.Levels.{HasEffectOn, IsLowest, LiesLower, numbers_of}
 
@@ -22,10 +22,11 @@ Rise (p ∷ ps) = ((level : Path) → Among level ps → LiesLower p level) × R
 module _ (m : Numbers) (server : ℕ) (n : Name) where
   record Lowest (ps : List Path) (level : Path) (z : ℤ) : Type 0 where
     among : Among level ps
-    set : assigned m server level n ≡ Some z
-    lowest : (lower : Path) → Among lower ps → LiesLower lower level → assigned m server lower n ≡ None
+    set : assigned_number m server level n ≡ Some z
+    lowest : (lower : Path) → Among lower ps → LiesLower lower level → assigned_number m server lower n ≡ None
 
-  here : (p : Path) (ps : List Path) (z : ℤ) → Rise (p ∷ ps) → assigned m server p n ≡ Some z → Lowest (p ∷ ps) p z
+  here : (p : Path) (ps : List Path) (z : ℤ) → Rise (p ∷ ps) → assigned_number m server p n ≡ Some z
+      → Lowest (p ∷ ps) p z
   here p ps z rise e =
       record {
         among = inl refl;
@@ -33,7 +34,7 @@ module _ (m : Numbers) (server : ℕ) (n : Name) where
         lowest = none;
       }
     where
-      none : (lower : Path) → Among lower (p ∷ ps) → LiesLower lower p → assigned m server lower n ≡ None
+      none : (lower : Path) → Among lower (p ∷ ps) → LiesLower lower p → assigned_number m server lower n ≡ None
       none lower (inl same) l = absurd (below lower p same l)
         where
           below : (a b : Path) → a ≡ b → LiesLower a b → ⊥
@@ -41,7 +42,7 @@ module _ (m : Numbers) (server : ℕ) (n : Name) where
               omega (arith, k, l)
       none lower (inr later) l = let k = rise.0 lower later in absurd (omega (arith, k, l))
 
-  there : (p : Path) (ps : List Path) (level : Path) (z : ℤ) → assigned m server p n ≡ None → Lowest ps level z
+  there : (p : Path) (ps : List Path) (level : Path) (z : ℤ) → assigned_number m server p n ≡ None → Lowest ps level z
       → Lowest (p ∷ ps) level z
   there p ps level z e low =
       record {
@@ -50,11 +51,11 @@ module _ (m : Numbers) (server : ℕ) (n : Name) where
         lowest = none;
       }
     where
-      none : (lower : Path) → Among lower (p ∷ ps) → LiesLower lower level → assigned m server lower n ≡ None
-      none lower (inl same) l = ap (λ q. assigned m server q n) same ∙ e
+      none : (lower : Path) → Among lower (p ∷ ps) → LiesLower lower level → assigned_number m server lower n ≡ None
+      none lower (inl same) l = ap (λ q. assigned_number m server q n) same ∙ e
       none lower (inr later) l = low.lowest lower later l
 
-  chosen : (p : Path) (ps : List Path) (a : Option ℤ) (z : ℤ) → Rise (p ∷ ps) → assigned m server p n ≡ a
+  chosen : (p : Path) (ps : List Path) (a : Option ℤ) (z : ℤ) → Rise (p ∷ ps) → assigned_number m server p n ≡ a
       → option_or a (first_assigned m server ps n) ≡ Some z
       → (first_assigned m server ps n ≡ Some z → (level : Path) × Lowest ps level z)
       → (level : Path) × Lowest (p ∷ ps) level z
@@ -64,14 +65,14 @@ module _ (m : Numbers) (server : ℕ) (n : Name) where
   found : (ps : List Path) (z : ℤ) → Rise ps → first_assigned m server ps n ≡ Some z
       → (level : Path) × Lowest ps level z
   found [] z rise h = cc
-  found (p ∷ ps) z rise h = chosen p ps (assigned m server p n) z rise refl h (found ps z rise.1)
+  found (p ∷ ps) z rise h = chosen p ps (assigned_number m server p n) z rise refl h (found ps z rise.1)
 
   first_by : (p : Path) (ps : List Path) (level : Path) (z : ℤ) → Rise (p ∷ ps) → Lowest (p ∷ ps) level z
       → Among level (p ∷ ps) → (Lowest ps level z → first_assigned m server ps n ≡ Some z)
       → first_assigned m server (p ∷ ps) n ≡ Some z
   first_by p ps level z rise low (inl same) rest =
       ap (λ a. option_or a (first_assigned m server ps n))
-      (sym (ap (λ q. assigned m server q n) same) ∙ low.set)
+      (sym (ap (λ q. assigned_number m server q n) same) ∙ low.set)
   first_by p ps level z rise low (inr later) rest =
       ap (λ a. option_or a (first_assigned m server ps n)) (low.lowest p (inl refl) (rise.0 level later))
       ∙ rest (record {
@@ -90,15 +91,15 @@ module _ (m : Numbers) (server : ℕ) (n : Name) where
   both_none (Some y) b h = cc
 
   none_set : (ps : List Path) → first_assigned m server ps n ≡ None → (level : Path) → Among level ps
-      → assigned m server level n ≡ None
+      → assigned_number m server level n ≡ None
   none_set [] h level among = absurd among
   none_set (p ∷ ps) h level (inl same) =
-      ap (λ q. assigned m server q n) same
-      ∙ (both_none (assigned m server p n) (first_assigned m server ps n) h).0
+      ap (λ q. assigned_number m server q n) same
+      ∙ (both_none (assigned_number m server p n) (first_assigned m server ps n) h).0
   none_set (p ∷ ps) h level (inr later) =
-      none_set ps (both_none (assigned m server p n) (first_assigned m server ps n) h).1 level later
+      none_set ps (both_none (assigned_number m server p n) (first_assigned m server ps n) h).1 level later
 
-  none_first : (ps : List Path) → ((level : Path) → Among level ps → assigned m server level n ≡ None)
+  none_first : (ps : List Path) → ((level : Path) → Among level ps → assigned_number m server level n ≡ None)
       → first_assigned m server ps n ≡ None
   none_first [] h = refl
   none_first (p ∷ ps) h =
@@ -196,7 +197,7 @@ lowest_has_effect m server path n z = (
 
 pub none_has_effect : (m : Numbers) (server : ℕ) (path : Path) (n : Name)
     → (effective m server path n ≡ None)
-    ↔ ((level : Path) → HasEffectOn path level → assigned m server level n ≡ None)
+    ↔ ((level : Path) → HasEffectOn path level → assigned_number m server level n ≡ None)
 none_has_effect m server path n = (
   (λ h level e. none_set m server n (levels_of path) h level (of_effect path level e)),
   (λ h. none_first m server n (levels_of path) (λ level among. h level (with_effect path level among))),

@@ -6,7 +6,7 @@ use Rattle.object_defs.specs.declared.path.FullPath.{FullPath}
 use Rattle.instance_store.specs.Stored.{Stored, has_instance, value_at}
 use Rattle.access_control.specs.Rights.{creation, letters_of, right_of}
 use Rattle.access_control.specs.declared.letters.Rights.{Rights}
-use Rattle.laws_tables.specs.Rights.{granted}
+use Rattle.laws_tables.specs.Rights.{granted_rights}
 
 -- the path of a resource of instance j of Access Control, or of a part of it
 abbrev pub control_path : ℕ → ℕ → Option ℕ → FullPath
@@ -39,25 +39,25 @@ IsOwner stored j server = Says stored j 3 None (pos server)
 -- letters of entry 0, and nothing where there is none
 pub record GrantsTo (stored : Stored) (j server : ℕ) (rights : Rights) : Type 0 where
   pub own : (z : ℤ) → Says stored j 2 (Some server) z → rights ≡ letters_of z
-  pub owner : ¬ (HasEntry stored j server) → IsOwner stored j server → rights ≡ granted true true true true true
+  pub owner : ¬ (HasEntry stored j server) → IsOwner stored j server → rights ≡ granted_rights true true true true true
   pub others : (z : ℤ) → ¬ (HasEntry stored j server) → ¬ (IsOwner stored j server) → Says stored j 2 (Some 0) z
       → rights ≡ letters_of z
   pub none : ¬ (HasEntry stored j server) → ¬ (IsOwner stored j server) → ¬ (HasEntry stored j 0)
-      → rights ≡ granted false false false false false
+      → rights ≡ granted_rights false false false false false
 
 -- what a server may do with an instance: alone, all; with more accounts, with an instance of Access Control itself, R
 -- and W as its owner and else R; with any other instance what the one that decides grants, and nothing where none
 -- refers to it
 pub record HasRights (stored : Stored) (accounts server object instance : ℕ) (rights : Rights) : Type 0 where
-  pub alone : accounts ≤ 1 → rights ≡ granted true true true true true
+  pub alone : accounts ≤ 1 → rights ≡ granted_rights true true true true true
   pub owned : 2 ≤ accounts → object ≡ 2 → IsOwner stored instance server
-      → rights ≡ granted true true false false false
+      → rights ≡ granted_rights true true false false false
   pub not_owned : 2 ≤ accounts → object ≡ 2 → ¬ (IsOwner stored instance server)
-      → rights ≡ granted true false false false false
+      → rights ≡ granted_rights true false false false false
   pub decided : (j : ℕ) → 2 ≤ accounts → object ≢ 2 → Decides stored object instance j
       → GrantsTo stored j server rights
   pub undecided : 2 ≤ accounts → object ≢ 2 → ((j : ℕ) → ¬ (RefersTo stored object instance j))
-      → rights ≡ granted false false false false false
+      → rights ≡ granted_rights false false false false false
 
 abbrev pub RightsAreGranted : Type 0
 RightsAreGranted =

@@ -31,8 +31,8 @@ line event states uri state result =
     record { event = event; states = states; uri = uri; state = state; result = result }
 
 -- a download or an update that fails with this code
-abbrev pub failed : ℕ → Line
-failed code = line (Ended code) (1 ∷ 3 ∷ []) None 0 code
+abbrev pub line_of_failure : ℕ → Line
+line_of_failure code = line (Ended code) (1 ∷ 3 ∷ []) None 0 code
 
 -- the lines, of which one is of another Package URI, this one
 abbrev pub lines : List ℕ → List Line
@@ -46,7 +46,7 @@ lines text =
     ∷ line (Ended 1) (3 ∷ []) None 0 1
     ∷ line (Ended 8) (3 ∷ []) None 2 8
     ∷ []
-    ) ++ map failed (2 ∷ 3 ∷ 4 ∷ 5 ∷ 6 ∷ 7 ∷ 9 ∷ [])
+    ) ++ map line_of_failure (2 ∷ 3 ∷ 4 ∷ 5 ∷ 6 ∷ 7 ∷ 9 ∷ [])
 
 -- ---- what a line says
 

@@ -2,7 +2,7 @@
 use Rattle.std.specs.Prelude.{◌≡◌, ◌↔◌, ℕ, ◌<◌, ◌≤◌, ℤ, List, [], ◌∷◌, ◌++◌, length, None, Some}
 use Rattle.object_defs.specs.declared.path.Path.{Path}
 use Rattle.object_defs.specs.declared.path.Path.TheVariants.{Object, Instance, Resource, Part}
-use Rattle.notifier.specs.Attributes.{Numbers, assigned, effective}
+use Rattle.notifier.specs.Attributes.{Numbers, assigned_number, effective}
 use Rattle.notifier.specs.declared.attribute.Name.{Name}
 
 -- the numbers of a path
@@ -26,8 +26,8 @@ LiesLower lower level = length (numbers_of level) < length (numbers_of lower)
 -- this level has this number of the attribute, by this server, and no lower one has any
 pub record IsLowest (m : Numbers) (server : ℕ) (path : Path) (n : Name) (level : Path) (z : ℤ) : Type 0 where
   pub effect : HasEffectOn path level
-  pub set : assigned m server level n ≡ Some z
-  pub lowest : (lower : Path) → HasEffectOn path lower → LiesLower lower level → assigned m server lower n ≡ None
+  pub set : assigned_number m server level n ≡ Some z
+  pub lowest : (lower : Path) → HasEffectOn path lower → LiesLower lower level → assigned_number m server lower n ≡ None
 
 abbrev pub LowestHasEffect : Type 0
 LowestHasEffect =
@@ -38,4 +38,4 @@ abbrev pub NoneHasEffect : Type 0
 NoneHasEffect =
     (m : Numbers) (server : ℕ) (path : Path) (n : Name)
     → (effective m server path n ≡ None)
-    ↔ ((level : Path) → HasEffectOn path level → assigned m server level n ≡ None)
+    ↔ ((level : Path) → HasEffectOn path level → assigned_number m server level n ≡ None)

@@ -23,13 +23,13 @@ abbrev pub LettersAreBits : Type 0
 LettersAreBits = (z : ℤ) → FitsSigned w64 z → GrantsByBits z (letters_of z)
 
 -- whether R, W, E, D and C are granted, in this order
-abbrev pub granted : Bool → Bool → Bool → Bool → Bool → Rights
-granted r w e d c = record { read = r; write = w; execute = e; delete = d; create = c }
+abbrev pub granted_rights : Bool → Bool → Bool → Bool → Bool → Rights
+granted_rights r w e d c = record { read = r; write = w; execute = e; delete = d; create = c }
 
 -- 1 is R; 10 is W and D; 16 is C; -2 is all but R; and 32 is nothing, as are all higher bits
 pub record AreLetters : Type 0 where
-  pub one : letters_of (pos 1) ≡ granted true false false false false
-  pub ten : letters_of (pos 10) ≡ granted false true false true false
-  pub sixteen : letters_of (pos 16) ≡ granted false false false false true
-  pub minus_two : letters_of (negsuc 1) ≡ granted false true true true true
-  pub thirty_two : letters_of (pos 32) ≡ granted false false false false false
+  pub one : letters_of (pos 1) ≡ granted_rights true false false false false
+  pub ten : letters_of (pos 10) ≡ granted_rights false true false true false
+  pub sixteen : letters_of (pos 16) ≡ granted_rights false false false false true
+  pub minus_two : letters_of (negsuc 1) ≡ granted_rights false true true true true
+  pub thirty_two : letters_of (pos 32) ≡ granted_rights false false false false false

@@ -17,7 +17,7 @@ use Rattle.scenario_statements.specs.declared.statement.Statement.TheVariants as
 use Rattle.scenario_statements.specs.Grammar.{statement_of}
 use Rattle.scenario_asm.specs.Causes.{needs, unless}
 use Rattle.scenario_asm.specs.Draft.{Draft}
-use Rattle.scenario_asm.specs.Effect.{effect, fitting, has_server, in_class, step_added}
+use Rattle.scenario_asm.specs.Effect.{effect, has_server, if_path_fits, in_class, step_added}
 use Rattle.scenario_asm.specs.Text.{effect_of, lines_after}
 use Rattle.scenario_asm.proofs.Denoting.{wordless}
 use Rattle.laws_text.specs.WrongLine.{AreBlank}
@@ -79,17 +79,17 @@ fitted_by : (b : Bool) (x : Result Draft Cause) (cause : Cause) (e : Draft) → 
 fitted_by true x cause e h = h
 fitted_by false x cause e h = absurd cc
 
-pub fitted : (m : Mnemonic) (x : Result Draft Cause) (e : Draft) → fitting m x ≡ Ok e → x ≡ Ok e
+pub fitted : (m : Mnemonic) (x : Result Draft Cause) (e : Draft) → if_path_fits m x ≡ Ok e → x ≡ Ok e
 fitted m x e h = fitted_by _ x Range e h
 
 step_begun : (x : Step) (d e : Draft) → step_added x d ≡ Ok e → e.begun ≡ d.begun
 step_begun x d e h = sym (ap (λ y. y.begun) (unrefused _ _ e h).1)
 
 request_begun : (x : Step) (m : Mnemonic) (b : Bool) (d e : Draft)
-    → needs d.begun (needs b (fitting m (step_added x d))) ≡ Ok e → e.begun ≡ true
+    → needs d.begun (needs b (if_path_fits m (step_added x d))) ≡ Ok e → e.begun ≡ true
 request_begun x m b d e h =
-    let p = needed d.begun (needs b (fitting m (step_added x d))) e h in
-    let q = needed b (fitting m (step_added x d)) e p.1 in
+    let p = needed d.begun (needs b (if_path_fits m (step_added x d))) e h in
+    let q = needed b (if_path_fits m (step_added x d)) e p.1 in
     step_begun x d e (fitted m (step_added x d) e q.1) ∙ p.0
 
 first_begun : (d e f : Draft) (b : Bool) (cause : Cause) → f.begun ≡ true → cond b (Err cause) (Ok f) ≡ Ok e

@@ -33,9 +33,9 @@ use Rattle.scenario_statements.specs.declared.statement.Statement.TheVariants as
 use Rattle.scenario_asm.specs.Causes.{needs, scenario_cause, template_cause, unless}
 use Rattle.scenario_asm.specs.ClassLines.{account_added, definition_added, has_object, instance_added, is_stated}
 use Rattle.scenario_asm.specs.ClassLines.{notify_set, object_added, value_added, value_cause}
-use Rattle.scenario_asm.specs.Draft.{Draft, closed}
-use Rattle.scenario_asm.specs.Effect.{effect, has_device, has_server, in_class, in_object, knows, reopened}
-use Rattle.scenario_asm.specs.Effect.{reopened_with, step_added}
+use Rattle.scenario_asm.specs.Draft.{Draft, closed_scenario}
+use Rattle.scenario_asm.specs.Effect.{effect, has_device, has_server, in_class, in_object, knows, reopened_with}
+use Rattle.scenario_asm.specs.Effect.{step_added, with_open_class}
 use Rattle.laws_text.specs.FirstCause.{first_cause, is_step_over, is_unfit}
 
 -- why something was refused, if it was
@@ -234,14 +234,15 @@ begun_twice false x = refl
 
 pub cause_is : (s : Statement) (d : Draft) → cause_in (effect s d) ≡ first_cause s d
 cause_is says.Scenario d = begun_twice d.begun _
-cause_is says.Class d = needs_only d.begun false false _ _ (of_class_room (nat_le 256 (length (closed d).classes)) _)
+cause_is says.Class d =
+    needs_only d.begun false false _ _ (of_class_room (nat_le 256 (length (closed_scenario d).classes)) _)
 cause_is (says.Notify seconds) d =
-    needs_too d.begun _ _ _ false _ (at_open d (notify_set seconds) (reopened d) (λ o. not (is_some o))
+    needs_too d.begun _ _ _ false _ (at_open d (notify_set seconds) (with_open_class d) (λ o. not (is_some o))
     (λ o. not (is_notify seconds))
     (λ o. option_map_or (λ c. not (eqb c.notify 0)) o false) (λ o. false) refl
     (λ c. of_notify (not (is_notify seconds)) (not (eqb c.notify 0)) (with_notify c seconds)) d.open_class)
 cause_is (says.Account server) d =
-    needs_too d.begun _ _ _ _ _ (at_open d (account_added server) (reopened d) (λ o. not (is_some o))
+    needs_too d.begun _ _ _ _ _ (at_open d (account_added server) (with_open_class d) (λ o. not (is_some o))
     (λ o. is_unfit (says.Account server) d)
     (λ o. option_map_or (λ c. list_any (λ a. eqb a server) c.accounts) o false)
     (λ o. option_map_or (λ c. nat_le most_accounts (length c.accounts)) o false) refl
@@ -253,7 +254,8 @@ cause_is (says.Object id) d =
     (λ o. option_map_or (λ c. nat_le 16 (length c.catalog)) o false) refl
     (λ c. of_catalog _ _ _ _) d.open_class)
 cause_is (says.Def r) d =
-    needs_too d.begun _ _ _ _ _ (at_open d (in_object d.object (λ object. definition_added object r)) (reopened d)
+    needs_too d.begun _ _ _ _ _ (at_open d (in_object d.object (λ object. definition_added object r))
+    (with_open_class d)
     (λ o. not (is_some o) || not (is_some d.object))
     (λ o. option_map_or (λ c. option_map_or (λ id. option_map_or (λ p. not (is_sound r))
     (vendor_object c.catalog id) true) d.object true) o true)
@@ -263,14 +265,14 @@ cause_is (says.Def r) d =
     (vendor_object c.catalog id) false) d.object false) o false) refl
     (λ c. in_object_stated r d.object c) d.open_class)
 cause_is (says.Instance place) d =
-    needs_too d.begun _ _ _ _ _ (at_open d (instance_added place) (reopened d)
+    needs_too d.begun _ _ _ _ _ (at_open d (instance_added place) (with_open_class d)
     (λ o. option_map_or (λ c. not (has_object c place.object)) o true)
     (λ o. not (may_stand place))
     (λ o. option_map_or (λ c. has_instance c.store place) o false)
     (λ o. option_map_or (λ c. nat_le 64 (length (instances_of c.store place.object))) o false) refl
     (λ c. of_instance _ _ _ _ _) d.open_class)
 cause_is (says.Value path v) d =
-    needs_too d.begun _ _ _ _ _ (at_open d (value_added path v) (reopened d)
+    needs_too d.begun _ _ _ _ _ (at_open d (value_added path v) (with_open_class d)
     (λ o. option_map_or (λ c. not (is_stated c path)) o true)
     (λ o. option_map_or (λ c. option_map_or (λ p. not (fits_object p v (object_of c.catalog p.object)))
     (full_path path) true) o true)
@@ -280,7 +282,8 @@ cause_is (says.Value path v) d =
     (λ c. needs_only (is_stated c path) _ _ _ _ (of_value c (full_path path) v _)) d.open_class)
 cause_is (says.Device class) d =
     needs_too d.begun _ false false _ _
-    (of_row_room (nat_le (length (closed d).classes) class) (nat_le most_rows (length (closed d).rows)) _)
+    (of_row_room (nat_le (length (closed_scenario d).classes) class)
+    (nat_le most_rows (length (closed_scenario d).rows)) _)
 cause_is (says.Recv server bytes) d = needs_too d.begun _ false false _ _ (datagram_cause d server bytes)
 cause_is (says.Request server m) d =
     needs_too d.begun _ _ false _ _

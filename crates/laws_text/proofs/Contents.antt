@@ -12,7 +12,7 @@ use Rattle.lemmas.proofs.Tests.{never_both}
 use Rattle.lwm2m_values.specs.declared.value.Value.{Value}
 use Rattle.object_defs.specs.Catalog.{definition_of, object_of, resource_in}
 use Rattle.object_defs.specs.Path.{instance_cmp, path_cmp}
-use Rattle.object_defs.specs.Vendor.{inserted, resource_fault, vendor_fault, with_definition, with_object}
+use Rattle.object_defs.specs.Vendor.{resource_fault, vendor_fault, with_definition, with_inserted, with_object}
 use Rattle.object_defs.specs.Vendor.{with_resource}
 use Rattle.object_defs.specs.declared.definition.ObjectDef.{ObjectDef}
 use Rattle.object_defs.specs.declared.definition.ResourceDef.{ResourceDef}
@@ -51,11 +51,11 @@ swapped true false c = refl
 swapped false true c = refl
 swapped false false c = refl
 
-any_inserted : (p : ℕ → Bool) (x : ℕ) (xs : List ℕ) → list_any p (inserted (λ a. a) x xs) ≡ (p x || list_any p xs)
+any_inserted : (p : ℕ → Bool) (x : ℕ) (xs : List ℕ) → list_any p (with_inserted (λ a. a) x xs) ≡ (p x || list_any p xs)
 any_inserted p x [] = refl
 any_inserted p x (y ∷ ys) =
     elim (ltb x y) as (λ b.
-    list_any p (cond b (x ∷ y ∷ ys) (y ∷ inserted (λ a. a) x ys)) ≡ (p x || (p y || list_any p ys))) [
+    list_any p (cond b (x ∷ y ∷ ys) (y ∷ with_inserted (λ a. a) x ys)) ≡ (p x || (p y || list_any p ys))) [
       | true ↦ refl
       | false ↦ ap (λ b. p y || b) (any_inserted p x ys) ∙ swapped (p y) (p x) (list_any p ys)
     ]
@@ -69,7 +69,7 @@ counted_as x server (inl h) = inl h
 counted_as x server (inr h) = inr (ap (λ n. eqb n server) h ∙ same_number server)
 
 pub account_grows : (xs : List ℕ) (x server : ℕ)
-    → Grows (list_any (λ a. eqb a server) (inserted (λ a. a) x xs) ≡ true)
+    → Grows (list_any (λ a. eqb a server) (with_inserted (λ a. a) x xs) ≡ true)
     (list_any (λ a. eqb a server) xs ≡ true) (x ≡ server)
 account_grows xs x server =
     let e = any_inserted (λ a. eqb a server) x xs in

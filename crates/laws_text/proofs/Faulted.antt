@@ -12,7 +12,7 @@ use Rattle.scenario_asm.specs.Denotes.{AreSaid, Lead}
 use Rattle.scenario_asm.specs.Denotes.AreSaid.{done, blank, stated}
 use Rattle.scenario_asm.specs.Draft.{Draft, nothing}
 use Rattle.scenario_asm.specs.Effect.{effect}
-use Rattle.scenario_asm.specs.Text.{assembled, effect_of, line_after, lines_after, whole_of}
+use Rattle.scenario_asm.specs.Text.{effect_of, line_after, lines_after, scenario_of_text, whole_of}
 use Rattle.scenario_asm.proofs.Denoting.{lead_on, wordless}
 use Rattle.laws_text.specs.FirstCause.{FaultsAreFirst, IsCauseAt, IsFaultOf}
 use Rattle.laws_text.specs.WrongLine.{StatesNothing}
@@ -71,13 +71,14 @@ line_refused line d cause (inr h) =
 abbrev AnyFault : List ℕ → AsmFault → Type 0
 AnyFault text fault = IsFaultOf text fault ⊎ (StatesNothing text × (fault ≡ record { line = 1; cause = Missing }))
 
-fault_by : (text : List ℕ) (fault : AsmFault) (r : Result Draft AsmFault) → assembled text ≡ Err fault
+fault_by : (text : List ℕ) (fault : AsmFault) (r : Result Draft AsmFault) → scenario_of_text text ≡ Err fault
     → lines_after (lines text) 0 nothing ≡ r → whole_of r ≡ Err fault → AnyFault text fault
 fault_by text fault (Ok d) all is h =
     let states = (states_nothing text d d.begun fault refl is h).0 in
     inr (
       states,
-      same_whole (assembled text) fault (record { line = 1; cause = Missing }) all (nothing_is_missing text states),
+      same_whole (scenario_of_text text) fault (record { line = 1; cause = Missing }) all
+          (nothing_is_missing text states),
     )
 fault_by text fault (Err first) all is h =
     let equal : first ≡ fault = cc in
@@ -99,7 +100,7 @@ fault_by text fault (Err first) all is h =
           (cause_of_line s.here s.draft s.cause s.refused);
     })
 
-so_it_is : (text : List ℕ) (fault : AsmFault) → AnyFault text fault → assembled text ≡ Err fault
+so_it_is : (text : List ℕ) (fault : AsmFault) → AnyFault text fault → scenario_of_text text ≡ Err fault
 so_it_is text fault (inl f) =
     fault_at text fault.line fault.cause f.before f.behind f.here f.draft f.cut f.line
     (lead_on f.before f.statements 0 nothing f.draft f.said f.lead)

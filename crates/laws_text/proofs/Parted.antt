@@ -4,7 +4,7 @@ use Rattle.std.proofs.Common.{◌∷◌, ◌++◌, Option, None, Some}
 use Rattle.std.proofs.Common.{Result, Ok, Err, refl, sym, ap, subst, ◌∙◌, append_assoc, append-nil}
 use Rattle.device_template.specs.Template.{Template, empty_class}
 use Rattle.device_machine.specs.declared.event.Event.TheVariants as event
-use Rattle.scenario_image.specs.Scenario.{Row, Scenario, last_row, longer, with_last}
+use Rattle.scenario_image.specs.Scenario.{Row, Scenario, last_row, with_last, with_last_step}
 use Rattle.scenario_image.specs.declared.step.Step.{Step}
 use Rattle.scenario_image.specs.declared.step.Step.TheVariants as step
 use Rattle.scenario_image.proofs.RowLaws.{last_longer}
@@ -19,12 +19,12 @@ use Rattle.scenario_statements.specs.Grammar.{statement_of}
 use Rattle.scenario_asm.specs.Causes.{needs}
 use Rattle.scenario_asm.specs.ClassLines.{account_added, definition_added, instance_added, notify_set}
 use Rattle.scenario_asm.specs.ClassLines.{object_added, value_added}
-use Rattle.scenario_asm.specs.Draft.{Draft, closed, nothing, with_open}
+use Rattle.scenario_asm.specs.Draft.{Draft, closed_scenario, nothing, with_open}
 use Rattle.scenario_asm.specs.Denotes.{AreSaid, Lead}
 use Rattle.scenario_asm.specs.Denotes.AreSaid.{done, blank, stated}
-use Rattle.scenario_asm.specs.Effect.{effect, fitting, has_device, has_server, in_class, in_object, step_added}
-use Rattle.scenario_asm.specs.Effect.{reopened, reopened_with}
-use Rattle.scenario_asm.specs.Reading.{behind, said_in}
+use Rattle.scenario_asm.specs.Effect.{effect, has_device, has_server, if_path_fits, in_class, in_object, step_added}
+use Rattle.scenario_asm.specs.Effect.{reopened_with, with_open_class}
+use Rattle.scenario_asm.specs.Reading.{said_in, statements_from}
 use Rattle.scenario_asm.proofs.Denoting.{so_denotes}
 use Rattle.laws_text.specs.Parts.{AreMatched, Adds, IsMadeBy, MakeOf, PartsAreSaid, class_parts, object_since}
 use Rattle.laws_text.specs.Parts.{PartsSayOne, open_part, said_rows, said_steps}
@@ -94,7 +94,7 @@ shut_by class ss (Some c) object later s cs h =
 -- ---- the classes
 
 abbrev Classes : Draft → List Statement → Draft → Type 0
-Classes d ss e = ClassesFrom d.open_class d.object d.scenario.classes ss (closed e).classes
+Classes d ss e = ClassesFrom d.open_class d.object d.scenario.classes ss (closed_scenario e).classes
 
 -- what there is of a draft that its classes are made from
 abbrev KeepsClass : Draft → Draft → Type 0
@@ -121,10 +121,10 @@ device_keeps x b d e h =
     step_keeps x d e (needed b (step_added x d) e p.1).1
 
 request_keeps : (x : Step) (m : Mnemonic) (b : Bool) (d e : Draft)
-    → needs d.begun (needs b (fitting m (step_added x d))) ≡ Ok e → KeepsClass d e
+    → needs d.begun (needs b (if_path_fits m (step_added x d))) ≡ Ok e → KeepsClass d e
 request_keeps x m b d e h =
-    let p = needed d.begun (needs b (fitting m (step_added x d))) e h in
-    let q = needed b (fitting m (step_added x d)) e p.1 in
+    let p = needed d.begun (needs b (if_path_fits m (step_added x d))) e h in
+    let q = needed b (if_path_fits m (step_added x d)) e p.1 in
     step_keeps x d e (fitted m (step_added x d) e q.1)
 
 begun_keeps : (b : Bool) (cause : Cause) (d f e : Draft) → cond b (Err cause) (Ok f) ≡ Ok e → KeepsClass d f
@@ -161,30 +161,30 @@ classes_by says.Class ss d next cs h k =
     let q = unrefused _ _ next p.1 in
     opened ss d.open_class d.object d.scenario cs (from_made _ next ss cs q.1 k)
 classes_by (says.Notify seconds) ss d next cs h k =
-    let a = added_to d (notify_set seconds) (reopened d) next h in
+    let a = added_to d (notify_set seconds) (with_open_class d) next h in
     grown (says.Notify seconds) ss d.open_class d.object d.object d.scenario.classes cs a.class a.made a.class_is refl
-    refl a.added refl (from_made (reopened d a.made) next ss cs a.is k)
+    refl a.added refl (from_made (with_open_class d a.made) next ss cs a.is k)
 classes_by (says.Account server) ss d next cs h k =
-    let a = added_to d (account_added server) (reopened d) next h in
+    let a = added_to d (account_added server) (with_open_class d) next h in
     grown (says.Account server) ss d.open_class d.object d.object d.scenario.classes cs a.class a.made a.class_is refl
-    refl a.added refl (from_made (reopened d a.made) next ss cs a.is k)
+    refl a.added refl (from_made (with_open_class d a.made) next ss cs a.is k)
 classes_by (says.Object id) ss d next cs h k =
     let a = added_to d (object_added id) (reopened_with id d) next h in
     grown (says.Object id) ss d.open_class d.object (Some id) d.scenario.classes cs a.class a.made a.class_is refl
     refl a.added refl (from_made (reopened_with id d a.made) next ss cs a.is k)
 classes_by (says.Def r) ss d next cs h k =
-    let a = added_to d (in_object d.object (λ object. definition_added object r)) (reopened d) next h in
+    let a = added_to d (in_object d.object (λ object. definition_added object r)) (with_open_class d) next h in
     grown (says.Def r) ss d.open_class d.object d.object d.scenario.classes cs a.class a.made a.class_is refl refl
     (object_was d.object (λ object. definition_added object r) a.class a.made a.added) refl
-    (from_made (reopened d a.made) next ss cs a.is k)
+    (from_made (with_open_class d a.made) next ss cs a.is k)
 classes_by (says.Instance place) ss d next cs h k =
-    let a = added_to d (instance_added place) (reopened d) next h in
+    let a = added_to d (instance_added place) (with_open_class d) next h in
     grown (says.Instance place) ss d.open_class d.object d.object d.scenario.classes cs a.class a.made a.class_is refl
-    refl a.added refl (from_made (reopened d a.made) next ss cs a.is k)
+    refl a.added refl (from_made (with_open_class d a.made) next ss cs a.is k)
 classes_by (says.Value p value) ss d next cs h k =
-    let a = added_to d (value_added p value) (reopened d) next h in
+    let a = added_to d (value_added p value) (with_open_class d) next h in
     grown (says.Value p value) ss d.open_class d.object d.object d.scenario.classes cs a.class a.made a.class_is refl
-    refl a.added refl (from_made (reopened d a.made) next ss cs a.is k)
+    refl a.added refl (from_made (with_open_class d a.made) next ss cs a.is k)
 classes_by (says.Device class) ss d next cs h k =
     let p = needed d.begun _ next h in
     let q = unrefused _ _ next p.1 in
@@ -218,12 +218,12 @@ none_left None object s = ([], sym (append-nil s.classes), tt)
 none_left (Some c) object s = (c, [], refl, refl, tt)
 
 classes_from : (ss : List Statement) (d e : Draft) → Lead d ss e
-    → ClassesFrom d.open_class d.object d.scenario.classes ss (closed e).classes
+    → ClassesFrom d.open_class d.object d.scenario.classes ss (closed_scenario e).classes
 classes_from [] d e h =
-    subst (λ x. ClassesFrom d.open_class d.object d.scenario.classes [] (closed x).classes) h
+    subst (λ x. ClassesFrom d.open_class d.object d.scenario.classes [] (closed_scenario x).classes) h
     (none_left d.open_class d.object d.scenario)
 classes_from (s ∷ ss) d e h =
-    classes_by s ss d h.0 (closed e).classes h.1 (classes_from ss h.0 e h.2)
+    classes_by s ss d h.0 (closed_scenario e).classes h.1 (classes_from ss h.0 e h.2)
 
 -- ---- the rows
 
@@ -251,7 +251,7 @@ rows_longer : (s : Statement) (x : Step) (ss : List Statement) (there new rows :
     → said_rows (s ∷ ss) ≡ said_rows ss → RowsFrom new ss rows → RowsFrom there (s ∷ ss) rows
 rows_longer s x ss there new rows same steps others h = (
   (λ none. h.0 (sym same ∙ ap (λ rs. with_last rs (last_row rs) x) none) ∙ sym others),
-  (λ front r is. h.1 front (longer r x)
+  (λ front r is. h.1 front (with_last_step r x)
       (sym same ∙ ap (λ rs. with_last rs (last_row rs) x) is ∙ last_longer front r x)
       ∙ ap (λ xs. front ++ record { class = r.class; steps = xs } ∷ said_rows ss)
       (append_assoc r.steps (x ∷ []) (said_steps ss) ∙ ap (λ xs. r.steps ++ xs) (sym steps))
@@ -297,10 +297,10 @@ device_rows x b d e h =
     let p = needed d.begun (needs b (step_added x d)) e h in step_rows x d e (needed b (step_added x d) e p.1).1
 
 request_rows : (x : Step) (m : Mnemonic) (b : Bool) (d e : Draft)
-    → needs d.begun (needs b (fitting m (step_added x d))) ≡ Ok e → HasStep x d e
+    → needs d.begun (needs b (if_path_fits m (step_added x d))) ≡ Ok e → HasStep x d e
 request_rows x m b d e h =
-    let p = needed d.begun (needs b (fitting m (step_added x d))) e h in
-    let q = needed b (fitting m (step_added x d)) e p.1 in
+    let p = needed d.begun (needs b (if_path_fits m (step_added x d))) e h in
+    let q = needed b (if_path_fits m (step_added x d)) e p.1 in
     step_rows x d e (fitted m (step_added x d) e q.1)
 
 rows_by : (s : Statement) (ss : List Statement) (d next : Draft) (rows : List Row) → effect s d ≡ Ok next
@@ -312,22 +312,22 @@ rows_by says.Class ss d next rows h k =
     rows_kept says.Class ss _ _ rows
     (sym (closed_rows d.open_class d.scenario) ∙ ap (λ x. x.scenario.rows) q.1) refl refl k
 rows_by (says.Notify seconds) ss d next rows h k =
-    let a = added_to d (notify_set seconds) (reopened d) next h in
+    let a = added_to d (notify_set seconds) (with_open_class d) next h in
     rows_kept (says.Notify seconds) ss _ _ rows (ap (λ x. x.scenario.rows) a.is) refl refl k
 rows_by (says.Account server) ss d next rows h k =
-    let a = added_to d (account_added server) (reopened d) next h in
+    let a = added_to d (account_added server) (with_open_class d) next h in
     rows_kept (says.Account server) ss _ _ rows (ap (λ x. x.scenario.rows) a.is) refl refl k
 rows_by (says.Object id) ss d next rows h k =
     let a = added_to d (object_added id) (reopened_with id d) next h in
     rows_kept (says.Object id) ss _ _ rows (ap (λ x. x.scenario.rows) a.is) refl refl k
 rows_by (says.Def r) ss d next rows h k =
-    let a = added_to d (in_object d.object (λ object. definition_added object r)) (reopened d) next h in
+    let a = added_to d (in_object d.object (λ object. definition_added object r)) (with_open_class d) next h in
     rows_kept (says.Def r) ss _ _ rows (ap (λ x. x.scenario.rows) a.is) refl refl k
 rows_by (says.Instance place) ss d next rows h k =
-    let a = added_to d (instance_added place) (reopened d) next h in
+    let a = added_to d (instance_added place) (with_open_class d) next h in
     rows_kept (says.Instance place) ss _ _ rows (ap (λ x. x.scenario.rows) a.is) refl refl k
 rows_by (says.Value p value) ss d next rows h k =
-    let a = added_to d (value_added p value) (reopened d) next h in
+    let a = added_to d (value_added p value) (with_open_class d) next h in
     rows_kept (says.Value p value) ss _ _ rows (ap (λ x. x.scenario.rows) a.is) refl refl k
 rows_by (says.Device class) ss d next rows h k =
     let q = unrefused _ _ next (needed d.begun _ next h).1 in
@@ -363,26 +363,26 @@ no_rows_left there rows same = (
       ∙ ap (λ xs. front ++ record { class = r.class; steps = xs } ∷ []) (sym (append-nil r.steps))),
 )
 
-rows_from : (ss : List Statement) (d e : Draft) → Lead d ss e → RowsFrom d.scenario.rows ss (closed e).rows
+rows_from : (ss : List Statement) (d e : Draft) → Lead d ss e → RowsFrom d.scenario.rows ss (closed_scenario e).rows
 rows_from [] d e h =
-    no_rows_left d.scenario.rows (closed e).rows
+    no_rows_left d.scenario.rows (closed_scenario e).rows
     (closed_rows e.open_class e.scenario ∙ sym (ap (λ x. x.scenario.rows) h))
-rows_from (s ∷ ss) d e h = rows_by s ss d h.0 (closed e).rows h.1 (rows_from ss h.0 e h.2)
+rows_from (s ∷ ss) d e h = rows_by s ss d h.0 (closed_scenario e).rows h.1 (rows_from ss h.0 e h.2)
 
 -- ---- the scenario of a text
 
 said_blank : (ws : List (List ℕ)) (ls : List (List ℕ)) (ss : List Statement) → ws ≡ [] → said_in ls ≡ Ok ss
-    → (statement_of ws >>= (λ o. said_in ls >>= (λ r. Ok (behind o r)))) ≡ Ok ss
+    → (statement_of ws >>= (λ o. said_in ls >>= (λ r. Ok (statements_from o r)))) ≡ Ok ss
 said_blank ws ls ss none rest =
-    ap (λ x. statement_of x >>= (λ o. said_in ls >>= (λ r. Ok (behind o r)))) none
-    ∙ ap (λ q. q >>= (λ r. Ok (behind None r))) rest
+    ap (λ x. statement_of x >>= (λ o. said_in ls >>= (λ r. Ok (statements_from o r)))) none
+    ∙ ap (λ q. q >>= (λ r. Ok (statements_from None r))) rest
 
 said_so : (ls : List (List ℕ)) (ss : List Statement) → AreSaid ls ss → said_in ls ≡ Ok ss
 said_so _ _ done = refl
 said_so _ _ (blank {ls} {ss} line none rest) = said_blank (words line) ls ss none (said_so ls ss rest)
 said_so _ _ (stated {ls} {ss} line s is rest) =
-    ap (λ q. q >>= (λ o. said_in ls >>= (λ r. Ok (behind o r)))) is
-    ∙ ap (λ q. q >>= (λ r. Ok (behind (Some s) r))) (said_so ls ss rest)
+    ap (λ q. q >>= (λ o. said_in ls >>= (λ r. Ok (statements_from o r)))) is
+    ∙ ap (λ q. q >>= (λ r. Ok (statements_from (Some s) r))) (said_so ls ss rest)
 
 pub parts_are_said : PartsAreSaid
 parts_are_said text s h =

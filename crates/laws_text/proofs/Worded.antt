@@ -11,9 +11,9 @@ use Rattle.scenario_words.specs.Reading.{◌>>=◌}
 use Rattle.scenario_statements.specs.Grammar.{statement_of}
 use Rattle.scenario_asm.specs.declared.fault.AsmFault.{AsmFault}
 use Rattle.scenario_asm.specs.Draft.{Draft, nothing}
-use Rattle.scenario_asm.specs.Text.{assembled, effect_of, line_after, lines_after, whole_of}
+use Rattle.scenario_asm.specs.Text.{effect_of, line_after, lines_after, scenario_of_text, whole_of}
 use Rattle.laws_text.specs.SameWords.{AreAlike, BlankLinesAddNothing, BlankLinesMoveFaults, OnlyWordsCount, kept_words}
-use Rattle.laws_text.specs.SameWords.{worded}
+use Rattle.laws_text.specs.SameWords.{words_of_lines}
 use Rattle.laws_text.specs.WrongLine.{AreBlank, StatesNothing}
 use Rattle.laws_text.proofs.Runs.{StopsAt, first_taken, go_on, stop_is, stops_at}
 use Rattle.laws_text.proofs.Wrong.{fault_at, line_is, nothing_is_missing, number, same_whole, states_nothing}
@@ -51,14 +51,15 @@ all_after [] d = Ok d
 all_after (ws ∷ more) d = after_words ws d >>= (λ e. all_after more e)
 
 ok_by : (ws : List (List ℕ)) (more : List (List ℕ)) (n : ℕ) (d e : Draft) → go_on more n (after_words ws d) ≡ Ok e
-    → ((f : Draft) → lines_after more (n + 1) f ≡ Ok e → all_after (worded more) f ≡ Ok e)
-    → all_after (kept_words ws (worded more)) d ≡ Ok e
+    → ((f : Draft) → lines_after more (n + 1) f ≡ Ok e → all_after (words_of_lines more) f ≡ Ok e)
+    → all_after (kept_words ws (words_of_lines more)) d ≡ Ok e
 ok_by [] more n d e h rest = rest d h
 ok_by (w ∷ ws) more n d e h rest =
     let s = first_taken more n (after_words (w ∷ ws) d) e h in
-    ap (λ r. r >>= (λ f. all_after (worded more) f)) s.1 ∙ rest s.0 s.2
+    ap (λ r. r >>= (λ f. all_after (words_of_lines more) f)) s.1 ∙ rest s.0 s.2
 
-ok_words : (ls : List (List ℕ)) (n : ℕ) (d e : Draft) → lines_after ls n d ≡ Ok e → all_after (worded ls) d ≡ Ok e
+ok_words : (ls : List (List ℕ)) (n : ℕ) (d e : Draft) → lines_after ls n d ≡ Ok e
+    → all_after (words_of_lines ls) d ≡ Ok e
 ok_words [] n d e h = let same : d ≡ e = cc in ap (λ x. Ok x) same
 ok_words (line ∷ more) n d e h = ok_by (words line) more n d e h (λ f g. ok_words more (n + 1) f e g)
 
@@ -68,20 +69,21 @@ bound (Ok f) k e h = (f, refl, h)
 bound (Err cause) k e h = absurd cc
 
 back_by : (ws : List (List ℕ)) (more : List (List ℕ)) (n : ℕ) (d e : Draft)
-    → all_after (kept_words ws (worded more)) d ≡ Ok e
-    → ((f : Draft) → all_after (worded more) f ≡ Ok e → lines_after more (n + 1) f ≡ Ok e)
+    → all_after (kept_words ws (words_of_lines more)) d ≡ Ok e
+    → ((f : Draft) → all_after (words_of_lines more) f ≡ Ok e → lines_after more (n + 1) f ≡ Ok e)
     → go_on more n (after_words ws d) ≡ Ok e
 back_by [] more n d e h rest = rest d h
 back_by (w ∷ ws) more n d e h rest =
-    let s = bound (after_words (w ∷ ws) d) (λ f. all_after (worded more) f) e h in
+    let s = bound (after_words (w ∷ ws) d) (λ f. all_after (words_of_lines more) f) e h in
     ap (go_on more n) s.1 ∙ rest s.0 s.2
 
-words_ok : (ls : List (List ℕ)) (n : ℕ) (d e : Draft) → all_after (worded ls) d ≡ Ok e → lines_after ls n d ≡ Ok e
+words_ok : (ls : List (List ℕ)) (n : ℕ) (d e : Draft) → all_after (words_of_lines ls) d ≡ Ok e
+    → lines_after ls n d ≡ Ok e
 words_ok [] n d e h = let same : d ≡ e = cc in ap (λ x. Ok x) same
 words_ok (line ∷ more) n d e h = back_by (words line) more n d e h (λ f g. words_ok more (n + 1) f e g)
 
 -- so lines of the same words make the same
-alike_taken : (xs ys : List (List ℕ)) (d e : Draft) → worded xs ≡ worded ys → lines_after xs 0 d ≡ Ok e
+alike_taken : (xs ys : List (List ℕ)) (d e : Draft) → words_of_lines xs ≡ words_of_lines ys → lines_after xs 0 d ≡ Ok e
     → lines_after ys 0 d ≡ Ok e
 alike_taken xs ys d e same h = words_ok ys 0 d e (ap (λ x. all_after x d) (sym same) ∙ ok_words xs 0 d e h)
 
@@ -96,11 +98,11 @@ put_append : (ws : List (List ℕ)) (xs ys : List (List (List ℕ))) → kept_wo
 put_append [] xs ys = refl
 put_append (w ∷ ws) xs ys = refl
 
-worded_append : (xs ys : List (List ℕ)) → worded (xs ++ ys) ≡ worded xs ++ worded ys
+worded_append : (xs ys : List (List ℕ)) → words_of_lines (xs ++ ys) ≡ words_of_lines xs ++ words_of_lines ys
 worded_append [] ys = refl
 worded_append (x ∷ xs) ys =
     ap (kept_words (words x)) (worded_append xs ys)
-    ∙ put_append (words x) (worded xs) (worded ys)
+    ∙ put_append (words x) (words_of_lines xs) (words_of_lines ys)
 
 longer_cut : (line : List ℕ) (more before : List (List ℕ)) (here : List ℕ) (behind : List (List ℕ))
     → more ≡ before ++ here ∷ behind → line ∷ more ≡ (line ∷ before) ++ here ∷ behind
@@ -111,7 +113,7 @@ record IsFound (ls : List (List ℕ)) (xs : List (List (List ℕ))) (ws : List (
   here : List ℕ
   behind : List (List ℕ)
   cut : ls ≡ before ++ here ∷ behind
-  same : worded before ≡ xs
+  same : words_of_lines before ≡ xs
   is : words here ≡ ws
 
 not_empty : (xs ys : List (List (List ℕ))) (ws : List (List ℕ)) → [] ≡ xs ++ ws ∷ ys → ⊥
@@ -119,13 +121,14 @@ not_empty [] ys ws h = cc
 not_empty (x ∷ xs) ys ws h = cc
 
 one_more_worded : (line : List ℕ) (before : List (List ℕ)) (xs : List (List (List ℕ))) (v : List ℕ)
-    (vs x : List (List ℕ)) → words line ≡ v ∷ vs → worded before ≡ xs → v ∷ vs ≡ x → worded (line ∷ before) ≡ x ∷ xs
+    (vs x : List (List ℕ)) → words line ≡ v ∷ vs → words_of_lines before ≡ xs → v ∷ vs ≡ x
+    → words_of_lines (line ∷ before) ≡ x ∷ xs
 one_more_worded line before xs v vs x is same first =
-    ap (λ ws. kept_words ws (worded before)) is ∙ ap (λ zs. (v ∷ vs) ∷ zs) same ∙ ap (λ z. z ∷ xs) first
+    ap (λ ws. kept_words ws (words_of_lines before)) is ∙ ap (λ zs. (v ∷ vs) ∷ zs) same ∙ ap (λ z. z ∷ xs) first
 
 found_by : (vs : List (List ℕ)) (line : List ℕ) (more : List (List ℕ)) (xs ys : List (List (List ℕ)))
-    (u : List ℕ) (us : List (List ℕ)) → words line ≡ vs → kept_words vs (worded more) ≡ xs ++ (u ∷ us) ∷ ys
-    → ((zs : List (List (List ℕ))) → worded more ≡ zs ++ (u ∷ us) ∷ ys → IsFound more zs (u ∷ us))
+    (u : List ℕ) (us : List (List ℕ)) → words line ≡ vs → kept_words vs (words_of_lines more) ≡ xs ++ (u ∷ us) ∷ ys
+    → ((zs : List (List (List ℕ))) → words_of_lines more ≡ zs ++ (u ∷ us) ∷ ys → IsFound more zs (u ∷ us))
     → IsFound (line ∷ more) xs (u ∷ us)
 found_by [] line more xs ys u us is h rest =
     let f = rest xs h in record {
@@ -133,7 +136,7 @@ found_by [] line more xs ys u us is h rest =
       here = f.here;
       behind = f.behind;
       cut = longer_cut line more f.before f.here f.behind f.cut;
-      same = ap (λ ws. kept_words ws (worded f.before)) is ∙ f.same;
+      same = ap (λ ws. kept_words ws (words_of_lines f.before)) is ∙ f.same;
       is = f.is;
     }
 found_by (v ∷ vs) line more [] ys u us is h rest =
@@ -141,7 +144,7 @@ found_by (v ∷ vs) line more [] ys u us is h rest =
     record { before = []; here = line; behind = more; cut = refl; same = refl; is = is ∙ first }
 found_by (v ∷ vs) line more (x ∷ xs) ys u us is h rest =
     let first : v ∷ vs ≡ x = cc in
-    let others : worded more ≡ xs ++ (u ∷ us) ∷ ys = cc in
+    let others : words_of_lines more ≡ xs ++ (u ∷ us) ∷ ys = cc in
     let f = rest xs others in record {
       before = line ∷ f.before;
       here = f.here;
@@ -152,7 +155,7 @@ found_by (v ∷ vs) line more (x ∷ xs) ys u us is h rest =
     }
 
 found : (ls : List (List ℕ)) (xs ys : List (List (List ℕ))) (u : List ℕ) (us : List (List ℕ))
-    → worded ls ≡ xs ++ (u ∷ us) ∷ ys → IsFound ls xs (u ∷ us)
+    → words_of_lines ls ≡ xs ++ (u ∷ us) ∷ ys → IsFound ls xs (u ∷ us)
 found [] xs ys u us h = absurd (not_empty xs ys (u ∷ us) h)
 found (line ∷ more) xs ys u us h =
     found_by (words line) line more xs ys u us refl h (λ zs g. found more zs ys u us g)
@@ -186,50 +189,50 @@ front_through ls before behind here n cut count =
 are_alike : (text other : List ℕ) (n m : ℕ) (before behind before2 behind2 : List (List ℕ)) (here here2 : List ℕ)
     → lines text ≡ before ++ here ∷ behind → n ≡ length before + 1
     → lines other ≡ before2 ++ here2 ∷ behind2 → m ≡ length before2 + 1
-    → worded before ≡ worded before2 → words here ≡ words here2 → AreAlike text n other m
+    → words_of_lines before ≡ words_of_lines before2 → words here ≡ words here2 → AreAlike text n other m
 are_alike text other n m before behind before2 behind2 here here2 cut count cut2 count2 same is = record {
-  before = ap worded (front_before (lines text) before behind here n cut count)
+  before = ap words_of_lines (front_before (lines text) before behind here n cut count)
       ∙ same
-      ∙ sym (ap worded (front_before (lines other) before2 behind2 here2 m cut2 count2));
-  through = ap worded (front_through (lines text) before behind here n cut count)
+      ∙ sym (ap words_of_lines (front_before (lines other) before2 behind2 here2 m cut2 count2));
+  through = ap words_of_lines (front_through (lines text) before behind here n cut count)
       ∙ worded_append before (here ∷ [])
       ∙ ap (λ x. x ++ kept_words (words here) []) same
-      ∙ ap (λ ws. worded before2 ++ kept_words ws []) is
+      ∙ ap (λ ws. words_of_lines before2 ++ kept_words ws []) is
       ∙ sym (worded_append before2 (here2 ∷ []))
-      ∙ sym (ap worded (front_through (lines other) before2 behind2 here2 m cut2 count2));
+      ∙ sym (ap words_of_lines (front_through (lines other) before2 behind2 here2 m cut2 count2));
 }
 
 -- a fault of the same cause, at a line that is alike
 abbrev Moved : List ℕ → List ℕ → AsmFault → Type 0
 Moved text other f =
-    (g : AsmFault) × (assembled other ≡ Err g) × (g.cause ≡ f.cause) × AreAlike text f.line other g.line
+    (g : AsmFault) × (scenario_of_text other ≡ Err g) × (g.cause ≡ f.cause) × AreAlike text f.line other g.line
 
-blank_worded : (ls : List (List ℕ)) → AreBlank ls → worded ls ≡ []
+blank_worded : (ls : List (List ℕ)) → AreBlank ls → words_of_lines ls ≡ []
 blank_worded [] h = refl
-blank_worded (line ∷ more) h = ap (λ ws. kept_words ws (worded more)) h.0 ∙ blank_worded more h.1
+blank_worded (line ∷ more) h = ap (λ ws. kept_words ws (words_of_lines more)) h.0 ∙ blank_worded more h.1
 
 worded_blank_by : (ws : List (List ℕ)) (line : List ℕ) (more : List (List ℕ)) → words line ≡ ws
-    → kept_words ws (worded more) ≡ [] → (worded more ≡ [] → AreBlank more) → AreBlank (line ∷ more)
+    → kept_words ws (words_of_lines more) ≡ [] → (words_of_lines more ≡ [] → AreBlank more) → AreBlank (line ∷ more)
 worded_blank_by [] line more is h rest = (is, rest h)
 worded_blank_by (w ∷ ws) line more is h rest = absurd cc
 
-worded_blank : (ls : List (List ℕ)) → worded ls ≡ [] → AreBlank ls
+worded_blank : (ls : List (List ℕ)) → words_of_lines ls ≡ [] → AreBlank ls
 worded_blank [] h = tt
 worded_blank (line ∷ more) h = worded_blank_by (words line) line more refl h (λ g. worded_blank more g)
 
-blank_front : (ls : List (List ℕ)) (n : ℕ) → AreBlank ls → worded (take n ls) ≡ []
+blank_front : (ls : List (List ℕ)) (n : ℕ) → AreBlank ls → words_of_lines (take n ls) ≡ []
 blank_front ls n h =
     blank_worded (take n ls)
     (each_front (λ line. words line ≡ []) (take n ls) (drop n ls) (subst AreBlank (sym (take-append-drop n ls)) h))
 
 -- of texts that state nothing
-nothing_moved : (text other : List ℕ) (f : AsmFault) → worded (lines text) ≡ worded (lines other)
-    → assembled text ≡ Err f → StatesNothing text → Moved text other f
+nothing_moved : (text other : List ℕ) (f : AsmFault) → words_of_lines (lines text) ≡ words_of_lines (lines other)
+    → scenario_of_text text ≡ Err f → StatesNothing text → Moved text other f
 nothing_moved text other f same h states =
     let too : StatesNothing other =
     worded_blank (lines other) (sym same ∙ blank_worded (lines text) states) in
     let is =
-    same_whole (assembled text) (record { line = 1; cause = Missing }) f (nothing_is_missing text states) h in (
+    same_whole (scenario_of_text text) (record { line = 1; cause = Missing }) f (nothing_is_missing text states) h in (
       f,
       nothing_is_missing other too ∙ ap (λ g. Err g) is,
       refl,
@@ -239,14 +242,14 @@ nothing_moved text other f same h states =
       },
     )
 
-stop_moved : (text other : List ℕ) (f : AsmFault) → worded (lines text) ≡ worded (lines other)
+stop_moved : (text other : List ℕ) (f : AsmFault) → words_of_lines (lines text) ≡ words_of_lines (lines other)
     → (s : StopsAt (lines text) 0 nothing f) → f ≡ record { line = 0 + length s.before + 1; cause = s.cause }
     → Moved text other f
 stop_moved text other f same s what =
     let some = has_words (words s.here) s.draft s.cause s.refused in
-    let place = found (lines other) (worded s.before) (worded s.behind) some.0 some.1
-    (sym same ∙ ap worded s.cut ∙ worded_append s.before (s.here ∷ s.behind)
-    ∙ ap (λ ws. worded s.before ++ kept_words ws (worded s.behind)) some.2) in
+    let place = found (lines other) (words_of_lines s.before) (words_of_lines s.behind) some.0 some.1
+    (sym same ∙ ap words_of_lines s.cut ∙ worded_append s.before (s.here ∷ s.behind)
+    ∙ ap (λ ws. words_of_lines s.before ++ kept_words ws (words_of_lines s.behind)) some.2) in
     let words_same : words s.here ≡ words place.here = some.2 ∙ sym place.is in (
       record { line = length place.before + 1; cause = s.cause },
       fault_at other (length place.before + 1) s.cause place.before place.behind place.here s.draft place.cut refl
@@ -257,8 +260,9 @@ stop_moved text other f same s what =
           place.here s.cut (line_is f _ what ∙ number (length s.before)) place.cut refl (sym place.same) words_same,
     )
 
-moved_by : (text other : List ℕ) (f : AsmFault) (r : Result Draft AsmFault) → worded (lines text) ≡ worded (lines other)
-    → assembled text ≡ Err f → lines_after (lines text) 0 nothing ≡ r → whole_of r ≡ Err f → Moved text other f
+moved_by : (text other : List ℕ) (f : AsmFault) (r : Result Draft AsmFault)
+    → words_of_lines (lines text) ≡ words_of_lines (lines other)
+    → scenario_of_text text ≡ Err f → lines_after (lines text) 0 nothing ≡ r → whole_of r ≡ Err f → Moved text other f
 moved_by text other f (Ok d) same all is h =
     nothing_moved text other f same all (states_nothing text d d.begun f refl is h).0
 moved_by text other f (Err first) same all is h =

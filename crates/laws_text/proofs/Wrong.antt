@@ -18,8 +18,8 @@ use Rattle.scenario_statements.specs.Spelling.{line_of}
 use Rattle.scenario_statements.proofs.Again.{line_alone, statement_again, words_of_line}
 use Rattle.scenario_asm.specs.declared.fault.AsmFault.{AsmFault}
 use Rattle.scenario_asm.specs.Denotes.{Denotes}
-use Rattle.scenario_asm.specs.Draft.{Draft, closed, nothing}
-use Rattle.scenario_asm.specs.Text.{assembled, effect_of, line_after, lines_after, whole, whole_of}
+use Rattle.scenario_asm.specs.Draft.{Draft, closed_scenario, nothing}
+use Rattle.scenario_asm.specs.Text.{effect_of, line_after, lines_after, scenario_of_text, whole_of, whole_scenario}
 use Rattle.scenario_asm.proofs.Denoting.{denotes_so, so_denotes}
 use Rattle.scenario_asm.proofs.Lines.{taken_more}
 use Rattle.laws_text.specs.WrongLine.{CanBegin, IsFirstWrong, IsRefusedAt, LaterLinesChangeNothing}
@@ -51,8 +51,8 @@ front_alone text before behind cut =
 
 -- ---- lines that are taken begin the text of a scenario
 
-whole_begun : (d : Draft) → d.begun ≡ true → whole d ≡ Ok (closed d)
-whole_begun d begun = ap (λ b. cond b (Ok (closed d)) (Err (record { line = 1; cause = Missing }))) begun
+whole_begun : (d : Draft) → d.begun ≡ true → whole_scenario d ≡ Ok (closed_scenario d)
+whole_begun d begun = ap (λ b. cond b (Ok (closed_scenario d)) (Err (record { line = 1; cause = Missing }))) begun
 
 begins : (ls : List (List ℕ)) (more : List (List ℕ)) (d e : Draft) → AllByRecursion IsLine (ls ++ more)
     → lines_after ls 0 nothing ≡ Ok d → lines_after (more ++ [] ∷ []) (0 + length ls) d ≡ Ok e → e.begun ≡ true
@@ -63,9 +63,9 @@ begins ls more d e alone taken rest begun =
     lines_again (ls ++ more) alone ∙ append_assoc ls more ([] ∷ []) in record {
       text = text;
       behind = more ++ [] ∷ [];
-      scenario = closed e;
+      scenario = closed_scenario e;
       are = cut;
-      denotes = so_denotes text (closed e) (ap (λ x. whole_of (lines_after x 0 nothing)) cut
+      denotes = so_denotes text (closed_scenario e) (ap (λ x. whole_of (lines_after x 0 nothing)) cut
           ∙ ap whole_of (run_on ls (more ++ [] ∷ []) 0 nothing d taken ∙ rest)
           ∙ whole_begun e begun);
     }
@@ -144,13 +144,14 @@ no_whole r s f h k = cc
 
 -- a text that no line refuses states nothing
 pub states_nothing : (text : List ℕ) (d : Draft) (b : Bool) (fault : AsmFault) → d.begun ≡ b
-    → lines_after (lines text) 0 nothing ≡ Ok d → whole d ≡ Err fault → StatesNothing text × (fault.line ≡ 1)
-states_nothing text d true fault is taken h = absurd (no_whole (whole d) (closed d) fault (whole_begun d is) h)
+    → lines_after (lines text) 0 nothing ≡ Ok d → whole_scenario d ≡ Err fault → StatesNothing text × (fault.line ≡ 1)
+states_nothing text d true fault is taken h =
+    absurd (no_whole (whole_scenario d) (closed_scenario d) fault (whole_begun d is) h)
 states_nothing text d false fault is taken h = (
   are_blank (lines text) 0 nothing d taken is,
   line_is fault (record { line = 1; cause = Missing })
-      (same_whole (whole d) fault (record { line = 1; cause = Missing }) h
-      (ap (λ b. cond b (Ok (closed d)) (Err (record { line = 1; cause = Missing }))) is)),
+      (same_whole (whole_scenario d) fault (record { line = 1; cause = Missing }) h
+      (ap (λ b. cond b (Ok (closed_scenario d)) (Err (record { line = 1; cause = Missing }))) is)),
 )
 
 refused_by : (text : List ℕ) (fault : AsmFault) (r : Result Draft AsmFault) → lines_after (lines text) 0 nothing ≡ r
@@ -160,7 +161,7 @@ refused_by text fault (Err other) is h =
     inl (subst (λ f. IsFirstWrong text f.line) same (first_wrong text other is))
 refused_by text fault (Ok d) is h = inr (states_nothing text d d.begun fault refl is h)
 
-refused_first : (text : List ℕ) (fault : AsmFault) → assembled text ≡ Err fault
+refused_first : (text : List ℕ) (fault : AsmFault) → scenario_of_text text ≡ Err fault
     → IsFirstWrong text fault.line ⊎ (StatesNothing text × (fault.line ≡ 1))
 refused_first text fault h = refused_by text fault (lines_after (lines text) 0 nothing) refl h
 
@@ -171,7 +172,7 @@ nothing_is_missing text h = ap whole_of (blank_run (lines text) 0 nothing h)
 
 pub fault_at : (text : List ℕ) (line : ℕ) (cause : Cause) (before behind : List (List ℕ)) (here : List ℕ) (d : Draft)
     → lines text ≡ before ++ here ∷ behind → line ≡ length before + 1 → lines_after before 0 nothing ≡ Ok d
-    → line_after here d ≡ Err cause → assembled text ≡ Err (record { line = line; cause = cause })
+    → line_after here d ≡ Err cause → scenario_of_text text ≡ Err (record { line = line; cause = cause })
 fault_at text line cause before behind here d cut count taken refused =
     ap (λ x. whole_of (lines_after x 0 nothing)) cut
     ∙ ap whole_of (refused_behind before here behind 0 nothing d cause taken refused)
@@ -214,7 +215,7 @@ same_front before here behind others same =
 
 later_by : (text other : List ℕ) (fault : AsmFault) (r : Result Draft AsmFault)
     → lines_after (lines text) 0 nothing ≡ r → whole_of r ≡ Err fault → IsFirstWrong text fault.line
-    → take fault.line (lines other) ≡ take fault.line (lines text) → assembled other ≡ Err fault
+    → take fault.line (lines other) ≡ take fault.line (lines text) → scenario_of_text other ≡ Err fault
 later_by text other fault (Ok d) is h w same =
     let states = states_nothing text d d.begun fault refl is h in
     absurd (w.wrong (can_begin (w.before ++ w.here ∷ []) nothing
@@ -245,7 +246,7 @@ later_lines text other fault h w same =
 ends_by : (text : List ℕ) (d : Draft) (b : Bool) → d.begun ≡ b → lines_after (lines text) 0 nothing ≡ Ok d
     → ((s : Scenario) → Denotes text s → ⊥) → StatesNothing text
 ends_by text d true is taken none =
-    absurd (none (closed d) (so_denotes text (closed d) (ap whole_of taken ∙ whole_begun d is)))
+    absurd (none (closed_scenario d) (so_denotes text (closed_scenario d) (ap whole_of taken ∙ whole_begun d is)))
 ends_by text d false is taken none = are_blank (lines text) 0 nothing d taken is
 
 pub nothing_else_ends : NothingElseEndsWrong

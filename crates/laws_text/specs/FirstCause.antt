@@ -25,9 +25,9 @@ use Rattle.scenario_statements.specs.Grammar.{statement_of}
 use Rattle.scenario_asm.specs.ClassLines.{has_object, is_stated}
 use Rattle.scenario_asm.specs.declared.fault.AsmFault.{AsmFault}
 use Rattle.scenario_asm.specs.Denotes.{AreSaid, Lead}
-use Rattle.scenario_asm.specs.Draft.{Draft, closed, nothing}
+use Rattle.scenario_asm.specs.Draft.{Draft, closed_scenario, nothing}
 use Rattle.scenario_asm.specs.Effect.{has_device, has_server}
-use Rattle.scenario_asm.specs.Text.{assembled}
+use Rattle.scenario_asm.specs.Text.{scenario_of_text}
 use Rattle.laws_text.specs.Parts.{said_step}
 use Rattle.laws_text.specs.WrongLine.{StatesNothing}
 
@@ -55,7 +55,7 @@ is_unstated (says.Object id) d = not d.begun || not (is_some d.open_class)
 is_unstated (says.Def r) d = not d.begun || (not (is_some d.open_class) || not (is_some d.object))
 is_unstated (says.Instance place) d = not d.begun || in_open true d (λ c. not (has_object c place.object))
 is_unstated (says.Value path v) d = not d.begun || in_open true d (λ c. not (is_stated c path))
-is_unstated (says.Device class) d = not d.begun || nat_le (length (closed d).classes) class
+is_unstated (says.Device class) d = not d.begun || nat_le (length (closed_scenario d).classes) class
 is_unstated (says.Recv server bytes) d = not d.begun || not (has_server d server)
 is_unstated (says.Request server m) d = not d.begun || not (has_server d server)
 is_unstated s d = not d.begun || not (has_device d)
@@ -98,7 +98,7 @@ is_step_over row step =
 -- it is one more than there may be, or too long
 abbrev pub is_over_limit : Statement → Draft → Bool
 is_over_limit says.Scenario d = false
-is_over_limit says.Class d = nat_le 256 (length (closed d).classes)
+is_over_limit says.Class d = nat_le 256 (length (closed_scenario d).classes)
 is_over_limit (says.Notify seconds) d = false
 is_over_limit (says.Account server) d = in_open false d (λ c. nat_le most_accounts (length c.accounts))
 is_over_limit (says.Object id) d = in_open false d (λ c. nat_le 16 (length c.catalog))
@@ -107,7 +107,7 @@ is_over_limit (says.Instance place) d = in_open false d (λ c. nat_le 64 (length
 is_over_limit (says.Value path v) d =
     in_open false d (λ c. option_map_or (λ p. not (has_good_length v)
     || (nat_le 65535 (value_count c.store) || has_all_parts c.store p)) (full_path path) false)
-is_over_limit (says.Device class) d = nat_le most_rows (length (closed d).rows)
+is_over_limit (says.Device class) d = nat_le most_rows (length (closed_scenario d).rows)
 is_over_limit s d = is_step_over (last_row d.scenario.rows) (said_step s)
 
 -- the first of the four
@@ -146,5 +146,5 @@ pub record IsFaultOf (text : List ℕ) (fault : AsmFault) : Type 0 where
 abbrev pub FaultsAreFirst : Type 0
 FaultsAreFirst =
     (text : List ℕ) (fault : AsmFault)
-    → (assembled text ≡ Err fault)
+    → (scenario_of_text text ≡ Err fault)
     ↔ (IsFaultOf text fault ⊎ (StatesNothing text × (fault ≡ record { line = 1; cause = Missing })))

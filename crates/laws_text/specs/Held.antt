@@ -15,7 +15,7 @@ use Rattle.scenario_image.specs.Scenario.{Scenario}
 use Rattle.scenario_statements.specs.declared.statement.Statement.{Statement}
 use Rattle.scenario_statements.specs.declared.statement.Statement.TheVariants as says
 use Rattle.scenario_asm.specs.Reading.{said_by}
-use Rattle.scenario_asm.specs.Text.{assembled}
+use Rattle.scenario_asm.specs.Text.{scenario_of_text}
 use Rattle.laws_text.specs.Parts.{AreMatched, class_parts, object_since}
 
 -- one of the statements is so; this may depend on the object that was stated last before it, which at first is that one
@@ -50,5 +50,5 @@ pub record HoldsWhatIsStated (part : List Statement) (c : Template) : Type 0 whe
 
 abbrev pub ClassesHoldWhatIsStated : Type 0
 ClassesHoldWhatIsStated =
-    (text : List ℕ) (s : Scenario) → assembled text ≡ Ok s
+    (text : List ℕ) (s : Scenario) → scenario_of_text text ≡ Ok s
     → (ss : List Statement) × (said_by text ≡ Ok ss) × AreMatched HoldsWhatIsStated (class_parts ss) s.classes

@@ -12,7 +12,7 @@ use Rattle.scenario_statements.specs.declared.statement.Statement.TheVariants as
 use Rattle.scenario_asm.specs.ClassLines.{account_added, definition_added, instance_added, notify_set}
 use Rattle.scenario_asm.specs.ClassLines.{object_added, value_added}
 use Rattle.scenario_asm.specs.Reading.{said_by}
-use Rattle.scenario_asm.specs.Text.{assembled}
+use Rattle.scenario_asm.specs.Text.{scenario_of_text}
 
 -- ---- classes
 
@@ -98,7 +98,7 @@ pub record IsSaid (ss : List Statement) (s : Scenario) : Type 0 where
 
 abbrev pub PartsAreSaid : Type 0
 PartsAreSaid =
-    (text : List ℕ) (s : Scenario) → assembled text ≡ Ok s
+    (text : List ℕ) (s : Scenario) → scenario_of_text text ≡ Ok s
     → (ss : List Statement) × (said_by text ≡ Ok ss) × IsSaid ss s
 
 -- the parts say one scenario

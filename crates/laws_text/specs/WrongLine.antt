@@ -7,7 +7,7 @@ use Rattle.scenario_words.specs.declared.cause.Cause.{Cause}
 use Rattle.scenario_words.specs.declared.cause.Cause.TheVariants.{Missing}
 use Rattle.scenario_asm.specs.declared.fault.AsmFault.{AsmFault}
 use Rattle.scenario_asm.specs.Denotes.{Denotes}
-use Rattle.scenario_asm.specs.Text.{assembled}
+use Rattle.scenario_asm.specs.Text.{scenario_of_text}
 
 -- the text of some scenario begins with these lines
 pub record CanBegin (ls : List (List ℕ)) : Type 0 where
@@ -36,7 +36,7 @@ StatesNothing text = AreBlank (lines text)
 
 -- the text is refused at this line, for some cause
 abbrev pub IsRefusedAt : List ℕ → ℕ → Type 0
-IsRefusedAt text line = (cause : Cause) × (assembled text ≡ Err (record { line = line; cause = cause }))
+IsRefusedAt text line = (cause : Cause) × (scenario_of_text text ≡ Err (record { line = line; cause = cause }))
 
 -- a text is refused at its first wrong line, and one that states nothing at line 1
 abbrev pub RefusedAtFirstWrong : Type 0
@@ -46,13 +46,14 @@ RefusedAtFirstWrong =
 -- texts that are the same up to the first wrong line of one have the same fault
 abbrev pub LaterLinesChangeNothing : Type 0
 LaterLinesChangeNothing =
-    (text : List ℕ) (other : List ℕ) (fault : AsmFault) → assembled text ≡ Err fault → IsFirstWrong text fault.line
-    → take fault.line (lines other) ≡ take fault.line (lines text) → assembled other ≡ Err fault
+    (text : List ℕ) (other : List ℕ) (fault : AsmFault) → scenario_of_text text ≡ Err fault
+    → IsFirstWrong text fault.line
+    → take fault.line (lines other) ≡ take fault.line (lines text) → scenario_of_text other ≡ Err fault
 
 -- a text that states nothing lacks something in line 1
 abbrev pub NothingIsMissing : Type 0
 NothingIsMissing =
-    (text : List ℕ) → StatesNothing text → assembled text ≡ Err (record { line = 1; cause = Missing })
+    (text : List ℕ) → StatesNothing text → scenario_of_text text ≡ Err (record { line = 1; cause = Missing })
 
 -- a fault that is found at the end of a text alone: where some text of a scenario begins with all of its lines, and it
 -- denotes none itself, it states nothing

@@ -55,8 +55,8 @@ is_one many = false
 is_one (one _) = true
 
 -- the format of this number, where it is served
-abbrev pub served : Extent → ℕ → Option Format
-served extent number =
+abbrev pub served_format : Extent → ℕ → Option Format
+served_format extent number =
     if number == 11542 then Some Tlv
     else if number == 0 then (if is_one extent then Some PlainText else None)
     else if number == 42 then (if is_opaque extent then Some OctetStream else None)
@@ -65,4 +65,4 @@ served extent number =
 -- the format that a request names, or the default one, where it is served
 abbrev pub format_for : Extent → Option ℕ → Option Format
 format_for extent None = Some (default_format extent)
-format_for extent (Some number) = served extent number
+format_for extent (Some number) = served_format extent number

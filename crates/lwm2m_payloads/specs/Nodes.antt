@@ -4,7 +4,7 @@ use Rattle.std.specs.Prelude.{is_some, if◌then◌else◌}
 use Rattle.std.specs.List.{filter}
 use Rattle.lwm2m_values.specs.Value.{text_of, bytes_of}
 use Rattle.lwm2m_values.specs.Tlv.{shortest_tlv}
-use Rattle.lwm2m_values.specs.Tree.{Tree, Trees, instance, multi, part, single, none, more, listed}
+use Rattle.lwm2m_values.specs.Tree.{Tree, Trees, instance, multi, part, single, none, more, trees_of_list}
 use Rattle.lwm2m_values.specs.declared.value.Value.{Value}
 use Rattle.object_defs.specs.Catalog.{resource_in}
 use Rattle.object_defs.specs.Operations.{can_read}
@@ -54,7 +54,7 @@ instance_node stored resources object i = instance i (nodes_of (shown_in stored 
 
 -- the records of an object: of these instances of it
 abbrev pub object_nodes : Stored → List ResourceDef → ℕ → List ℕ → Trees
-object_nodes stored resources object instances = listed (map (instance_node stored resources object) instances)
+object_nodes stored resources object instances = trees_of_list (map (instance_node stored resources object) instances)
 
 -- one value in a format; in TLV as this record of its bytes
 abbrev pub value_payload : Format → (List ℕ → Tree) → Value → List ℕ

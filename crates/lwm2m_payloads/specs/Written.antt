@@ -44,9 +44,9 @@ value_with mode given number before = option_or (value_given given number) (left
 abbrev pub is_taken_away : List ResourceDef → List Assignment → ℕ → Bool
 is_taken_away resources given r = list_any (λ d. d.id == r && is_lost given d) resources
 
-abbrev pub unnamed : Mode → List ResourceDef → List Assignment → ℕ → Option Value → Option Value
-unnamed Replace resources given r before = if is_taken_away resources given r then None else before
-unnamed Update resources given r before = before
+abbrev pub value_if_unnamed : Mode → List ResourceDef → List Assignment → ℕ → Option Value → Option Value
+value_if_unnamed Replace resources given r before = if is_taken_away resources given r then None else before
+value_if_unnamed Update resources given r before = before
 
 -- a value after a Write of its instance, by what its resource is given
 abbrev pub value_by : Mode → List ResourceDef → Option Assignment → Option ℕ → Option Value → Option Value
@@ -57,7 +57,7 @@ value_by mode resources (Some a) number before =
 abbrev pub value_behind : Mode → List ResourceDef → List Assignment → FullPath → Option Value → Option Value
 value_behind mode resources given q before =
     value_by mode resources (find (λ a. a.resource == q.resource) given) q.part
-    (unnamed mode resources given q.resource before)
+    (value_if_unnamed mode resources given q.resource before)
 
 -- each part is given once
 abbrev pub PartsOnce : PartList → Type 0

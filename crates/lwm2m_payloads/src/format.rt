@@ -1,5 +1,5 @@
 ghost use Rattle.std.specs.Prelude.{◌≡◌};
-ghost use Rattle.lwm2m_payloads.specs.Formats.{format_number, extent_of, extent_with, default_format, served};
+ghost use Rattle.lwm2m_payloads.specs.Formats.{format_number, extent_of, extent_with, default_format, served_format};
 ghost use Rattle.lwm2m_payloads.specs.Formats.{format_for};
 
 use lwm2m_values::ValueKind;
@@ -60,7 +60,7 @@ fn default_for(kind: Option<ValueKind>) -> Format
 
 /// The format of this number, where it is served.
 fn served(kind: Option<ValueKind>, number: u16) -> Option<Format>
-    ensures { result ≡ served (extent_with kind) number }
+    ensures { result ≡ served_format (extent_with kind) number }
 {
     if number == 11542 {
         return Some(Format::Tlv);

@@ -6,8 +6,8 @@ use Rattle.lwm2m_values.specs.declared.fault.TlvFault.{TlvFault}
 use Rattle.lwm2m_values.specs.declared.level.RecordType.{RecordType}
 use Rattle.lwm2m_values.specs.declared.level.Around.{Around}
 use Rattle.lwm2m_values.specs.Tree.{Trees, none, more}
-use Rattle.lwm2m_values.specs.Tlv.{IsHead, IsNodes, IsFront, HasFault, HasEarlyFault, is_allowed, inside, cut, nesting}
-use Rattle.lwm2m_values.specs.Tlv.{within, early_cut, early_nesting, early_within}
+use Rattle.lwm2m_values.specs.Tlv.{IsHead, IsNodes, IsFront, HasFault, HasEarlyFault, is_allowed, level_within, cut}
+use Rattle.lwm2m_values.specs.Tlv.{nesting, within, early_cut, early_nesting, early_within}
 use Rattle.lwm2m_values.proofs.OneRecord.{one_record}
 use Rattle.lwm2m_values.proofs.OneTlv.{inner_nodes, not_both}
 
@@ -23,7 +23,7 @@ early_is_fault _ _ _ (early_within level inner bytes kind id head content rest f
 pub early_inside : (level : Around) (bytes : List ℕ) (f : TlvFault) (kind : RecordType) (id : ℕ)
     (head content rest : List ℕ) → HasEarlyFault level bytes f → IsHead head kind id (length content)
     → bytes ≡ head ++ (content ++ rest) → is_allowed level kind ≡ true
-    → (inner : Around) × (inside kind ≡ Some inner) × HasEarlyFault inner content f
+    → (inner : Around) × (level_within kind ≡ Some inner) × HasEarlyFault inner content f
 early_inside _ _ _ kind id head content rest (early_cut level bytes long off) h e a =
     absurd (off head content rest kind id h e)
 early_inside _ _ _ kind id head content rest (early_nesting level bytes k i hd c r q w d) h e a =
@@ -32,7 +32,7 @@ early_inside _ _ _ kind id head content rest (early_nesting level bytes k i hd c
     cc
 early_inside _ _ _ kind id head content rest (early_within level inner bytes k i hd c r f q w d is v) h e a =
     let same = one_record head hd kind k id i content c rest r h q (sym e ∙ w) in
-    (inner, ap inside same.kind ∙ is, subst (λ (x : List ℕ). HasEarlyFault inner x f) (sym same.content) v)
+    (inner, ap level_within same.kind ∙ is, subst (λ (x : List ℕ). HasEarlyFault inner x f) (sym same.content) v)
 
 -- no record was read
 pub early_first : (level : Around) (bytes rest : List ℕ) (nodes : Trees) (f : TlvFault)

@@ -9,8 +9,8 @@ use Rattle.lwm2m_values.specs.declared.level.RecordType.TheVariants.{Instance, P
 use Rattle.lwm2m_values.specs.declared.level.Around.{Around}
 use Rattle.lwm2m_values.specs.declared.level.Around.TheVariants.{Top, InInstance, InMulti}
 use Rattle.lwm2m_values.specs.Tree.{Tree, Trees, instance, multi, part, single, none, more}
-use Rattle.lwm2m_values.specs.Tlv.{IsHead, IsCut, IsNodes, IsTlv, IsFront, Holds, HasFault, is_allowed, inside, cut}
-use Rattle.lwm2m_values.specs.Tlv.{nesting, within}
+use Rattle.lwm2m_values.specs.Tlv.{IsHead, IsCut, IsNodes, IsTlv, IsFront, Holds, HasFault, is_allowed, level_within}
+use Rattle.lwm2m_values.specs.Tlv.{cut, nesting, within}
 use Rattle.lwm2m_values.specs.Reading.{Record, record_at}
 use Rattle.lwm2m_values.proofs.TlvReading.{IsRecordOf, record_from, record_to, head_long}
 
@@ -44,7 +44,7 @@ Either level bytes = ((f : Trees) × IsNodes f level bytes) ⊎ ((e : TlvFault) 
 either_held : (kind : RecordType) (id : ℕ) (content : List ℕ)
     → ((inner : Around) → Either inner content)
     → ((t : Tree) × Holds t kind id content)
-    ⊎ ((inner : Around) × (e : TlvFault) × (inside kind ≡ Some inner) × HasFault inner content e)
+    ⊎ ((inner : Around) × (e : TlvFault) × (level_within kind ≡ Some inner) × HasFault inner content e)
 either_held Instance id content each =
     elim (each InInstance) [
       | inl p ↦ inl (instance id p.0, (refl, refl, p.1))

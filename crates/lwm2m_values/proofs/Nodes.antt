@@ -7,8 +7,8 @@ use Rattle.lwm2m_values.specs.declared.fault.TlvFault.TheVariants.{Cut, Nesting}
 use Rattle.lwm2m_values.specs.declared.level.RecordType.{RecordType}
 use Rattle.lwm2m_values.specs.declared.level.Around.{Around}
 use Rattle.lwm2m_values.specs.Tree.{Trees, tree_of, trees_of}
-use Rattle.lwm2m_values.specs.Tlv.{IsHead, IsCut, IsNodes, IsFront, Holds, HasFault, is_allowed, inside, cut, nesting}
-use Rattle.lwm2m_values.specs.Tlv.{within}
+use Rattle.lwm2m_values.specs.Tlv.{IsHead, IsCut, IsNodes, IsFront, Holds, HasFault, is_allowed, level_within, cut}
+use Rattle.lwm2m_values.specs.Tlv.{nesting, within}
 
 -- one more record after those that were read
 IsNodes-push : (nodes : List Node) (node : Node) (level : Around) (front head content : List ℕ) (kind : RecordType)
@@ -54,7 +54,7 @@ nesting_here level bytes at nodes kind id head content rest p is_head e allowed 
 pub within_here : (level : Around) (bytes at : List ℕ) (nodes : Trees) (kind : RecordType) (id : ℕ)
     (head content rest : List ℕ) (fault : TlvFault) → IsFront level bytes nodes at
     → IsHead head kind id (length content) → at ≡ head ++ (content ++ rest) → is_allowed level kind ≡ true
-    → (inner : Around) × (inside kind ≡ Some inner) × HasFault inner content fault → HasFault level bytes fault
+    → (inner : Around) × (level_within kind ≡ Some inner) × HasFault inner content fault → HasFault level bytes fault
 within_here level bytes at nodes kind id head content rest fault p is_head e allowed w =
     within level w.0 bytes nodes kind id head content rest fault
     (front_at level bytes at _ nodes p e) is_head allowed w.1 w.2

@@ -7,8 +7,8 @@ use Rattle.lwm2m_values.specs.declared.level.RecordType.{RecordType}
 use Rattle.lwm2m_values.specs.declared.level.Around.{Around}
 use Rattle.lwm2m_values.specs.declared.level.Around.TheVariants.{InInstance, InMulti}
 use Rattle.lwm2m_values.specs.Tree.{Tree, Trees, instance, multi, part, single, none, more}
-use Rattle.lwm2m_values.specs.Tlv.{IsHead, IsCut, IsNodes, IsFront, Holds, HasFault, is_allowed, inside, cut, nesting}
-use Rattle.lwm2m_values.specs.Tlv.{within}
+use Rattle.lwm2m_values.specs.Tlv.{IsHead, IsCut, IsNodes, IsFront, Holds, HasFault, is_allowed, level_within, cut}
+use Rattle.lwm2m_values.specs.Tlv.{nesting, within}
 use Rattle.lwm2m_values.proofs.OneRecord.{one_record}
 
 -- no record that may stand there begins here
@@ -35,26 +35,26 @@ end_nesting level kind id head content rest is_head allowed = λ tree k i h c r 
 
 pub inner_nodes : (tree : Tree) (kind : RecordType) (id : ℕ) (content : List ℕ) (inner : Around)
     → Holds tree kind id content
-    → inside kind ≡ Some inner → (nodes : Trees) × IsNodes nodes inner content
+    → level_within kind ≡ Some inner → (nodes : Trees) × IsNodes nodes inner content
 inner_nodes (instance i nodes) kind id content inner p e =
-    let same : Some InInstance ≡ Some inner = sym (ap inside p.0) ∙ e in
+    let same : Some InInstance ≡ Some inner = sym (ap level_within p.0) ∙ e in
     let level : InInstance ≡ inner = cc in
     (nodes, subst (λ (l : Around). IsNodes nodes l content) level p.2)
 inner_nodes (multi i nodes) kind id content inner p e =
-    let same : Some InMulti ≡ Some inner = sym (ap inside p.0) ∙ e in
+    let same : Some InMulti ≡ Some inner = sym (ap level_within p.0) ∙ e in
     let level : InMulti ≡ inner = cc in
     (nodes, subst (λ (l : Around). IsNodes nodes l content) level p.2)
 inner_nodes (part i bytes) kind id content inner p e = let same : None ≡ Some inner =
-    sym (ap inside p.0) ∙ e in absurd cc
+    sym (ap level_within p.0) ∙ e in absurd cc
 inner_nodes (single i bytes) kind id content inner p e = let same : None ≡ Some inner =
-    sym (ap inside p.0) ∙ e in absurd cc
+    sym (ap level_within p.0) ∙ e in absurd cc
 
 end_within : (level inner : Around) (kind : RecordType) (id : ℕ) (head content rest : List ℕ)
-    → IsHead head kind id (length content) → inside kind ≡ Some inner
+    → IsHead head kind id (length content) → level_within kind ≡ Some inner
     → ((nodes : Trees) → IsNodes nodes inner content → ⊥) → IsEnd level (head ++ (content ++ rest))
 end_within level inner kind id head content rest is_head e unread = λ tree k i h c r w at a holds.
     let same = one_record head h kind k id i content c rest r is_head w at in
-    let nodes = inner_nodes tree k i c inner holds (ap inside (sym same.kind) ∙ e) in
+    let nodes = inner_nodes tree k i c inner holds (ap level_within (sym same.kind) ∙ e) in
     unread nodes.0 (subst (λ (x : List ℕ). IsNodes nodes.0 inner x) (sym same.content) nodes.1)
 
 mutual
@@ -175,7 +175,7 @@ one_fault _ _ _ _ (within level inner bytes f kind id head content rest d p h al
     (end_within level inner kind id head content rest h is_inner (not_both inner content d w))
     (end_within level deep k i hd c r v is_deep (not_both deep c e x)) in
     let same = one_record head hd kind k id i content c rest r h v place in
-    let levels : Some deep ≡ Some inner = sym is_deep ∙ ap inside (sym same.kind) ∙ is_inner in
+    let levels : Some deep ≡ Some inner = sym is_deep ∙ ap level_within (sym same.kind) ∙ is_inner in
     let level_same : deep ≡ inner = cc in
     let there : HasFault inner c e = subst (λ (l : Around). HasFault l c e) level_same x in
     one_fault inner content d e w (subst (λ (y : List ℕ). HasFault inner y e) (sym same.content) there)

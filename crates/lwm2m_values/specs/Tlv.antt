@@ -32,11 +32,11 @@ is_allowed InMulti Multi = false
 is_allowed InMulti Single = false
 
 -- what holds records is the level of those within
-abbrev pub inside : RecordType → Option Around
-inside Instance = Some InInstance
-inside Multi = Some InMulti
-inside Part = None
-inside Single = None
+abbrev pub level_within : RecordType → Option Around
+level_within Instance = Some InInstance
+level_within Multi = Some InMulti
+level_within Part = None
+level_within Single = None
 
 -- these bytes stand before a content of this size: the first byte, the identifier in one byte or two by bit 5, and a
 -- length field of as many bytes as bits 4 and 3 say; with none, bits 2 to 0 are the length
@@ -91,7 +91,7 @@ pub data HasFault : Around → List ℕ → TlvFault → Type 0 where
       → IsHead head kind id (length content) → is_allowed level kind ≡ false → HasFault level bytes Nesting
   within : (level inner : Around) (bytes : List ℕ) (nodes : Trees) (kind : RecordType) (id : ℕ)
       (head content rest : List ℕ) (fault : TlvFault) → IsFront level bytes nodes (head ++ (content ++ rest))
-      → IsHead head kind id (length content) → is_allowed level kind ≡ true → inside kind ≡ Some inner
+      → IsHead head kind id (length content) → is_allowed level kind ≡ true → level_within kind ≡ Some inner
       → HasFault inner content fault → HasFault level bytes fault
 
 -- The first record is at fault: it is cut, or not allowed there, or so is the first record of its content.
@@ -102,7 +102,7 @@ pub data HasEarlyFault : Around → List ℕ → TlvFault → Type 0 where
       → HasEarlyFault level bytes Nesting
   early_within : (level inner : Around) (bytes : List ℕ) (kind : RecordType) (id : ℕ) (head content rest : List ℕ)
       (fault : TlvFault) → IsHead head kind id (length content) → bytes ≡ head ++ (content ++ rest)
-      → is_allowed level kind ≡ true → inside kind ≡ Some inner → HasEarlyFault inner content fault
+      → is_allowed level kind ≡ true → level_within kind ≡ Some inner → HasEarlyFault inner content fault
       → HasEarlyFault level bytes fault
 
 -- two bytes of a number, the high one first

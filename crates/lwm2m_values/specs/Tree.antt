@@ -17,14 +17,14 @@ mutual
     none : Trees
     more : Tree → Trees → Trees
 
-abbrev pub listed : List Tree → Trees
-listed [] = none
-listed (t ∷ ts) = more t (listed ts)
+abbrev pub trees_of_list : List Tree → Trees
+trees_of_list [] = none
+trees_of_list (t ∷ ts) = more t (trees_of_list ts)
 
 -- one node, with the tree of each inner node in its place
 abbrev pub tree_step : Node-F Tree → Tree
-tree_step (Node-F.Instance id children) = instance id (listed children.items)
-tree_step (Node-F.Multi id parts) = multi id (listed parts.items)
+tree_step (Node-F.Instance id children) = instance id (trees_of_list children.items)
+tree_step (Node-F.Multi id parts) = multi id (trees_of_list parts.items)
 tree_step (Node-F.Part id bytes) = part id bytes
 tree_step (Node-F.Single id bytes) = single id bytes
 
@@ -34,4 +34,4 @@ tree_of = fold-Node Tree tree_step
 
 -- the trees of nodes
 abbrev pub trees_of : List Node → Trees
-trees_of nodes = listed (map tree_of nodes)
+trees_of nodes = trees_of_list (map tree_of nodes)

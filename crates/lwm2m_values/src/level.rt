@@ -1,5 +1,5 @@
 ghost use Rattle.std.specs.Prelude.{◌≡◌, ◌/◌};
-ghost use Rattle.lwm2m_values.specs.Tlv.{type_bits, is_allowed, inside};
+ghost use Rattle.lwm2m_values.specs.Tlv.{type_bits, is_allowed, level_within};
 
 /// The type of a record, bits 7 and 6 of its first byte.
 #[derive(Clone, Copy, Debug, PartialEq, Eq)]

@@ -5,7 +5,7 @@ ghost use Rattle.lwm2m_values.specs.declared.fault.TlvFault.TheVariants.{Memory}
 ghost use Rattle.lwm2m_values.specs.declared.level.Around.{Around};
 ghost use Rattle.lwm2m_values.specs.declared.level.Around.TheVariants.{Top};
 ghost use Rattle.lwm2m_values.specs.Tree.{Trees, tree_of, trees_of};
-ghost use Rattle.lwm2m_values.specs.Tlv.{IsNodes, IsTlv, Holds, HasFault, HasEarlyFault, inside};
+ghost use Rattle.lwm2m_values.specs.Tlv.{IsNodes, IsTlv, Holds, HasFault, HasEarlyFault, level_within};
 ghost use Rattle.lwm2m_values.specs.Reading.{nodes_of_bytes};
 
 use crate::fault::TlvFault;
@@ -45,9 +45,9 @@ fn nodes_of(alloc: Global, level: Around, bytes: &[u8]) -> Result<Vec<Node>, Tlv
 #[cycle(reading)]
 fn node_of(alloc: Global, kind: RecordType, id: u16, content: &[u8]) -> Result<Node, TlvFault>
     ensures found { IfOk result (λ n. Holds (tree_of n) kind id content.now) }
-    ensures fault { IfErr result (λ f. f ≢ Memory → (inner : Around) × (inside kind ≡ Some inner)
+    ensures fault { IfErr result (λ f. f ≢ Memory → (inner : Around) × (level_within kind ≡ Some inner)
         × HasFault inner content.now f) }
-    ensures early { (inner : Around) (f : TlvFault) → inside kind ≡ Some inner → HasEarlyFault inner content.now f
+    ensures early { (inner : Around) (f : TlvFault) → level_within kind ≡ Some inner → HasEarlyFault inner content.now f
         → result ≡ Err f }
 {
     match kind {

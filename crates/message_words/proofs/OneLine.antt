@@ -15,7 +15,7 @@ use Rattle.coap_codec.specs.declared.fault.CoapFault.{CoapFault}
 use Rattle.coap_codec.specs.declared.fault.CoapFault.TheVariants as faults
 use Rattle.coap_codec.specs.Number.{big_endian}
 use Rattle.scenario_words.specs.HexWord.{digit_of, hex_byte, hex_word}
-use Rattle.scenario_words.specs.Quoted.{is_plain, escaped, quoted_word}
+use Rattle.scenario_words.specs.Quoted.{is_plain, escaped_byte, quoted_word}
 use Rattle.message_words.specs.Names.{type_name, methods, successes, client_errors, server_errors, formats, name_in}
 use Rattle.message_words.specs.Names.{code_name, behind_space, class_and_detail, code_text, name_or_number, format_text}
 use Rattle.message_words.specs.Options.{is_unescaped, uri_byte, uri_text, is_recognized, segment_text, plain_option}
@@ -73,13 +73,13 @@ pub chosen_as : (v : Bool) (xs ys : List ℕ) → (v ≡ true → clean xs ≡ t
 chosen_as true xs ys h k = h refl
 chosen_as false xs ys h k = k
 
-pub escaped_line : (b : ℕ) → clean (escaped b) ≡ true
+pub escaped_line : (b : ℕ) → clean (escaped_byte b) ≡ true
 escaped_line b =
     chosen_as (is_plain b) _ _ (λ h. and_from _ _ (and_first _ _ (and_first _ _ h)) refl)
     (and_from _ _ (hex_digit (b / 16)) (and_from _ _ (hex_digit (b % 16)) refl))
 
 pub quoted_line : (t : List ℕ) → clean (quoted_word t) ≡ true
-quoted_line t = joined (flat_map escaped t) (34 ∷ []) (flat_line escaped escaped_line t) refl
+quoted_line t = joined (flat_map escaped_byte t) (34 ∷ []) (flat_line escaped_byte escaped_line t) refl
 
 pub any_line : (cs : List ℕ) (b : ℕ) → clean cs ≡ true → list_any (λ c. c == b) cs ≡ true → nat_le 32 b ≡ true
 any_line [] b h k = cc

@@ -15,10 +15,10 @@ use Rattle.device_requests.specs.Answer.{code_byte, is_content}
 use Rattle.device_requests.specs.Client.{Client}
 use Rattle.device_notifications.specs.declared.datagram.Datagram.{Datagram}
 use Rattle.device_notifications.specs.declared.evaluation.Evaluation.TheVariants.{Quiet, Sends, Gone}
-use Rattle.device_notifications.specs.Message.{resent}
+use Rattle.device_notifications.specs.Message.{resent_datagram}
 use Rattle.device_notifications.specs.Period.{pmin_of, pmax_of}
 use Rattle.device_notifications.specs.Report.{number_at}
-use Rattle.device_notifications.specs.Second.{age_of, evaluation_of, is_due_now, present, triggers_now, turn_as}
+use Rattle.device_notifications.specs.Second.{age_of, evaluation_of, is_due_now, present_answer, triggers_now, turn_as}
 use Rattle.device_notifications.specs.Second.{turn_by, turn_of}
 use Rattle.device_notifications.proofs.Turns.{due_waits}
 use Rattle.notification_reasons.specs.Finding.{reason_at, reason_by, reason_in, resent_reason, times_of, trigger_of}
@@ -86,37 +86,38 @@ Tells client clock o turn found =
     (λ r. IsNotificationReason client clock o r
     × ((next_id : ℕ) → (d : Datagram) × ((turn_as client clock next_id o turn).sent ≡ d ∷ [])))
 
-quiet_by : (client : Client) (clock : ℕ) (o : Observation) → is_content (present client o) ≡ true
-    → is_due_now client clock o (present client o).payload ≡ false → evaluation_of client clock o ≡ Quiet
+quiet_by : (client : Client) (clock : ℕ) (o : Observation) → is_content (present_answer client o) ≡ true
+    → is_due_now client clock o (present_answer client o).payload ≡ false → evaluation_of client clock o ≡ Quiet
 quiet_by client clock o c d = rw (c, d) refl
 
-sends_by : (client : Client) (clock : ℕ) (o : Observation) → is_content (present client o) ≡ true
-    → is_due_now client clock o (present client o).payload ≡ true
-    → evaluation_of client clock o ≡ Sends (present client o)
+sends_by : (client : Client) (clock : ℕ) (o : Observation) → is_content (present_answer client o) ≡ true
+    → is_due_now client clock o (present_answer client o).payload ≡ true
+    → evaluation_of client clock o ≡ Sends (present_answer client o)
 sends_by client clock o c d = rw (c, d) refl
 
-gone_by : (client : Client) (clock : ℕ) (o : Observation) → is_content (present client o) ≡ false
-    → evaluation_of client clock o ≡ Gone (present client o)
+gone_by : (client : Client) (clock : ℕ) (o : Observation) → is_content (present_answer client o) ≡ false
+    → evaluation_of client clock o ≡ Gone (present_answer client o)
 gone_by client clock o c = rw c refl
 
-sent_by : (client : Client) (clock next_id : ℕ) (o : Observation) → is_content (present client o) ≡ true
-    → is_due_now client clock o (present client o).payload ≡ true
+sent_by : (client : Client) (clock next_id : ℕ) (o : Observation) → is_content (present_answer client o) ≡ true
+    → is_due_now client clock o (present_answer client o).payload ≡ true
     → (d : Datagram) × ((turn_as client clock next_id o Evaluate).sent ≡ d ∷ [])
 sent_by client clock next_id o c d =
     (_, ap (λ v. (turn_by client clock next_id o v).sent) (sends_by client clock o c d))
 
 ready : (client : Client) (clock : ℕ) (o : Observation) → turn_at o clock ≡ Evaluate
-    → is_content (present client o) ≡ true → pmin_of client o.server o.path ≤ age_of clock o
+    → is_content (present_answer client o) ≡ true → pmin_of client o.server o.path ≤ age_of clock o
     → IsReady client clock o (age_of clock o) (pmin_of client o.server o.path)
 ready client clock o is c waited =
     record { evaluated = is; content = c; age_is = refl; pmin_is = refl; waited = waited }
 
 -- what triggers, as the reason has it
-due_by : (client : Client) (o : Observation) (age pmin : ℕ) → triggers_now client o (present client o).payload ≡ true
+due_by : (client : Client) (o : Observation) (age pmin : ℕ)
+    → triggers_now client o (present_answer client o).payload ≡ true
     → IsDueBy client o age pmin (trigger_of client o)
 due_by client o age pmin h =
     trigger_found (gt_of client o) (lt_of client o) (st_of client o) o.report.number (number_at client o.path)
-    o.report.payload (present client o).payload (IsDueBy client o age pmin) h
+    o.report.payload (present_answer client o).payload (IsDueBy client o age pmin) h
     (λ a b g old now is holds. (record { old_is = old; now_is = now }, is, holds))
     (λ a b l old now is holds no_gt. (record { old_is = old; now_is = now }, is, holds, no_gt))
     (λ a b s old now is holds no_gt no_lt. (record { old_is = old; now_is = now }, is, holds, no_gt, no_lt))
@@ -125,8 +126,9 @@ due_by client o age pmin h =
 evaluated_found : (client : Client) (clock : ℕ) (o : Observation) → turn_at o clock ≡ Evaluate
     → Tells client clock o Evaluate (reason_in client clock o Evaluate)
 evaluated_found client clock o is =
-    by_outlook (is_content (present client o)) (triggers_now client o (present client o).payload) (age_of clock o)
-    (pmin_of client o.server o.path) (pmax_of client o.server o.path) (code_byte (present client o).code)
+    by_outlook (is_content (present_answer client o)) (triggers_now client o (present_answer client o).payload)
+    (age_of clock o)
+    (pmin_of client o.server o.path) (pmax_of client o.server o.path) (code_byte (present_answer client o).code)
     (trigger_of client o) (Tells client clock o Evaluate)
     (λ c d next_id. ap (λ v. (turn_by client clock next_id o v).sent) (quiet_by client clock o c d))
     (λ c t d waited. (
@@ -161,7 +163,7 @@ resent_found client clock o is =
         second_of = there.2.at;
         after_is = there.2.after;
       },
-      λ next_id. (resent o there.0, ap (λ t. option_to_list (option_map (resent o) t)) there.1),
+      λ next_id. (resent_datagram o there.0, ap (λ t. option_to_list (option_map (resent_datagram o) t)) there.1),
     )
 
 found_as : (client : Client) (clock : ℕ) (o : Observation) (turn : Turn) → turn_at o clock ≡ turn
@@ -204,32 +206,33 @@ elapsed_of age pmin m code by h e = rw (due_elapsed age pmin m h e) refl
 -- the reason of one that is evaluated
 abbrev reason_from : Client → ℕ → Observation → Bool → Bool → ℕ → ℕ → Option ℕ → DueBy → Option NotificationReason
 reason_from client clock o c t age pmin pmax by =
-    reason_by (said_of c t pmin pmax (code_byte (present client o).code)) by age
+    reason_by (said_of c t pmin pmax (code_byte (present_answer client o).code)) by age
 
 reason_is : (client : Client) (clock : ℕ) (o : Observation) → turn_at o clock ≡ Evaluate
     → reason_at client clock o
-    ≡ reason_from client clock o (is_content (present client o)) (triggers_now client o (present client o).payload)
+    ≡ reason_from client clock o (is_content (present_answer client o))
+    (triggers_now client o (present_answer client o).payload)
     (age_of clock o) (pmin_of client o.server o.path) (pmax_of client o.server o.path) (trigger_of client o)
 reason_is client clock o is = ap (reason_in client clock o) is
 
 triggered_alone : (client : Client) (clock : ℕ) (o : Observation) (age pmin : ℕ) (by : DueBy)
     → IsReady client clock o age pmin
     → IsBy (gt_of client o) (lt_of client o) (st_of client o) o.report.number (number_at client o.path) o.report.payload
-    (present client o).payload by
+    (present_answer client o).payload by
     → reason_at client clock o ≡ Some (Due by age pmin)
 triggered_alone client clock o age pmin by h is =
     reason_is client clock o h.evaluated
     ∙ (λ i. reason_from client clock o (h.content i) (is.triggers i) (h.age_is i) (h.pmin_is i)
     (pmax_of client o.server o.path) (is.found i))
-    ∙ due_of age pmin (pmax_of client o.server o.path) (code_byte (present client o).code) by h.waited
+    ∙ due_of age pmin (pmax_of client o.server o.path) (code_byte (present_answer client o).code) by h.waited
 
 elapsed_alone : (client : Client) (clock : ℕ) (o : Observation) (age pmin m : ℕ) → IsReady client clock o age pmin
-    → triggers_now client o (present client o).payload ≡ false → pmax_of client o.server o.path ≡ Some m
+    → triggers_now client o (present_answer client o).payload ≡ false → pmax_of client o.server o.path ≡ Some m
     → IsElapsed age pmin m → reason_at client clock o ≡ Some (Due (Pmax m) age pmin)
 elapsed_alone client clock o age pmin m h none is over =
     reason_is client clock o h.evaluated
     ∙ (λ i. reason_from client clock o (h.content i) (none i) (h.age_is i) (h.pmin_is i) (is i) (trigger_of client o))
-    ∙ elapsed_of age pmin m (code_byte (present client o).code) (trigger_of client o) h.waited over
+    ∙ elapsed_of age pmin m (code_byte (present_answer client o).code) (trigger_of client o) h.waited over
 
 due_alone : (client : Client) (clock : ℕ) (o : Observation) (age pmin : ℕ) (by : DueBy)
     → IsReady client clock o age pmin → IsDueBy client o age pmin by
@@ -237,19 +240,19 @@ due_alone : (client : Client) (clock : ℕ) (o : Observation) (age pmin : ℕ) (
 due_alone client clock o age pmin (Gt a b g) ready h =
     triggered_alone client clock o age pmin (Gt a b g) ready
     (gt_is (gt_of client o) (lt_of client o) (st_of client o) o.report.number (number_at client o.path) o.report.payload
-    (present client o).payload a b g h.0.old_is h.0.now_is h.1 h.2)
+    (present_answer client o).payload a b g h.0.old_is h.0.now_is h.1 h.2)
 due_alone client clock o age pmin (Lt a b l) ready h =
     triggered_alone client clock o age pmin (Lt a b l) ready
     (lt_is (gt_of client o) (lt_of client o) (st_of client o) o.report.number (number_at client o.path) o.report.payload
-    (present client o).payload a b l h.0.old_is h.0.now_is h.1 h.2 h.3)
+    (present_answer client o).payload a b l h.0.old_is h.0.now_is h.1 h.2 h.3)
 due_alone client clock o age pmin (St a b s) ready h =
     triggered_alone client clock o age pmin (St a b s) ready
     (st_is (gt_of client o) (lt_of client o) (st_of client o) o.report.number (number_at client o.path) o.report.payload
-    (present client o).payload a b s h.0.old_is h.0.now_is h.1 h.2 h.3 h.4)
+    (present_answer client o).payload a b s h.0.old_is h.0.now_is h.1 h.2 h.3 h.4)
 due_alone client clock o age pmin Payload ready h =
     triggered_alone client clock o age pmin Payload ready
     (payload_is (gt_of client o) (lt_of client o) (st_of client o) o.report.number (number_at client o.path)
-    o.report.payload (present client o).payload h.0 h.1)
+    o.report.payload (present_answer client o).payload h.0 h.1)
 due_alone client clock o age pmin (Pmax m) ready h =
     elapsed_alone client clock o age pmin m ready h.0 h.1 (h.2, h.3, h.4)
 
@@ -270,7 +273,7 @@ ended_alone : (client : Client) (clock : ℕ) (o : Observation) (code : ℕ) →
     → reason_at client clock o ≡ Some (Ended code)
 ended_alone client clock o code h =
     reason_is client clock o h.evaluated
-    ∙ ap (λ c. reason_from client clock o c (triggers_now client o (present client o).payload) (age_of clock o)
+    ∙ ap (λ c. reason_from client clock o c (triggers_now client o (present_answer client o).payload) (age_of clock o)
     (pmin_of client o.server o.path) (pmax_of client o.server o.path) (trigger_of client o)) h.no_content
     ∙ ap (λ n. Some (Ended n)) h.code_is
 

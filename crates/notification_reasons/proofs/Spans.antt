@@ -7,16 +7,17 @@ use Rattle.lemmas.proofs.Lists.{take_one_more}
 use Rattle.notifier.specs.declared.observation.Observation.{Observation}
 use Rattle.device_requests.specs.Client.{Client}
 use Rattle.device_notifications.specs.declared.datagram.Datagram.{Datagram}
-use Rattle.device_notifications.specs.Second.{Sweep, quiet, second, seconds, turn_of}
+use Rattle.device_notifications.specs.Second.{Sweep, quiet_sweep, second, seconds, turn_of}
 use Rattle.device_notifications.proofs.Resting.{none_left, none_right}
 use Rattle.device_notifications.proofs.Spans.{seconds_add}
-use Rattle.device_machine.specs.Reactions.{later, passes_end, sweep_in}
+use Rattle.device_machine.specs.Reactions.{flat_after_seconds, passes_end, sweep_in}
 use Rattle.device_machine.specs.State.{Machine}
 use Rattle.device_machine.specs.declared.event.Event.TheVariants.{Tick}
 use Rattle.notification_reasons.specs.Finding.{reason_at}
 use Rattle.notification_reasons.specs.Laws.{AreSentAs, IsSentAs, TicksSendThese}
 use Rattle.notification_reasons.specs.Reasons.{SendsNothing}
-use Rattle.notification_reasons.specs.Sendings.{AreSendings, AreSendingsIn, AreTickSendings, IsQuietFor, IsSending, Tells}
+use Rattle.notification_reasons.specs.Sendings.{AreSendings, AreSendingsIn, AreTickSendings, IsQuietFor, IsSending}
+use Rattle.notification_reasons.specs.Sendings.{Tells}
 use Rattle.notification_reasons.specs.declared.reasons.NotificationReason.{NotificationReason}
 use Rattle.notification_reasons.specs.declared.reasons.Sending.{Sending}
 use Rattle.notification_reasons.proofs.Found.{told}
@@ -67,7 +68,7 @@ silent_second client clock next_id (o ∷ os) h =
 -- ---- many seconds
 
 quiet_seconds : (client : Client) (clock n next_id : ℕ) (os : List Observation)
-    → ((t : ℕ) → clock < t → t ≤ clock + n → second client t next_id os ≡ quiet next_id os)
+    → ((t : ℕ) → clock < t → t ≤ clock + n → second client t next_id os ≡ quiet_sweep next_id os)
     → AreSendingsIn client clock n next_id os []
 quiet_seconds client clock zero next_id os h = refl
 quiet_seconds client clock (suc n) next_id os h =
@@ -112,10 +113,10 @@ add client clock (suc a) b next_id os xs ys h k =
 
 -- a tick, and one after it
 pub ticks_add : (f : Machine) (a b : ℕ) (xs ys : List Sending) → AreTickSendings f a xs
-    → AreTickSendings (later f a) b ys → AreTickSendings f (a + b) (xs ++ ys)
+    → AreTickSendings (flat_after_seconds f a) b ys → AreTickSendings f (a + b) (xs ++ ys)
 ticks_add f a b xs ys h k = add f.kept.client f.kept.clock a b f.kept.next_id f.kept.observations xs ys h k
 
-pub later_later : (f : Machine) (a b : ℕ) → later (later f a) b ≡ later f (a + b)
+pub later_later : (f : Machine) (a b : ℕ) → flat_after_seconds (flat_after_seconds f a) b ≡ flat_after_seconds f (a + b)
 later_later f a b =
     let all = seconds_add f.kept.client f.kept.clock a b f.kept.next_id f.kept.observations in
     let at : f.kept.clock + (a + b) ≡ f.kept.clock + a + b = omega arith in
@@ -127,17 +128,19 @@ later_later f a b =
 -- the last of some seconds, where the others are quiet
 pub last_second : (f : Machine) (wait clock : ℕ) (here : List Sending) → 1 ≤ wait → IsQuietFor f (wait - 1)
     → clock ≡ f.kept.clock + (wait - 1) + 1
-    → AreSendings f.kept.client clock (later f (wait - 1)).kept.observations here → AreTickSendings f wait here
+    → AreSendings f.kept.client clock (flat_after_seconds f (wait - 1)).kept.observations here
+    → AreTickSendings f wait here
 last_second f wait clock here some rest at h =
     let all : wait - 1 + 1 ≡ wait = omega (arith, some) in
-    let now = subst (λ c. AreSendings f.kept.client c (later f (wait - 1)).kept.observations here) at h in
+    let now = subst (λ c. AreSendings f.kept.client c (flat_after_seconds f (wait - 1)).kept.observations here) at h in
     subst (λ n. AreTickSendings f n here) all
     (ticks_add f (wait - 1) 1 [] here (quiet_tick f (wait - 1) rest) (here, [], now, refl, sym (append-nil here)))
 
-pub later_last : (f : Machine) (wait : ℕ) → 1 ≤ wait → later (later f (wait - 1)) 1 ≡ later f wait
+pub later_last : (f : Machine) (wait : ℕ) → 1 ≤ wait
+    → flat_after_seconds (flat_after_seconds f (wait - 1)) 1 ≡ flat_after_seconds f wait
 later_last f wait some =
     let all : wait - 1 + 1 ≡ wait = omega (arith, some) in
-    later_later f (wait - 1) 1 ∙ ap (λ n. later f n) all
+    later_later f (wait - 1) 1 ∙ ap (λ n. flat_after_seconds f n) all
 
 -- ---- up to the end of the clock
 
@@ -221,36 +224,38 @@ next_sends client clock os i o ss s at h is =
 -- what is told in the second after these
 pub told_there : (f : Machine) (wait shown clock : ℕ) (client : Client) (os : List Observation) (here : List Sending)
     → 1 ≤ wait → IsQuietFor f (wait - 1) → passes_end f.kept.clock (Tick wait) ≡ false
-    → shown ≡ (later f (wait - 1)).kept.clock → clock ≡ min (shown + 1) (2 ^ 64 - 1) → client ≡ f.kept.client
-    → os ≡ (later f (wait - 1)).kept.observations → AreSendings client clock os here → AreTickSendings f wait here
+    → shown ≡ (flat_after_seconds f (wait - 1)).kept.clock → clock ≡ min (shown + 1) (2 ^ 64 - 1)
+    → client ≡ f.kept.client
+    → os ≡ (flat_after_seconds f (wait - 1)).kept.observations → AreSendings client clock os here
+    → AreTickSendings f wait here
 told_there f wait shown clock client os here some rest ends at is same left h =
     let within = before_end f.kept.clock wait ends in
     let now : clock ≡ f.kept.clock + (wait - 1) + 1 = omega (arith, is, at, within, some) in
     last_second f wait clock here some rest now
-    (subst (λ c. AreSendings c clock (later f (wait - 1)).kept.observations here) same
+    (subst (λ c. AreSendings c clock (flat_after_seconds f (wait - 1)).kept.observations here) same
     (subst (λ xs. AreSendings client clock xs here) left h))
 
 -- a tick of n seconds, of which so many have passed
 pub all_told : (f : Machine) (n passed : ℕ) (ss : List Sending) → passed ≤ n → AreTickSendings f passed ss
-    → IsQuietFor (later f passed) (n - passed) → AreTickSendings f n ss
+    → IsQuietFor (flat_after_seconds f passed) (n - passed) → AreTickSendings f n ss
 all_told f n passed ss within h rest =
     let all : passed + (n - passed) ≡ n = omega (arith, within) in
     subst (λ k. AreTickSendings f k ss) all
     (subst (AreTickSendings f (passed + (n - passed))) (append-nil ss)
-    (ticks_add f passed (n - passed) ss [] h (quiet_tick (later f passed) (n - passed) rest)))
+    (ticks_add f passed (n - passed) ss [] h (quiet_tick (flat_after_seconds f passed) (n - passed) rest)))
 
 pub more_told : (f : Machine) (passed wait : ℕ) (ss new : List Sending) → AreTickSendings f passed ss
-    → Tells (later f passed) wait ss new → AreTickSendings f (passed + wait) new
+    → Tells (flat_after_seconds f passed) wait ss new → AreTickSendings f (passed + wait) new
 more_told f passed wait ss new h more =
     subst (AreTickSendings f (passed + wait)) (sym more.2) (ticks_add f passed wait ss more.0 h more.1)
 
 -- the clock has room for these seconds, and for each part of them
 pub fits_rest : (f : Machine) (n passed : ℕ) → passed ≤ n → passes_end f.kept.clock (Tick n) ≡ false
-    → (later f passed).kept.clock + (n - passed) < 2 ^ 64
+    → (flat_after_seconds f passed).kept.clock + (n - passed) < 2 ^ 64
 fits_rest f n passed within ends = omega (arith, before_end f.kept.clock n ends, within)
 
 pub goes_there : (f : Machine) (n passed wait : ℕ) → passed ≤ n → wait ≤ n - passed
-    → passes_end f.kept.clock (Tick n) ≡ false → passes_end (later f passed).kept.clock (Tick wait) ≡ false
+    → passes_end f.kept.clock (Tick n) ≡ false → passes_end (flat_after_seconds f passed).kept.clock (Tick wait) ≡ false
 goes_there f n passed wait within less ends =
     let all = before_end f.kept.clock n ends in
     goes_on (f.kept.clock + passed) wait (omega (arith, all, within, less))

@@ -2,7 +2,7 @@
 use Rattle.std.proofs.Common.{◌≡◌, ◌==◌, ℕ, ◌+◌, ◌-◌, ◌*◌, ◌<◌, ◌≤◌, Bool, true, false, ◌||◌, Option, None}
 use Rattle.std.proofs.Common.{Some, zero, suc, if◌then◌else◌, refl, sym, ap, ◌∙◌, arith}
 use Rattle.std.proofs.lemmas.Bool.{eq-eqb, eqb-true, ne_eqb, leb-false}
-use Rattle.notifier.specs.Resending.{after_timeouts, is_timed_out, resending, turn_with}
+use Rattle.notifier.specs.Resending.{after_timeouts, is_timed_out, turn_of_resending, turn_with}
 use Rattle.notifier.specs.declared.observation.Timer.{Timer}
 use Rattle.notifier.specs.declared.turn.Turn.TheVariants.{Wait, Resend, Expire}
 use Rattle.notification_reasons.specs.Finding.{times_of}
@@ -107,7 +107,7 @@ pub record IsAgain (s : ℕ) (timer : Timer) (clock : ℕ) : Type 0 where
   pub at : clock ≡ after_timeouts s timer.first (times_of timer.first (clock - s))
   pub after : clock ≡ s + (clock - s)
 
-again : (s : ℕ) (timer : Timer) (clock : ℕ) → resending s timer.first clock ≡ Resend → IsAgain s timer clock
+again : (s : ℕ) (timer : Timer) (clock : ℕ) → turn_of_resending s timer.first clock ≡ Resend → IsAgain s timer clock
 again s timer clock h =
     let t = timer.first in
     let parts = chosen s t clock (is_at s t clock 1) (is_at s t clock 2) (is_at s t clock 3) (is_at s t clock 4)

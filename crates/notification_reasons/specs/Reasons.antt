@@ -1,6 +1,6 @@
 -- Why an observation sends in a second (OMA LwM2M 1.1 Core, attributes; RFC 7252 section 4.2; RFC 7641 section 4).
 use Rattle.std.specs.Prelude.{◌≡◌, ◌≢◌, ◌⊎◌, ℕ, ℤ, ◌+◌, ◌<◌, ◌≤◌, true, false, Option, None, Some, []}
-use Rattle.notifier.specs.Attributes.{assigned}
+use Rattle.notifier.specs.Attributes.{assigned_number}
 use Rattle.notifier.specs.Resending.{after_timeouts, max_retransmit, turn_at}
 use Rattle.notifier.specs.Trigger.{crosses_gt, crosses_lt, has_condition, steps_st}
 use Rattle.notifier.specs.declared.attribute.Name.TheVariants as name
@@ -11,7 +11,7 @@ use Rattle.device_requests.specs.Answer.{code_byte, is_content}
 use Rattle.device_requests.specs.Client.{Client}
 use Rattle.device_notifications.specs.Period.{pmax_of, pmin_of}
 use Rattle.device_notifications.specs.Report.{number_at}
-use Rattle.device_notifications.specs.Second.{age_of, present, triggers_now, turn_of}
+use Rattle.device_notifications.specs.Second.{age_of, present_answer, triggers_now, turn_of}
 use Rattle.notification_reasons.specs.declared.reasons.DueBy.{DueBy}
 use Rattle.notification_reasons.specs.declared.reasons.DueBy.TheVariants.{Gt, Lt, St, Payload, Pmax}
 use Rattle.notification_reasons.specs.declared.reasons.NotificationReason.{NotificationReason}
@@ -25,13 +25,13 @@ SendsNothing client clock o = (next_id : ℕ) → (turn_of client clock next_id 
 
 -- the conditions on numbers that the observation's server has set on its very path, in thousandths
 abbrev pub gt_of : Client → Observation → Option ℤ
-gt_of client o = assigned client.attributes o.server o.path name.Gt
+gt_of client o = assigned_number client.attributes o.server o.path name.Gt
 
 abbrev pub lt_of : Client → Observation → Option ℤ
-lt_of client o = assigned client.attributes o.server o.path name.Lt
+lt_of client o = assigned_number client.attributes o.server o.path name.Lt
 
 abbrev pub st_of : Client → Observation → Option ℤ
-st_of client o = assigned client.attributes o.server o.path name.St
+st_of client o = assigned_number client.attributes o.server o.path name.St
 
 -- these are the number that the observation last reported, and the present one
 pub record ComparesNumbers (client : Client) (o : Observation) (old now : ℤ) : Type 0 where
@@ -56,16 +56,16 @@ IsDueBy client o age pmin (Lt old now lt) =
 IsDueBy client o age pmin (St old now st) =
     ComparesNumbers client o old now × (st_of client o ≡ Some st) × (steps_st (Some st) old now ≡ true)
     × (crosses_gt (gt_of client o) old now ≡ false) × (crosses_lt (lt_of client o) old now ≡ false)
-IsDueBy client o age pmin Payload = ComparesPayloads client o × (o.report.payload ≢ (present client o).payload)
+IsDueBy client o age pmin Payload = ComparesPayloads client o × (o.report.payload ≢ (present_answer client o).payload)
 IsDueBy client o age pmin (Pmax pmax) =
-    (triggers_now client o (present client o).payload ≡ false) × (pmax_of client o.server o.path ≡ Some pmax)
+    (triggers_now client o (present_answer client o).payload ≡ false) × (pmax_of client o.server o.path ≡ Some pmax)
     × (0 < pmax) × (pmin ≤ pmax) × (pmax ≤ age)
 
 -- the observation is not open, its present answer is content, and its last message is this old, which is not below its
 -- minimum period
 pub record IsReady (client : Client) (clock : ℕ) (o : Observation) (age pmin : ℕ) : Type 0 where
   pub evaluated : turn_at o clock ≡ Evaluate
-  pub content : is_content (present client o) ≡ true
+  pub content : is_content (present_answer client o) ≡ true
   pub age_is : age_of clock o ≡ age
   pub pmin_is : pmin_of client o.server o.path ≡ pmin
   pub waited : pmin ≤ age
@@ -86,8 +86,8 @@ pub record IsResending (clock : ℕ) (o : Observation) (times after : ℕ) : Typ
 -- the observation is not open, and its present answer is not content: it ends with that answer, of this code
 pub record IsEnd (client : Client) (clock : ℕ) (o : Observation) (code : ℕ) : Type 0 where
   pub evaluated : turn_at o clock ≡ Evaluate
-  pub no_content : is_content (present client o) ≡ false
-  pub code_is : code_byte (present client o).code ≡ code
+  pub no_content : is_content (present_answer client o) ≡ false
+  pub code_is : code_byte (present_answer client o).code ≡ code
 
 -- why the turn of an observation in the second that the clock shows sends something
 abbrev pub IsNotificationReason : Client → ℕ → Observation → NotificationReason → Type 0

@@ -2,7 +2,7 @@
 use Rattle.std.specs.Prelude.{◌≡◌, ◌⊎◌, ℕ, zero, suc, ◌+◌, ◌<◌, ◌≤◌, List, [], ◌∷◌, ◌++◌}
 use Rattle.notifier.specs.declared.observation.Observation.{Observation}
 use Rattle.device_requests.specs.Client.{Client}
-use Rattle.device_notifications.specs.Second.{quiet, second}
+use Rattle.device_notifications.specs.Second.{quiet_sweep, second}
 use Rattle.device_machine.specs.State.{Machine}
 use Rattle.notification_reasons.specs.Reasons.{IsNotificationReason, SendsNothing}
 use Rattle.notification_reasons.specs.declared.reasons.Sending.{Sending}
@@ -38,7 +38,7 @@ AreTickSendings f n ss = AreSendingsIn f.kept.client f.kept.clock n f.kept.next_
 abbrev pub IsQuietFor : Machine → ℕ → Type 0
 IsQuietFor f n =
     (clock : ℕ) → f.kept.clock < clock → clock ≤ f.kept.clock + n
-    → second f.kept.client clock f.kept.next_id f.kept.observations ≡ quiet f.kept.next_id f.kept.observations
+    → second f.kept.client clock f.kept.next_id f.kept.observations ≡ quiet_sweep f.kept.next_id f.kept.observations
 
 -- those of a tick stand after the ones that were told before
 abbrev pub Tells : Machine → ℕ → List Sending → List Sending → Type 0

@@ -1,8 +1,9 @@
 //! What a device sends in a tick, and why.
 
-ghost use Rattle.std.specs.Prelude.{◌≡◌, ◌≢◌, ◌+◌, ◌-◌, ◌<◌, ◌≤◌, ◌^◌, ◌++◌, false, Err, IfOk, IfSome, OnOk, MatchOption};
+ghost use Rattle.std.specs.Prelude.{◌≡◌, ◌≢◌, ◌+◌, ◌-◌, ◌<◌, ◌≤◌, ◌^◌, ◌++◌, false, Err, IfOk, IfSome, OnOk};
+ghost use Rattle.std.specs.Prelude.{MatchOption};
 ghost use Rattle.device_machine.specs.declared.event.Event.TheVariants.{Tick};
-ghost use Rattle.device_machine.specs.Reactions.{later, passes_end};
+ghost use Rattle.device_machine.specs.Reactions.{flat_after_seconds, passes_end};
 ghost use Rattle.device_machine.specs.State.{Machine as FlatState, Shows};
 ghost use Rattle.device_notifications.specs.Outlooks.{IsKnown};
 ghost use Rattle.notification_reasons.specs.Sendings.{AreSendings, AreTickSendings, IsQuietFor, Tells};
@@ -66,7 +67,7 @@ fn pass(
     requires { 1 ≤ wait }
     ensures told { (f : FlatState) → Shows device.old f → passes_end f.kept.clock (Tick wait) ≡ false
         → IsQuietFor f (wait - 1) → OnOk result (Tells f wait told.old.items told.new.items) }
-    ensures shows { (f : FlatState) → Shows device.old f → OnOk result (Shows device.new (later f wait)) }
+    ensures shows { (f : FlatState) → Shows device.old f → OnOk result (Shows device.new (flat_after_seconds f wait)) }
     ensures goes { (f : FlatState) → Shows device.old f → passes_end f.kept.clock (Tick wait) ≡ false
         → result ≢ Err StepFault.Spent }
 {

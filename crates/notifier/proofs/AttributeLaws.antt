@@ -15,7 +15,7 @@ use Rattle.object_defs.specs.declared.path.Path.TheVariants.{Object, Instance, R
 use Rattle.notifier.specs.declared.attribute.Name.TheVariants.{Pmin, Pmax, Gt, Lt, St}
 use Rattle.notifier.specs.contracts.attribute.Name.{the_type}
 use Rattle.notifier.specs.contracts.attribute.NamePartialEq.TheImpl.{eq-value}
-use Rattle.notifier.specs.Attributes.{Numbers, key_cmp, key_of, assigned, with_number, written}
+use Rattle.notifier.specs.Attributes.{Numbers, key_cmp, key_of, assigned_number, with_number, with_changes}
 use Rattle.notifier.proofs.Keys.{key_total, key_exact}
 
 -- the last of some changes of a name, or a number
@@ -55,17 +55,17 @@ key_test s p a b =
     ] refl
 
 changed_number : (m : Numbers) (s : ℕ) (p : Path) (c : Name) (z : Option ℤ) (n : Name)
-    → assigned (with_number m (key_of s p c) z) s p n ≡ cond (eq-value.it c n) z (assigned m s p n)
+    → assigned_number (with_number m (key_of s p c) z) s p n ≡ cond (eq-value.it c n) z (assigned_number m s p n)
 changed_number m s p c None n =
     map.get-remove key_total m (key_of s p c) (key_of s p n)
-    ∙ ap (λ b. cond b None (assigned m s p n)) (key_test s p n c)
+    ∙ ap (λ b. cond b None (assigned_number m s p n)) (key_test s p n c)
 changed_number m s p c (Some z) n =
     map.get-insert key_total m (key_of s p c) z (key_of s p n)
-    ∙ ap (λ b. cond b (Some z) (assigned m s p n)) (key_test s p n c)
+    ∙ ap (λ b. cond b (Some z) (assigned_number m s p n)) (key_test s p n c)
 
 -- the number after some changes is that of the last of its name
 pub after_written : (m : Numbers) (s : ℕ) (p : Path) (cs : List Change) (n : Name)
-    → assigned (written m s p cs) s p n ≡ last_of (assigned m s p n) cs n
+    → assigned_number (with_changes m s p cs) s p n ≡ last_of (assigned_number m s p n) cs n
 after_written m s p [] n = refl
 after_written m s p (c ∷ cs) n =
     after_written (with_number m (key_of s p c.name) c.number) s p cs n
@@ -95,7 +95,7 @@ kept_at m j (Some z) k other =
     map.get-insert key_total m j z k ∙ ap (λ (b : Bool). cond b (Some z) (map.get m k)) (differs j k other)
 
 pub others_kept : (m : Numbers) (s : ℕ) (p : Path) (cs : List Change) (k : AttributeKey)
-    → ((n : Name) → k ≢ key_of s p n) → map.get (written m s p cs) k ≡ map.get m k
+    → ((n : Name) → k ≢ key_of s p n) → map.get (with_changes m s p cs) k ≡ map.get m k
 others_kept m s p [] k other = refl
 others_kept m s p (c ∷ cs) k other =
     others_kept (with_number m (key_of s p c.name) c.number) s p cs k other

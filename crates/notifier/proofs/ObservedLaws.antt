@@ -13,8 +13,8 @@ use Rattle.indexmap.specs.IndexMap.{set_value_at}
 use Rattle.lemmas.proofs.Lists.{none_found}
 use Rattle.notifier.specs.declared.observation.Observation.{Observation}
 use Rattle.notifier.specs.declared.entries.Key.{Key}
-use Rattle.notifier.specs.Observed.{HasNumber, IsKeyed, HaveDistinctNames, is_named, next_number, number_for}
-use Rattle.notifier.specs.Observed.{as_closed, registered}
+use Rattle.notifier.specs.Observed.{HasNumber, IsKeyed, HaveDistinctNames, is_named, next_number, number_for, as_closed}
+use Rattle.notifier.specs.Observed.{with_registered}
 use Rattle.notifier.proofs.Places.{IsFirst, find_first, passes_first}
 
 -- ---- the values of a map
@@ -143,25 +143,26 @@ pub number_for-none : (os : List Observation) (server : ℕ) (token : List ℕ)
     → list_any (is_named server token) os ≡ false → number_for os server token ≡ 0
 number_for-none os server token none = ap (λ f. option_map_or (λ x. next_number x.number) f 0) (none_found _ os none)
 
-pub registered-first : (os : List Observation) (new o : Observation) (i : ℕ)
+pub with_registered-first : (os : List Observation) (new o : Observation) (i : ℕ)
     → IsFirst (is_named new.server new.token) os i → slice_get os i ≡ Some o
-    → registered os new ≡ slice_set os i (record new { number = next_number o.number })
-registered-first [] new o i first at = absurd first
-registered-first (x ∷ os) new o zero first at =
+    → with_registered os new ≡ slice_set os i (record new { number = next_number o.number })
+with_registered-first [] new o i first at = absurd first
+with_registered-first (x ∷ os) new o zero first at =
     let same : x ≡ o = cc in
-    ap (λ b. if b then record new { number = next_number x.number } ∷ os else x ∷ registered os new) first
+    ap (λ b. if b then record new { number = next_number x.number } ∷ os else x ∷ with_registered os new) first
     ∙ ap (λ y. record new { number = next_number y.number } ∷ os) same
-registered-first (x ∷ os) new o (suc i) first at =
-    ap (λ b. if b then record new { number = next_number x.number } ∷ os else x ∷ registered os new) first.0
-    ∙ ap (λ t. x ∷ t) (registered-first os new o i first.1 at)
+with_registered-first (x ∷ os) new o (suc i) first at =
+    ap (λ b. if b then record new { number = next_number x.number } ∷ os else x ∷ with_registered os new) first.0
+    ∙ ap (λ t. x ∷ t) (with_registered-first os new o i first.1 at)
 
-pub registered-none : (os : List Observation) (new : Observation) → list_any (is_named new.server new.token) os ≡ false
-    → registered os new ≡ os ++ record new { number = 0 } ∷ []
-registered-none [] new none = refl
-registered-none (x ∷ os) new none =
+pub with_registered-none : (os : List Observation) (new : Observation)
+    → list_any (is_named new.server new.token) os ≡ false
+    → with_registered os new ≡ os ++ record new { number = 0 } ∷ []
+with_registered-none [] new none = refl
+with_registered-none (x ∷ os) new none =
     let parts = or_parts _ _ none in
-    ap (λ b. if b then record new { number = next_number x.number } ∷ os else x ∷ registered os new) parts.0
-    ∙ ap (λ t. x ∷ t) (registered-none os new parts.1)
+    ap (λ b. if b then record new { number = next_number x.number } ∷ os else x ∷ with_registered os new) parts.0
+    ∙ ap (λ t. x ∷ t) (with_registered-none os new parts.1)
 
 -- an observation of this name has this server and this token
 pub name_is : (server : ℕ) (token : List ℕ) (o : Observation) → is_named server token o ≡ true → (o.server ≡ server)

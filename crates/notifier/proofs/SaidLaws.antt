@@ -5,7 +5,7 @@ use Rattle.std.proofs.Common.{refl, sym, ap, ◌∙◌, ◌++◌, arith}
 use Rattle.std.specs.List.{list_any}
 use Rattle.std.specs.Option.{is_some}
 use Rattle.notifier.specs.Observed.{is_named}
-use Rattle.notifier.specs.Said.{said_with, said_without, unsaid}
+use Rattle.notifier.specs.Said.{initial_outlook, said_with, said_without}
 use Rattle.notifier.specs.declared.observation.Observation.{Observation}
 use Rattle.notifier.specs.declared.pending.Outlook.{Outlook}
 use Rattle.notifier.proofs.Places.{IsFirst, any_first, any_place}
@@ -66,26 +66,26 @@ said_none p (o ∷ os) (s ∷ ss) h =
 
 pub said_first : (server : ℕ) (token : List ℕ) (os : List Observation) (ss : List Outlook) (i : ℕ)
     → length ss ≡ length os → IsFirst (is_named server token) os i
-    → said_with server token os ss ≡ slice_set ss i unsaid
+    → said_with server token os ss ≡ slice_set ss i initial_outlook
 said_first server token [] ss i len h = absurd h
 said_first server token (o ∷ os) [] i len h = absurd (let none : 0 ≡ suc (length os) = len in cc)
 said_first server token (o ∷ os) (s ∷ ss) zero len h =
-    ap (λ b. if b then unsaid ∷ ss else s ∷ said_with server token os ss) h
+    ap (λ b. if b then initial_outlook ∷ ss else s ∷ said_with server token os ss) h
 said_first server token (o ∷ os) (s ∷ ss) (suc i) len h =
     let shorter : length ss ≡ length os = omega (arith, len) in
-    ap (λ b. if b then unsaid ∷ ss else s ∷ said_with server token os ss) h.0
+    ap (λ b. if b then initial_outlook ∷ ss else s ∷ said_with server token os ss) h.0
     ∙ ap (λ t. s ∷ t) (said_first server token os ss i shorter h.1)
 
 pub said_last : (server : ℕ) (token : List ℕ) (os : List Observation) (ss : List Outlook)
     → length ss ≡ length os → list_any (is_named server token) os ≡ false
-    → said_with server token os ss ≡ ss ++ unsaid ∷ []
+    → said_with server token os ss ≡ ss ++ initial_outlook ∷ []
 said_last server token [] [] len none = refl
 said_last server token [] (s ∷ ss) len none = absurd (let some : suc (length ss) ≡ 0 = len in cc)
 said_last server token (o ∷ os) [] len none = absurd (let none_said : 0 ≡ suc (length os) = len in cc)
 said_last server token (o ∷ os) (s ∷ ss) len none =
     let shorter : length ss ≡ length os = omega (arith, len) in
     elim (is_named server token o) as (λ b. (b || list_any (is_named server token) os) ≡ false
-    → (if b then unsaid ∷ ss else s ∷ said_with server token os ss) ≡ s ∷ (ss ++ unsaid ∷ [])) [
+    → (if b then initial_outlook ∷ ss else s ∷ said_with server token os ss) ≡ s ∷ (ss ++ initial_outlook ∷ [])) [
       | true ↦ λ k. cc
       | false ↦ λ k. ap (λ t. s ∷ t) (said_last server token os ss shorter k)
     ] none

@@ -4,7 +4,7 @@ use Rattle.std.proofs.Common.{Bool, true, false, ◌||◌, if◌then◌else◌, 
 use Rattle.std.proofs.lemmas.Bool.{eqb-true, eq-eqb, le-leb, leb-true}
 use Rattle.lemmas.proofs.Numbers.{nat_le_above}
 use Rattle.notifier.specs.Due.{acts_in}
-use Rattle.notifier.specs.Resending.{after_timeouts, is_timed_out, resending}
+use Rattle.notifier.specs.Resending.{after_timeouts, is_timed_out, turn_of_resending}
 use Rattle.notifier.specs.declared.pending.Outlook.{Outlook}
 use Rattle.notifier.specs.declared.turn.Turn.{Turn}
 use Rattle.notifier.specs.declared.turn.Turn.TheVariants.{Evaluate, Wait, Resend, Expire}
@@ -47,7 +47,7 @@ is_at s t clock k = clock == after_timeouts s t k
 
 pub acts_by_sums : (s t clock : ℕ) (p : Outlook)
     → (clock == s + t || (clock == s + 3 * t || (clock == s + 7 * t
-    || (clock == s + 15 * t || nat_le (s + 31 * t) clock)))) ≡ acts_in (resending s t clock) s p clock
+    || (clock == s + 15 * t || nat_le (s + 31 * t) clock)))) ≡ acts_in (turn_of_resending s t clock) s p clock
 acts_by_sums s t clock p =
     (λ i. clock == s + t || (clock == second_passed s t i || (clock == third_passed s t i
     || (clock == fourth_passed s t i || nat_le (all_passed s t i) clock))))
@@ -115,7 +115,7 @@ before_the_end s t clock some (inr (inl h)) = omega (arith, some, h)
 before_the_end s t clock some (inr (inr (inl h))) = omega (arith, some, h)
 before_the_end s t clock some (inr (inr (inr h))) = omega (arith, some, h)
 
-pub resent : (s t clock : ℕ) → 0 < t → (resending s t clock ≡ Resend) ↔ IsOneOf s t clock
+pub resent : (s t clock : ℕ) → 0 < t → (turn_of_resending s t clock ≡ Resend) ↔ IsOneOf s t clock
 resent s t clock some = (
   λ h. seconds_are s t clock (chosen_once (is_at s t clock 1) (is_at s t clock 2) (is_at s t clock 3)
       (is_at s t clock 4) (is_timed_out s t clock) h),
@@ -130,7 +130,7 @@ chosen_at_the_end : (a b c d e : Bool) → e ≡ true → chosen a b c d e ≡ E
 chosen_at_the_end a b c d true over = refl
 chosen_at_the_end a b c d false over = cc
 
-pub timed_out : (s t clock : ℕ) → (resending s t clock ≡ Expire) ↔ (s + 31 * t ≤ clock)
+pub timed_out : (s t clock : ℕ) → (turn_of_resending s t clock ≡ Expire) ↔ (s + 31 * t ≤ clock)
 timed_out s t clock =
     let same = ap (λ n. nat_le n clock) (all_passed s t) in (
       λ h. leb-true (s + 31 * t) clock (same ∙ chosen_over (is_at s t clock 1) (is_at s t clock 2)
@@ -147,7 +147,7 @@ chosen_alone false false true d false h = cc
 chosen_alone false false false true false h = cc
 chosen_alone false false false false false h = cc
 
-pub not_evaluated : (s t clock : ℕ) → resending s t clock ≡ Evaluate → ⊥
+pub not_evaluated : (s t clock : ℕ) → turn_of_resending s t clock ≡ Evaluate → ⊥
 not_evaluated s t clock h =
     chosen_alone (is_at s t clock 1) (is_at s t clock 2) (is_at s t clock 3) (is_at s t clock 4)
     (is_timed_out s t clock) h

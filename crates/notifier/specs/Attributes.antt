@@ -91,8 +91,8 @@ abbrev pub Numbers : Type 0
 Numbers = map.FinMap key_cmp ℤ
 
 -- the number of an attribute of a server on a path itself
-abbrev pub assigned : Numbers → ℕ → Path → Name → Option ℤ
-assigned m server place n = map.get m (key_of server place n)
+abbrev pub assigned_number : Numbers → ℕ → Path → Name → Option ℤ
+assigned_number m server place n = map.get m (key_of server place n)
 
 -- the levels whose attributes have effect on a path, the lowest first; a resource instance has none of its own
 abbrev pub levels_of : Path → List Path
@@ -104,7 +104,7 @@ levels_of (Part o i r p) = path.Resource o i r ∷ path.Instance o i ∷ path.Ob
 -- the number at the first of these paths that has one
 abbrev pub first_assigned : Numbers → ℕ → List Path → Name → Option ℤ
 first_assigned m server [] n = None
-first_assigned m server (p ∷ ps) n = option_or (assigned m server p n) (first_assigned m server ps n)
+first_assigned m server (p ∷ ps) n = option_or (assigned_number m server p n) (first_assigned m server ps n)
 
 -- the number that has effect: of the lowest level that has one
 abbrev pub effective : Numbers → ℕ → Path → Name → Option ℤ
@@ -116,9 +116,10 @@ with_number m k None = map.remove m k
 with_number m k (Some z) = map.insert m k z
 
 -- with these changes for a server on a path, the later over the earlier
-abbrev pub written : Numbers → ℕ → Path → List Change → Numbers
-written m server place [] = m
-written m server place (c ∷ cs) = written (with_number m (key_of server place c.name) c.number) server place cs
+abbrev pub with_changes : Numbers → ℕ → Path → List Change → Numbers
+with_changes m server place [] = m
+with_changes m server place (c ∷ cs) =
+    with_changes (with_number m (key_of server place c.name) c.number) server place cs
 
 -- lt < gt where both are set, and lt + 2 st < gt where all three are
 abbrev pub agree : Option ℤ → Option ℤ → Option ℤ → Bool
@@ -130,7 +131,8 @@ agree None lt st = true
 -- the numbers of a server on a path agree
 abbrev pub is_consistent : Numbers → ℕ → Path → Bool
 is_consistent m server place =
-    agree (assigned m server place name.Gt) (assigned m server place name.Lt) (assigned m server place name.St)
+    agree (assigned_number m server place name.Gt) (assigned_number m server place name.Lt)
+    (assigned_number m server place name.St)
 
 -- whether a number of a path is this one
 abbrev pub has_number : ℕ → Option ℕ → Bool
@@ -150,5 +152,6 @@ abbrev pub without_under : Numbers → Path → Numbers
 without_under m place = map.retain_keys m (λ k. not (lies_under place k))
 
 -- the attributes of a server, by path and then by name
-abbrev pub listed : Numbers → ℕ → List (Path × Name × ℤ)
-listed m server = map_list (λ e. (path_of e.0, e.0.name, e.1)) (filter (λ e. e.0.server == server) (map.entries m))
+abbrev pub attributes_of_server : Numbers → ℕ → List (Path × Name × ℤ)
+attributes_of_server m server =
+    map_list (λ e. (path_of e.0, e.0.name, e.1)) (filter (λ e. e.0.server == server) (map.entries m))

@@ -31,14 +31,15 @@ abbrev pub number_for : List Observation → ℕ → List ℕ → ℕ
 number_for all server token = option_map_or (λ o. next_number o.number) (find (is_named server token) all) 0
 
 -- with an observation: in the place of the one of its name, else at the end
-abbrev pub registered : List Observation → Observation → List Observation
-registered [] new = record new { number = 0 } ∷ []
-registered (o ∷ os) new =
-    if is_named new.server new.token o then record new { number = next_number o.number } ∷ os else o ∷ registered os new
+abbrev pub with_registered : List Observation → Observation → List Observation
+with_registered [] new = record new { number = 0 } ∷ []
+with_registered (o ∷ os) new =
+    if is_named new.server new.token o then record new { number = next_number o.number } ∷ os
+    else o ∷ with_registered os new
 
 -- without the observations of this name
-abbrev pub cancelled : List Observation → ℕ → List ℕ → List Observation
-cancelled all server token = filter (λ o. not (is_named server token o)) all
+abbrev pub without_cancelled : List Observation → ℕ → List ℕ → List Observation
+without_cancelled all server token = filter (λ o. not (is_named server token o)) all
 
 -- whether the last message of an observation was a NON to this server with this message ID, or is such a CON that is
 -- still open
@@ -63,8 +64,8 @@ abbrev pub with_acknowledged : List Observation → ℕ → ℕ → List Observa
 with_acknowledged all server mid = map (λ o. if is_awaited server mid o then as_closed o else o) all
 
 -- an observation after a notification: a CON with what it is sent again by, which opens it, or a NON
-abbrev pub notified : ℕ → ℕ → Report → Option Timer → Observation → Observation
-notified now mid report timer o =
+abbrev pub after_notification : ℕ → ℕ → Report → Option Timer → Observation → Observation
+after_notification now mid report timer o =
     record o {
       report = report;
       second = now;
@@ -77,7 +78,7 @@ notified now mid report timer o =
 -- with the observation at a place after its notification
 abbrev pub with_sent : List Observation → ℕ → ℕ → ℕ → Report → Option Timer → List Observation
 with_sent all place now mid report timer =
-    option_map_or (λ o. slice_set all place (notified now mid report timer o)) (slice_get all place) all
+    option_map_or (λ o. slice_set all place (after_notification now mid report timer o)) (slice_get all place) all
 
 -- the bytes of the notification of the observation at a place, where that is open
 abbrev pub open_bytes : List Observation → ℕ → Option (List ℕ)

@@ -32,15 +32,15 @@ is_timed_out second first clock = nat_le (after_timeouts second first (suc max_r
 
 -- what is done at this clock for a notification that was first sent at this second, with this first timeout: it is not
 -- sent again once all has passed, and the observation ends
-abbrev pub resending : ℕ → ℕ → ℕ → Turn
-resending second first clock =
+abbrev pub turn_of_resending : ℕ → ℕ → ℕ → Turn
+turn_of_resending second first clock =
     if is_timed_out second first clock then Expire
     else if is_resent second first clock max_retransmit then Resend else Wait
 
 -- what an observation does in a second: one that is open is not evaluated
 abbrev pub turn_with : ℕ → Option Timer → ℕ → Turn
 turn_with second None clock = Evaluate
-turn_with second (Some timer) clock = resending second timer.first clock
+turn_with second (Some timer) clock = turn_of_resending second timer.first clock
 
 abbrev pub turn_at : Observation → ℕ → Turn
 turn_at o clock = turn_with o.second o.timer clock

@@ -14,8 +14,8 @@ pub record Watch : Type 0 where
   pub said : List Outlook
 
 -- nothing is pending, and there is no period: so it is said of an observation that is registered
-abbrev pub unsaid : Outlook
-unsaid = record { pending = Idle; pmin = 0; pmax = None }
+abbrev pub initial_outlook : Outlook
+initial_outlook = record { pending = Idle; pmin = 0; pmax = None }
 
 -- a message has reported the present answer, so nothing is pending; the periods are as they were
 abbrev pub as_idle : Outlook → Outlook
@@ -34,7 +34,7 @@ said_without goes (o ∷ os) (s ∷ ss) = if goes o then said_without goes os ss
 -- what was said of the others, where an observation of this name is registered: in the place of the one that has it,
 -- else at the end
 abbrev pub said_with : ℕ → List ℕ → List Observation → List Outlook → List Outlook
-said_with server token [] said = unsaid ∷ []
+said_with server token [] said = initial_outlook ∷ []
 said_with server token (o ∷ os) [] = []
 said_with server token (o ∷ os) (s ∷ ss) =
-    if is_named server token o then unsaid ∷ ss else s ∷ said_with server token os ss
+    if is_named server token o then initial_outlook ∷ ss else s ∷ said_with server token os ss

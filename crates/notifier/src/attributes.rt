@@ -2,8 +2,9 @@ ghost use Rattle.std.specs.Prelude.{◌≡◌, ◌≢◌, ◌↔◌, [], pos, �
 ghost use Rattle.std.specs.Prelude.{Err, IfOk, OnOk, OnErr, IsErrOf, IsFalse};
 ghost use Rattle.std.specs.FinMap as map;
 ghost use Rattle.object_defs.specs.declared.path.Path.TheVariants as paths;
-ghost use Rattle.notifier.specs.Attributes.{key_cmp, key_of, path_of, assigned, effective, with_number, written, agree};
-ghost use Rattle.notifier.specs.Attributes.{is_consistent, has_number, lies_under, without_under, listed};
+ghost use Rattle.notifier.specs.Attributes.{key_cmp, key_of, path_of, assigned_number, effective, with_number};
+ghost use Rattle.notifier.specs.Attributes.{with_changes, agree, is_consistent, has_number, lies_under, without_under};
+ghost use Rattle.notifier.specs.Attributes.{attributes_of_server};
 
 use crate::attribute::{AttributeKey, Change, Name};
 use crate::fault::WriteFault;
@@ -89,7 +90,7 @@ fn changed(
     changes: &[Change],
 ) -> Result<BTreeMap<AttributeKey, i64>, AllocError>
     ensures { IfOk result (λ m. map.from_entries {R = key_cmp} m.entries
-        ≡ written (map.from_entries numbers.now.entries) server path changes.now) }
+        ≡ with_changes (map.from_entries numbers.now.entries) server path changes.now) }
 {
     let mut next = clone_of(numbers)?;
     for change in changes {
@@ -110,7 +111,8 @@ fn number_after(
     changes: &[Change],
     name: Name,
 ) -> Option<i64>
-    ensures { result ≡ assigned (written (map.from_entries numbers.now.entries) server path changes.now) server path
+    ensures { result ≡ assigned_number (with_changes (map.from_entries numbers.now.entries) server path changes.now)
+        server path
         name }
 {
     let mut number = number_at(numbers, AttributeKey::new(server, path, name));
@@ -197,8 +199,9 @@ fn list_of(
     numbers: &BTreeMap<AttributeKey, i64>,
     server: u16,
 ) -> Result<Vec<(Path, Name, i64)>, AllocError>
-    ensures listed { IfOk result (λ v. v.items ≡ listed (map.from_entries numbers.now.entries) server) }
-    ensures may_lack_memory { OnErr result (listed (map.from_entries {R = key_cmp} numbers.now.entries) server ≢ []) }
+    ensures listed { IfOk result (λ v. v.items ≡ attributes_of_server (map.from_entries numbers.now.entries) server) }
+    ensures may_lack_memory { OnErr result (attributes_of_server
+        (map.from_entries {R = key_cmp} numbers.now.entries) server ≢ []) }
 {
     let mut found = Vec::new(alloc);
     for (key, number) in numbers {
@@ -237,7 +240,7 @@ impl Attributes {
     /// The number that a server set for a path itself: seconds of pmin and pmax, thousandths of gt,
     /// lt and st.
     pub fn assigned(&self, server: u16, path: Path, name: Name) -> Option<i64>
-        ensures { result ≡ assigned self.now server path name }
+        ensures { result ≡ assigned_number self.now server path name }
     {
         number_at(&self.numbers, AttributeKey::new(server, path, name))
     }
@@ -294,7 +297,7 @@ impl Attributes {
 
     /// Whether the numbers of a server on a path would agree after these changes.
     fn stays_consistent(&self, server: u16, path: Path, changes: &[Change]) -> bool
-        ensures { result ≡ is_consistent (written self.now server path changes.now) server path }
+        ensures { result ≡ is_consistent (with_changes self.now server path changes.now) server path }
     {
         agree(
             number_after(&self.numbers, server, path, changes, Name::Gt),
@@ -307,9 +310,9 @@ impl Attributes {
     /// this server on this path would then not keep lt < gt, or lt + 2 st < gt. An error changes nothing, and only a
     /// change takes memory. The levels at which attributes stand are not looked at.
     pub fn write(&mut self, server: u16, path: Path, changes: &[Change]) -> Result<(), WriteFault>
-        ensures ok { OnOk result (self.new ≡ written self.old server path changes.now) }
+        ensures ok { OnOk result (self.new ≡ with_changes self.old server path changes.now) }
         ensures inconsistent { IsErrOf result WriteFault.Inconsistent
-            ↔ IsFalse (is_consistent (written self.old server path changes.now) server path) }
+            ↔ IsFalse (is_consistent (with_changes self.old server path changes.now) server path) }
 
         // Only a change takes memory.
         ensures may_lack_memory { IsErrOf result WriteFault.Memory → changes.now ≢ [] }
@@ -328,10 +331,10 @@ impl Attributes {
     /// The attributes of a server with their paths, by the numbers of the paths, a path before those below it, and then
     /// by name: pmin, pmax, gt, lt, st. Only an attribute of the server takes memory.
     pub fn list(&self, server: u16) -> Result<Vec<(Path, Name, i64)>, AllocError>
-        ensures listed { IfOk result (λ v. v.items ≡ listed self.now server) }
+        ensures listed { IfOk result (λ v. v.items ≡ attributes_of_server self.now server) }
 
         // Only attributes of the server take memory.
-        ensures may_lack_memory { OnErr result (listed self.now server ≢ []) }
+        ensures may_lack_memory { OnErr result (attributes_of_server self.now server ≢ []) }
     {
         list_of(self.alloc, &self.numbers, server)
     }

@@ -6,8 +6,8 @@ ghost use Rattle.std.specs.Prelude.{if◌then◌else◌};
 ghost use Rattle.std.specs.Option.{option_copied, option_map};
 ghost use Rattle.std.specs.List.{AllByRecursion, list_any};
 ghost use Rattle.indexmap.specs.IndexMap.{values, index_map_len, set_value_at};
-ghost use Rattle.notifier.specs.Observed.{is_named, has_name, next_number, number_for, registered, was_sent, with_sent};
-ghost use Rattle.notifier.specs.Observed.{as_closed, is_awaited, open_bytes, HasToken, HasNumber, IsKeyed};
+ghost use Rattle.notifier.specs.Observed.{is_named, has_name, next_number, number_for, with_registered, was_sent};
+ghost use Rattle.notifier.specs.Observed.{with_sent, as_closed, is_awaited, open_bytes, HasToken, HasNumber, IsKeyed};
 ghost use Rattle.notifier.specs.declared.observation.Observation.{Observation};
 
 use crate::fault::ObserveFault;
@@ -101,7 +101,7 @@ pub(crate) fn renew(
     requires keyed { AllByRecursion IsKeyed entries.old.entries }
     requires held { position (is_named observation.server observation.token) (values entries.old) ≡ Some place }
     ensures number { result ≡ number_for (values entries.old) observation.server observation.token }
-    ensures values { values entries.new ≡ registered (values entries.old) observation }
+    ensures values { values entries.new ≡ with_registered (values entries.old) observation }
     ensures keyed { AllByRecursion IsKeyed entries.new.entries }
     ensures len { length entries.new.entries ≡ length entries.old.entries }
 {

@@ -5,9 +5,9 @@ ghost use Rattle.std.specs.Option.{option_copied, option_map};
 ghost use Rattle.std.specs.List.{AllByRecursion, list_any};
 ghost use Rattle.notifier.specs.declared.observation.Observation.{Observation};
 ghost use Rattle.notifier.specs.Due.{IsFirstDue, IsNeverDue};
-ghost use Rattle.notifier.specs.Observed.{with_acknowledged, cancelled, has_name, is_awaited, next_number, number_for};
-ghost use Rattle.notifier.specs.Observed.{is_named, open_bytes, registered, was_sent, with_sent, without_reset};
-ghost use Rattle.notifier.specs.Observed.{HasToken, HasNumber, HaveDistinctNames};
+ghost use Rattle.notifier.specs.Observed.{with_acknowledged, without_cancelled, has_name, is_awaited, next_number};
+ghost use Rattle.notifier.specs.Observed.{number_for, is_named, open_bytes, was_sent, with_registered, with_sent};
+ghost use Rattle.notifier.specs.Observed.{without_reset, HasToken, HasNumber, HaveDistinctNames};
 ghost use Rattle.notifier.specs.Resending.{turn_at};
 ghost use Rattle.notifier.specs.Said.{said_with, said_without, with_idle};
 
@@ -98,7 +98,7 @@ impl Observations {
         non: bool,
     ) -> Result<u32, ObserveFault>
         requires { length token ≤ 8 }
-        ensures ok { OnOk result (self.new.list ≡ registered self.old.list
+        ensures ok { OnOk result (self.new.list ≡ with_registered self.old.list
             (record {
               server = server;
               token = token;
@@ -163,7 +163,7 @@ impl Observations {
     /// others stays.
     pub fn cancel(&mut self, server: u16, token: &[u8]) -> bool
         ensures answer { result ≡ has_name self.old.list server token.now }
-        ensures left { self.new.list ≡ cancelled self.old.list server token.now }
+        ensures left { self.new.list ≡ without_cancelled self.old.list server token.now }
         ensures said { self.new.said ≡ said_without (is_named server token.now) self.old.list self.old.said }
     {
         let mut held = false;

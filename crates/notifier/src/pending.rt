@@ -4,7 +4,7 @@ ghost use Rattle.std.specs.Prelude.{◌≡◌, ℕ, ◌-◌, ◌||◌, Bool, nat
 ghost use Rattle.std.specs.Option.{option_map_or};
 ghost use Rattle.notifier.specs.Trigger.{is_due};
 ghost use Rattle.notifier.specs.Due.{IsFirst, is_due_at};
-ghost use Rattle.notifier.specs.Said.{unsaid};
+ghost use Rattle.notifier.specs.Said.{initial_outlook};
 
 use crate::trigger::is_due;
 
@@ -34,7 +34,7 @@ pub struct Outlook {
 impl Outlook {
     /// What is said of an observation whose reply has just registered it: nothing is pending, and there is no period.
     pub(crate) fn unsaid() -> Outlook
-        ensures { result ≡ unsaid }
+        ensures { result ≡ initial_outlook }
     {
         Outlook {
             pending: Pending::Idle,

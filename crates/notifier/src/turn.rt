@@ -2,7 +2,7 @@
 
 ghost use Rattle.std.specs.Prelude.{◌≡◌, ◌+◌, ◌==◌, nat_le};
 ghost use Rattle.notifier.specs.Due.{IsFirst, acts_at, acts_in};
-ghost use Rattle.notifier.specs.Resending.{max_retransmit, resending, turn_at};
+ghost use Rattle.notifier.specs.Resending.{max_retransmit, turn_at, turn_of_resending};
 ghost use Rattle.notifier.specs.declared.pending.Outlook.{Outlook};
 
 use crate::observation::Observation;
@@ -24,7 +24,7 @@ pub enum Turn {
 /// What is done in the second that the clock shows for a notification that was first sent at `second`: after
 /// k timeouts, each twice the one before it, 2^k - 1 times the first has passed.
 fn resending(second: u64, first: u8, clock: u64) -> Turn
-    ensures { result ≡ resending second first clock }
+    ensures { result ≡ turn_of_resending second first clock }
 {
     let Some(age) = clock.checked_sub(second) else {
         return Turn::Wait;
@@ -59,7 +59,8 @@ fn first_from(now: u64, second: u64, wait: u64) -> Option<u64>
 /// The first second after `now` at which a notification that was first sent at `second` is sent again, or
 /// its observation removed.
 pub(crate) fn next_resending(now: u64, second: u64, first: u8) -> Option<u64>
-    ensures { (s : Outlook) → IsFirst (λ clock. acts_in (resending second first clock) second s clock) now result }
+    ensures { (s : Outlook)
+        → IsFirst (λ clock. acts_in (turn_of_resending second first clock) second s clock) now result }
 {
     let timeout = u64::from(first);
     let end = first_from(now, second, 31 * timeout);

@@ -11,7 +11,7 @@ use Rattle.std.proofs.lemmas.Bool.{ltb-false}
 use Rattle.std.proofs.lemmas.Bool.Decides.{nat_tests}
 use Rattle.object_defs.specs.declared.definition.ResourceDef.{ResourceDef}
 use Rattle.object_defs.specs.declared.definition.ObjectDef.{ObjectDef}
-use Rattle.object_defs.specs.Vendor.{inserted, with_definition, with_resource}
+use Rattle.object_defs.specs.Vendor.{with_definition, with_inserted, with_resource}
 
 or_end : (n m : ℕ) → n ≤ m → unwrap_or (cond (ltb n m) (Some n) None) m ≡ n
 or_end n m h = grind (arith, nat_tests)
@@ -32,12 +32,12 @@ insert_later x y ys n = ap (λ k. insert (y ∷ ys) k x) (one_more n)
 
 -- an insertion before the first of a higher number
 pub insert-above : {X : Type 0} (number : X → ℕ) (x : X) (xs : List X)
-    → insert xs (position_or_len (λ y. ltb (number x) (number y)) xs) x ≡ inserted number x xs
+    → insert xs (position_or_len (λ y. ltb (number x) (number y)) xs) x ≡ with_inserted number x xs
 insert-above number x [] = refl
 insert-above number x (y ∷ ys) =
     elim (ltb (number x) (number y)) as (λ b. insert (y ∷ ys)
     (cond (not b) (1 + position_or_len (λ y. ltb (number x) (number y)) ys) 0) x
-    ≡ cond b (x ∷ y ∷ ys) (y ∷ inserted number x ys)) [
+    ≡ cond b (x ∷ y ∷ ys) (y ∷ with_inserted number x ys)) [
       | true ↦ refl
       | false ↦ insert_later x y ys _ ∙ ap (λ t. y ∷ t) (insert-above number x ys)
     ]
@@ -91,7 +91,7 @@ stands xs ys i x same within h =
 -- one more resource in the object at its place
 pub resource_put : (xs ys : List ObjectDef) (id i : ℕ) (d : ResourceDef) (o : ObjectDef) (resources : List ResourceDef)
     → xs ≡ ys → i ≡ position_or_len (λ o. eqb o.id id) ys → slice_get ys i ≡ Some o
-    → resources ≡ inserted (λ r. r.id) d o.resources
+    → resources ≡ with_inserted (λ r. r.id) d o.resources
     → set xs i (record { id = o.id; resources = resources }) ≡ with_resource ys id d
 resource_put xs ys id i d o resources same at h more =
     ap (λ t. set t i (record { id = o.id; resources = resources })) same

@@ -10,7 +10,7 @@ use Rattle.object_defs.specs.declared.definition.ResourceDef.{ResourceDef}
 use Rattle.object_defs.specs.declared.definition.ObjectDef.{ObjectDef}
 use Rattle.object_defs.specs.Catalog.{object_of, resource_in, definition_of}
 use Rattle.object_defs.specs.Lines.{first_line}
-use Rattle.object_defs.specs.Vendor.{inserted, is_vendor, vendor_fault, resource_fault, resource_fault_in}
+use Rattle.object_defs.specs.Vendor.{with_inserted, is_vendor, vendor_fault, resource_fault, resource_fault_in}
 use Rattle.object_defs.specs.Vendor.{with_definition, with_object, with_resource, new_object}
 
 pub same_number : (n : ℕ) → eqb n n ≡ true
@@ -21,23 +21,23 @@ skipped true x o h = let f : ⊥ = cc in absurd f
 skipped false x o h = (refl, h)
 
 pub find-inserted_other : {X : Type 0} (number : X → ℕ) (p : X → Bool) (x : X) (xs : List X) → p x ≡ false
-    → find p (inserted number x xs) ≡ find p xs
+    → find p (with_inserted number x xs) ≡ find p xs
 find-inserted_other number p x [] h = ap (λ b. cond b (Some x) None) h
 find-inserted_other number p x (y ∷ ys) h =
     elim (ltb (number x) (number y)) as (λ b.
-    find p (cond b (x ∷ y ∷ ys) (y ∷ inserted number x ys)) ≡ find p (y ∷ ys)) [
+    find p (cond b (x ∷ y ∷ ys) (y ∷ with_inserted number x ys)) ≡ find p (y ∷ ys)) [
       | true ↦ ap (λ b. cond b (Some x) (find p (y ∷ ys))) h
       | false ↦ ap (λ o. cond (p y) (Some y) o) (find-inserted_other number p x ys h)
     ]
 
 pub find-inserted_same : {X : Type 0} (number : X → ℕ) (p : X → Bool) (x : X) (xs : List X) → p x ≡ true
-    → find p xs ≡ None → find p (inserted number x xs) ≡ Some x
+    → find p xs ≡ None → find p (with_inserted number x xs) ≡ Some x
 find-inserted_same number p x [] h absent = ap (λ b. cond b (Some x) None) h
 find-inserted_same number p x (y ∷ ys) h absent =
     let later = skipped (p y) y (find p ys) absent in
-    elim (ltb (number x) (number y)) as (λ b. find p (cond b (x ∷ y ∷ ys) (y ∷ inserted number x ys)) ≡ Some x) [
+    elim (ltb (number x) (number y)) as (λ b. find p (cond b (x ∷ y ∷ ys) (y ∷ with_inserted number x ys)) ≡ Some x) [
       | true ↦ ap (λ b. cond b (Some x) (find p (y ∷ ys))) h
-      | false ↦ ap (λ b. cond b (Some y) (find p (inserted number x ys))) later.0
+      | false ↦ ap (λ b. cond b (Some y) (find p (with_inserted number x ys))) later.0
           ∙ find-inserted_same number p x ys h later.1
     ]
 

@@ -13,7 +13,7 @@ use Rattle.object_defs.specs.declared.definition.ObjectDef.{ObjectDef}
 use Rattle.object_defs.specs.Base.{base}
 use Rattle.object_defs.specs.Catalog.{object_of, resource_in, definition_of}
 use Rattle.object_defs.specs.Order.{is_below, ascends, is_in_order, IsInOrder}
-use Rattle.object_defs.specs.Vendor.{inserted, vendor_fault, resource_fault, with_definition, with_object}
+use Rattle.object_defs.specs.Vendor.{with_inserted, vendor_fault, resource_fault, with_definition, with_object}
 use Rattle.object_defs.specs.Vendor.{with_resource, new_object}
 use Rattle.object_defs.proofs.LookUps.{skipped, object_absent, resource_absent}
 
@@ -43,12 +43,13 @@ in_order c h =
 pub base_in_order : is_in_order base ≡ true
 base_in_order = refl
 
-below-inserted : {X : Type 0} (number : X → ℕ) (x : X) (n : ℕ) (ys : List X) → n < number x
-    → is_below n (map number ys) ≡ true → is_below n (map number (inserted number x ys)) ≡ true
-below-inserted number x n [] h k = grind (arith, nat_tests)
-below-inserted number x n (y ∷ ys) h k =
+below-with_inserted : {X : Type 0} (number : X → ℕ) (x : X) (n : ℕ) (ys : List X) → n < number x
+    → is_below n (map number ys) ≡ true → is_below n (map number (with_inserted number x ys)) ≡ true
+below-with_inserted number x n [] h k = grind (arith, nat_tests)
+below-with_inserted number x n (y ∷ ys) h k =
     let first : ltb n (number x) ≡ true = grind (arith, nat_tests) in
-    elim (ltb (number x) (number y)) as (λ b. is_below n (map number (cond b (x ∷ y ∷ ys) (y ∷ inserted number x ys)))
+    elim (ltb (number x) (number y)) as (λ b. is_below n
+    (map number (cond b (x ∷ y ∷ ys) (y ∷ with_inserted number x ys)))
     ≡ true) [ true ↦ first | false ↦ k ]
 
 placed_at : {X : Type 0} (number : X → ℕ) (x y : X) (ys rest : List X) (b : Bool) → ltb (number x) (number y) ≡ b
@@ -57,32 +58,33 @@ placed_at : {X : Type 0} (number : X → ℕ) (x y : X) (ys rest : List X) (b : 
 placed_at number x y ys rest true e a h = and_from _ _ e a
 placed_at number x y ys rest false e a h = h refl
 
-pub ascends-inserted : {X : Type 0} (number : X → ℕ) (x : X) (xs : List X) → ascends (map number xs) ≡ true
-    → find (λ y. eqb (number y) (number x)) xs ≡ None → ascends (map number (inserted number x xs)) ≡ true
-ascends-inserted number x [] a absent = refl
-ascends-inserted number x (y ∷ ys) a absent =
+pub ascends-with_inserted : {X : Type 0} (number : X → ℕ) (x : X) (xs : List X) → ascends (map number xs) ≡ true
+    → find (λ y. eqb (number y) (number x)) xs ≡ None → ascends (map number (with_inserted number x xs)) ≡ true
+ascends-with_inserted number x [] a absent = refl
+ascends-with_inserted number x (y ∷ ys) a absent =
     let parts = and_parts (is_below (number y) (map number ys)) (ascends (map number ys)) a in
     let later = skipped (eqb (number y) (number x)) y (find (λ y. eqb (number y) (number x)) ys) absent in
-    placed_at number x y ys (inserted number x ys) (ltb (number x) (number y)) refl a (λ e.
-    and_from _ _ (below-inserted number x (number y) ys (above_from_tests (number x) (number y) e later.0) parts.0)
-    (ascends-inserted number x ys parts.1 later.1))
+    placed_at number x y ys (with_inserted number x ys) (ltb (number x) (number y)) refl a (λ e.
+    and_from _ _ (below-with_inserted number x (number y) ys (above_from_tests (number x) (number y) e later.0) parts.0)
+    (ascends-with_inserted number x ys parts.1 later.1))
 
-all-inserted : {X : Type 0} (number : X → ℕ) (test : X → Bool) (x : X) (xs : List X) → test x ≡ true
-    → list_all test xs ≡ true → list_all test (inserted number x xs) ≡ true
-all-inserted number test x [] h a = and_from _ _ h refl
-all-inserted number test x (y ∷ ys) h a =
+all-with_inserted : {X : Type 0} (number : X → ℕ) (test : X → Bool) (x : X) (xs : List X) → test x ≡ true
+    → list_all test xs ≡ true → list_all test (with_inserted number x xs) ≡ true
+all-with_inserted number test x [] h a = and_from _ _ h refl
+all-with_inserted number test x (y ∷ ys) h a =
     let parts = and_parts (test y) (list_all test ys) a in
-    elim (ltb (number x) (number y)) as (λ b. list_all test (cond b (x ∷ y ∷ ys) (y ∷ inserted number x ys)) ≡ true) [
+    elim (ltb (number x) (number y)) as (λ b. list_all test (cond b (x ∷ y ∷ ys) (y ∷ with_inserted number x ys))
+    ≡ true) [
       | true ↦ and_from _ _ h a
-      | false ↦ and_from _ _ parts.0 (all-inserted number test x ys h parts.1)
+      | false ↦ and_from _ _ parts.0 (all-with_inserted number test x ys h parts.1)
     ]
 
 pub in_order-with_object : (c : List ObjectDef) (id : ℕ) → vendor_fault c id ≡ None → is_in_order c ≡ true
     → is_in_order (with_object c id) ≡ true
 in_order-with_object c id h a =
     let parts = and_parts (ascends (map (λ o. o.id) c)) (list_all (λ o. ascends (map (λ r. r.id) o.resources)) c) a in
-    and_from _ _ (ascends-inserted (λ o. o.id) (new_object id) c parts.0 (object_absent c id h))
-    (all-inserted (λ o. o.id) (λ o. ascends (map (λ r. r.id) o.resources)) (new_object id) c refl parts.1)
+    and_from _ _ (ascends-with_inserted (λ o. o.id) (new_object id) c parts.0 (object_absent c id h))
+    (all-with_inserted (λ o. o.id) (λ o. ascends (map (λ r. r.id) o.resources)) (new_object id) c refl parts.1)
 
 same_numbers : (c : List ObjectDef) (id : ℕ) (d : ResourceDef)
     → map (λ o. o.id) (with_resource c id d) ≡ map (λ o. o.id) c
@@ -104,7 +106,7 @@ all-with_resource (o ∷ os) id d absent a =
     elim (eqb o.id id) as (λ b. option_and_then (λ p. resource_in p.resources d.id) (cond b (Some o) (object_of os id))
     ≡ None → list_all (λ o. ascends (map (λ r. r.id) o.resources))
     (cond b (with_definition o d ∷ os) (o ∷ with_resource os id d)) ≡ true) [
-      | true ↦ λ k. and_from _ _ (ascends-inserted (λ r. r.id) d o.resources parts.0 k) parts.1
+      | true ↦ λ k. and_from _ _ (ascends-with_inserted (λ r. r.id) d o.resources parts.0 k) parts.1
       | false ↦ λ k. and_from _ _ parts.0 (all-with_resource os id d k parts.1)
     ] absent
 

@@ -12,9 +12,9 @@ use Rattle.object_defs.specs.Lines.{first_line}
 use Rattle.object_defs.specs.Operations.{can_execute}
 
 -- in a list by ascending number, with one more: it stands before the first of a higher number
-abbrev pub inserted : {X : Type 0} → (X → ℕ) → X → List X → List X
-inserted number x [] = x ∷ []
-inserted number x (y ∷ ys) = if nat_lt (number x) (number y) then x ∷ y ∷ ys else y ∷ inserted number x ys
+abbrev pub with_inserted : {X : Type 0} → (X → ℕ) → X → List X → List X
+with_inserted number x [] = x ∷ []
+with_inserted number x (y ∷ ys) = if nat_lt (number x) (number y) then x ∷ y ∷ ys else y ∷ with_inserted number x ys
 
 -- an object of this number, which has no resource yet
 abbrev pub new_object : ℕ → ObjectDef
@@ -22,11 +22,11 @@ new_object id = record { id = id; resources = [] }
 
 -- a catalog with one more object
 abbrev pub with_object : List ObjectDef → ℕ → List ObjectDef
-with_object catalog id = inserted (λ o. o.id) (new_object id) catalog
+with_object catalog id = with_inserted (λ o. o.id) (new_object id) catalog
 
 -- an object with one more resource
 abbrev pub with_definition : ObjectDef → ResourceDef → ObjectDef
-with_definition o definition = record o { resources = inserted (λ r. r.id) definition o.resources }
+with_definition o definition = record o { resources = with_inserted (λ r. r.id) definition o.resources }
 
 -- a catalog whose object of this number has one more resource
 abbrev pub with_resource : List ObjectDef → ℕ → ResourceDef → List ObjectDef

@@ -3,7 +3,7 @@ ghost use Rattle.std.specs.List.{position_or_len};
 ghost use Rattle.std.specs.Option.{option_copied};
 ghost use Rattle.object_defs.specs.Catalog.{resource_in};
 ghost use Rattle.object_defs.specs.Operations.{can_read, can_write, can_execute};
-ghost use Rattle.object_defs.specs.Vendor.{inserted, is_sound, new_object, resource_fault_in};
+ghost use Rattle.object_defs.specs.Vendor.{is_sound, new_object, resource_fault_in, with_inserted};
 
 use crate::fault::CatalogFault;
 use lwm2m_values::ValueKind;
@@ -132,7 +132,7 @@ impl Resources {
 
     /// Adds a definition in the order of the numbers.
     pub(crate) fn insert(&mut self, definition: ResourceDef) -> Result<(), AllocError>
-        ensures ok { OnOk result (self.new ≡ inserted (λ r. r.id) definition self.old) }
+        ensures ok { OnOk result (self.new ≡ with_inserted (λ r. r.id) definition self.old) }
         ensures unchanged { OnErr result (self.new ≡ self.old) }
     {
         let place = self.place_for(definition.id);

@@ -26,10 +26,10 @@ use Rattle.device_requests.specs.Client.{Client}
 use Rattle.device_requests.specs.Create.{Newborn, lacks_room}
 use Rattle.device_requests.specs.Read.{format_at}
 use Rattle.device_requests.specs.Refusals.{is_too_much, to_write, unless_taken}
-use Rattle.device_requests.specs.Targets.{defined, place_of, resource_place, resources_as}
+use Rattle.device_requests.specs.Targets.{place_of, resource_place, resources_as, resources_defined}
 use Rattle.device_requests.specs.Write.{event_of, exceeds, given_to_part, given_to_resource, mode_at, new_values}
 use Rattle.device_requests.specs.Write.{resource_exceeds, values_given}
-use Rattle.request_reasons.specs.Limits.{assigned_at, created_excess, excess_in, given_at, is_excess, lone}
+use Rattle.request_reasons.specs.Limits.{assigned_at, created_excess, excess_in, given_at, is_excess, lone_assignment}
 use Rattle.request_reasons.specs.Limits.{written_excess}
 
 unless : (event : Option FirmwareEvent) (much : Bool) → unless_taken event much ≡ true → much ≡ true
@@ -57,13 +57,14 @@ defined_as r None = refl
 defined_as r (Some o) = refl
 
 no_lone_excess : (catalog : List ObjectDef) (mode : Mode) (stored : Stored) (o i r : ℕ) (value : Given)
-    → excess_in mode (defined catalog o) stored (place_of o i) (lone r value) ≡ None
+    → excess_in mode (resources_defined catalog o) stored (place_of o i) (lone_assignment r value) ≡ None
     → resource_exceeds mode (definition_of catalog o r) stored (resource_place o i r) value ≡ false
 no_lone_excess catalog mode stored o i r value h =
-    let none = no_excess mode (defined catalog o) stored (place_of o i) (lone r value) h in
+    let none = no_excess mode (resources_defined catalog o) stored (place_of o i) (lone_assignment r value) h in
     ap (λ (d : Option ResourceDef). is_kept_as d && is_too_many mode stored (resource_place o i r) value)
     (defined_as r (object_of catalog o))
-    ∙ or_first (is_excess mode (defined catalog o) stored (place_of o i) (record { resource = r; given = value }))
+    ∙ or_first (is_excess mode (resources_defined catalog o) stored (place_of o i)
+    (record { resource = r; given = value }))
     false none
 
 -- a test of what is made of something that is given, where there is something
@@ -80,19 +81,20 @@ excess_by : (client : Client) (mode : Mode) (path : Path) (payload : List ℕ) (
 excess_by client mode (Object o) payload format h = refl
 excess_by client mode (Instance o i) payload format h =
     none_exceeds _ (exceeds mode client.catalog client.store (Instance o i))
-    (has_too_many mode (defined client.catalog o) client.store (place_of o i))
-    (written_excess client mode (Instance o i)) (instance_given (defined client.catalog o) i payload) refl
-    (λ given. refl) (λ given e. no_excess mode (defined client.catalog o) client.store (place_of o i) given e) h
+    (has_too_many mode (resources_defined client.catalog o) client.store (place_of o i))
+    (written_excess client mode (Instance o i)) (instance_given (resources_defined client.catalog o) i payload) refl
+    (λ given. refl) (λ given e. no_excess mode (resources_defined client.catalog o) client.store (place_of o i) given e)
+    h
 excess_by client mode (Resource o i r) payload format h =
     none_exceeds _ (exceeds mode client.catalog client.store (Resource o i r))
     (resource_exceeds mode (definition_of client.catalog o r) client.store (resource_place o i r))
-    (λ g. written_excess client mode (Resource o i r) (option_map (lone r) g))
+    (λ g. written_excess client mode (Resource o i r) (option_map (lone_assignment r) g))
     (given_to_resource (definition_of client.catalog o r) format payload) refl (λ value. refl)
     (λ value e. no_lone_excess client.catalog mode client.store o i r value e) h
 excess_by client mode (Part o i r n) payload format h =
     none_exceeds _ (exceeds mode client.catalog client.store (Part o i r n))
     (resource_exceeds mode (definition_of client.catalog o r) client.store (resource_place o i r))
-    (λ g. written_excess client mode (Part o i r n) (option_map (lone r) g))
+    (λ g. written_excess client mode (Part o i r n) (option_map (lone_assignment r) g))
     (given_to_part (definition_of client.catalog o r) n format payload) refl (λ value. refl)
     (λ value e. no_lone_excess client.catalog mode client.store o i r value e) h
 
@@ -128,8 +130,8 @@ pub controls_full : (client : Client) (o : ℕ) (new : Option Newborn) → lacks
 controls_full client o None h k e = cc
 controls_full client o (Some b) h k e =
     full_controls (is_full client.store o) (nat_le 2 (length client.accounts)) (is_full client.store 2)
-    (has_too_many Replace (defined client.catalog o) client.store (place_of o b.number) b.given) h k
-    (no_excess Replace (defined client.catalog o) client.store (place_of o b.number) b.given e)
+    (has_too_many Replace (resources_defined client.catalog o) client.store (place_of o b.number) b.given) h k
+    (no_excess Replace (resources_defined client.catalog o) client.store (place_of o b.number) b.given e)
 
 -- an object with fewer instances is not full
 pub few : (stored : Stored) (o : ℕ) (instances : List ℕ) → instances ≡ instances_of stored o → length instances < 64

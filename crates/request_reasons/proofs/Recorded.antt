@@ -18,8 +18,8 @@ use Rattle.lwm2m_payloads.specs.declared.given.Assignment.{Assignment}
 use Rattle.lwm2m_payloads.specs.declared.given.Given.{Given}
 use Rattle.lwm2m_payloads.specs.declared.given.Given.TheVariants as given
 use Rattle.lwm2m_payloads.specs.declared.given.Purpose.{Purpose}
-use Rattle.request_reasons.specs.Payloads.{fault_as, fault_in, first_refused, has_number, named, part_fault}
-use Rattle.request_reasons.specs.Payloads.{part_refused, parts_fault, refused_for}
+use Rattle.request_reasons.specs.Payloads.{fault_as, fault_in, first_refused, has_number, part_fault, part_refused}
+use Rattle.request_reasons.specs.Payloads.{parts_fault, record_fault_at, refused_for}
 use Rattle.request_reasons.specs.declared.payload.RecordFault.{RecordFault}
 use Rattle.request_reasons.specs.declared.payload.RecordFault.TheVariants as record_fault
 
@@ -167,11 +167,11 @@ pub assigned : (purpose : Purpose) (resources : List ResourceDef) (place : ℕ) 
 assigned purpose resources place none h = record { items = []; are = refl; numbers = λ n. refl }
 assigned purpose resources place (more node nodes) h =
     let found = resource_in resources (number_in node) in
-    let t = neither_found (option_map (named place node) (refused_for purpose resources node nodes))
+    let t = neither_found (option_map (record_fault_at place node) (refused_for purpose resources node nodes))
     (first_refused purpose resources (place + 1) nodes) h in
     let u = neither_found (fault_as purpose node found)
     (if has_number (number_in node) nodes then Some record_fault.Twice else None)
-    (option_map_none (named place node) (refused_for purpose resources node nodes) t.0) in
+    (option_map_none (record_fault_at place node) (refused_for purpose resources node nodes) t.0) in
     with_record node nodes (assigned_as purpose node found) (assignments purpose resources nodes)
     (assigned_when purpose node found (id_found resources (number_in node)) u.0)
     (twice_not (has_number (number_in node) nodes) u.1)

@@ -28,11 +28,11 @@ use Rattle.lwm2m_payloads.specs.declared.given.Given.{Given}
 use Rattle.lwm2m_payloads.specs.declared.given.Given.TheVariants as given
 use Rattle.lwm2m_payloads.specs.declared.given.Purpose.TheVariants.{Write, Create}
 use Rattle.device_requests.specs.Client.{Client}
-use Rattle.device_requests.specs.Create.{numbered}
+use Rattle.device_requests.specs.Create.{newborn_of}
 use Rattle.device_requests.specs.Read.{format_at}
 use Rattle.device_requests.specs.Refusals.{Purpose, is_invalid, is_target, lacks_format, lacks_target, to_create}
 use Rattle.device_requests.specs.Refusals.{to_delete, to_discover, to_execute, to_read, to_write, to_write_attributes}
-use Rattle.device_requests.specs.Targets.{defined, is_multiple, place_of}
+use Rattle.device_requests.specs.Targets.{is_multiple, place_of, resources_defined}
 use Rattle.device_requests.specs.Write.{given_to_part, given_to_resource, values_given}
 use Rattle.device_requests.specs.WriteAttributes.{level_at}
 use Rattle.request_reasons.specs.Payloads.{creation_fault, fault_in, first_refused, has_number, instance_fault}
@@ -179,8 +179,8 @@ values_when : (client : Client) (path : Path) (payload : List ℕ) (format : For
     → is_some (values_given client.catalog path payload format) ≡ true
 values_when client (Object o) payload format t h = cc
 values_when client (Instance o i) payload format t h =
-    mapped_some _ (instance_given (defined client.catalog o) i payload)
-    (instance_tlv (defined client.catalog o) i (nodes_of_bytes payload) h)
+    mapped_some _ (instance_given (resources_defined client.catalog o) i payload)
+    (instance_tlv (resources_defined client.catalog o) i (nodes_of_bytes payload) h)
 values_when client (Resource o i r) payload format t h =
     mapped_some _ (given_to_resource (definition_of client.catalog o r) format payload)
     (to_resource (definition_of client.catalog o r) (has_instance client.store (place_of o i)) format payload t h)
@@ -222,16 +222,16 @@ numbered_when stored o None h = free_when (is_some (number_for stored o None)) f
 complete_when : (stored : Stored) (o : ℕ) (resources : List ResourceDef) (number : Option ℕ)
     (given : Option (List Assignment)) (others : List Assignment) → given ≡ Some others
     → lacks_mandatory resources others ≡ false → is_some (number_for stored o number) ≡ true
-    → is_some (numbered stored o (complete resources number given)) ≡ true
+    → is_some (newborn_of stored o (complete resources number given)) ≡ true
 complete_when stored o resources number given others e lacks free =
-    ap (λ g. is_some (numbered stored o (complete resources number g))) e
-    ∙ ap (λ b. is_some (numbered stored o
+    ap (λ g. is_some (newborn_of stored o (complete resources number g))) e
+    ∙ ap (λ b. is_some (newborn_of stored o
     (if b then None else Some (record { number = number; assigned = others })))) lacks
     ∙ mapped_some _ (number_for stored o number) free
 
 records_when : (stored : Stored) (o : ℕ) (resources : List ResourceDef) (number : Option ℕ) (nodes : Trees)
     → records_fault stored o resources number nodes ≡ None
-    → is_some (numbered stored o (complete resources number (assignments Create resources nodes))) ≡ true
+    → is_some (newborn_of stored o (complete resources number (assignments Create resources nodes))) ≡ true
 records_when stored o resources number nodes h =
     let t = neither_found (first_refused Create resources 1 nodes)
     (option_or (mandatory_fault resources nodes) (number_fault stored o number)) h in
@@ -244,13 +244,13 @@ records_when stored o resources number nodes h =
 
 creation_when : (stored : Stored) (o : ℕ) (resources : List ResourceDef) (nodes : Trees)
     → creation_fault stored o resources nodes ≡ None
-    → is_some (numbered stored o (creation_in resources nodes)) ≡ true
+    → is_some (newborn_of stored o (creation_in resources nodes)) ≡ true
 creation_when stored o resources (more (instance i inner) none) h = records_when stored o resources (Some i) inner h
 creation_when stored o resources nodes h = records_when stored o resources None nodes h
 
 creation_tlv : (stored : Stored) (o : ℕ) (resources : List ResourceDef) (nodes : Option Trees)
     → tlv_fault (creation_fault stored o resources) nodes ≡ None
-    → is_some (numbered stored o (option_and_then (creation_in resources) nodes)) ≡ true
+    → is_some (newborn_of stored o (option_and_then (creation_in resources) nodes)) ≡ true
 creation_tlv stored o resources None h = cc
 creation_tlv stored o resources (Some nodes) h = creation_when stored o resources nodes h
 
@@ -277,7 +277,7 @@ has_fault client server path (to_write mode number payload) t s h e =
 has_fault client server path (to_write_attributes queries) t s h e =
     some_or (query_fault [] (level_at client.catalog path) 1 queries) fault.Inconsistent e
 has_fault client server path (to_create number payload) t s h e =
-    contrary _ h (creation_tlv client.store (object_in path) (defined client.catalog (object_in path))
+    contrary _ h (creation_tlv client.store (object_in path) (resources_defined client.catalog (object_in path))
     (nodes_of_bytes payload) e)
 has_fault client server path (to_execute number payload) t s h e = cc
 has_fault client server path (to_read accept) t s h e = cc

@@ -21,7 +21,7 @@ use Rattle.object_defs.specs.declared.path.Path.{Path}
 use Rattle.object_defs.specs.declared.path.Path.TheVariants.{Object, Instance, Resource, Part}
 use Rattle.object_defs.specs.declared.path.ResourcePath.{ResourcePath}
 use Rattle.instance_store.specs.Stored.{Stored, has_instance, instances_of}
-use Rattle.device_firmware.specs.Firmware.{firmware, held}
+use Rattle.device_firmware.specs.Firmware.{firmware, firmware_value}
 use Rattle.device_instances.specs.Creations.{is_full}
 use Rattle.device_requests.specs.Client.{Client}
 use Rattle.device_requests.specs.Create.{Newborn, newborn}
@@ -30,7 +30,7 @@ use Rattle.device_requests.specs.Read.{format_at, read_payload}
 use Rattle.device_requests.specs.Refusals.{Purpose, is_oversized, to_create, to_delete, to_discover, to_execute}
 use Rattle.device_requests.specs.Refusals.{to_read}
 use Rattle.device_requests.specs.Refusals.{to_write, to_write_attributes}
-use Rattle.device_requests.specs.Targets.{defined, place_of}
+use Rattle.device_requests.specs.Targets.{place_of, resources_defined}
 use Rattle.device_requests.specs.Write.{given_to_part, given_to_resource, mode_at}
 use Rattle.request_reasons.specs.declared.limit.FirmwareState.{FirmwareState}
 use Rattle.request_reasons.specs.declared.limit.FirmwareState.TheVariants as state
@@ -59,7 +59,7 @@ state_as (Some (Link _ _)) = state.NoState
 -- the State that a store holds, where it has the instance of Firmware Update
 abbrev pub firmware_state_in : Stored → FirmwareState
 firmware_state_in stored =
-    if has_instance stored firmware then state_as (held stored update_state) else state.NoInstance
+    if has_instance stored firmware then state_as (firmware_value stored update_state) else state.NoInstance
 
 -- ---- what is shown
 
@@ -91,17 +91,17 @@ excess_in mode resources stored place given =
     option_map (λ a. (a.resource, part_count mode stored (resource_of place a.resource) a.given))
     (find (is_excess mode resources stored place) given)
 
-abbrev pub lone : ℕ → Given → List Assignment
-lone r value = record { resource = r; given = value } ∷ []
+abbrev pub lone_assignment : ℕ → Given → List Assignment
+lone_assignment r value = record { resource = r; given = value } ∷ []
 
 -- what a payload of this format gives to the resources of an instance, to the one of a path, or to a part of it
 abbrev pub given_at : List ObjectDef → Path → List ℕ → Format → Option (List Assignment)
 given_at catalog (Object o) payload format = None
-given_at catalog (Instance o i) payload format = instance_given (defined catalog o) i payload
+given_at catalog (Instance o i) payload format = instance_given (resources_defined catalog o) i payload
 given_at catalog (Resource o i r) payload format =
-    option_map (lone r) (given_to_resource (definition_of catalog o r) format payload)
+    option_map (lone_assignment r) (given_to_resource (definition_of catalog o r) format payload)
 given_at catalog (Part o i r n) payload format =
-    option_map (lone r) (given_to_part (definition_of catalog o r) n format payload)
+    option_map (lone_assignment r) (given_to_part (definition_of catalog o r) n format payload)
 
 -- what the payload of a Write gives
 abbrev pub assigned_at : List ObjectDef → Path → Option ℕ → List ℕ → Option (List Assignment)
@@ -119,13 +119,13 @@ place_in (Part o i r n) = place_of o i
 abbrev pub written_excess : Client → Mode → Path → Option (List Assignment) → Option (ℕ × ℕ)
 written_excess client mode path None = None
 written_excess client mode path (Some given) =
-    excess_in mode (defined client.catalog (object_in path)) client.store (place_in path) given
+    excess_in mode (resources_defined client.catalog (object_in path)) client.store (place_in path) given
 
 -- after a Create
 abbrev pub created_excess : Client → ℕ → Option Newborn → Option (ℕ × ℕ)
 created_excess client o None = None
 created_excess client o (Some b) =
-    excess_in Replace (defined client.catalog o) client.store (place_of o b.number) b.given
+    excess_in Replace (resources_defined client.catalog o) client.store (place_of o b.number) b.given
 
 -- after a request
 abbrev pub excess_of : Client → Path → Purpose → Option (ℕ × ℕ)

@@ -27,7 +27,7 @@ use Rattle.device_requests.specs.Client.{Client}
 use Rattle.device_requests.specs.Read.{format_at}
 use Rattle.device_requests.specs.Refusals.{Purpose, to_create, to_delete, to_discover, to_execute, to_read, to_write}
 use Rattle.device_requests.specs.Refusals.{to_write_attributes}
-use Rattle.device_requests.specs.Targets.{defined}
+use Rattle.device_requests.specs.Targets.{resources_defined}
 use Rattle.device_requests.specs.WriteAttributes.{level_at}
 use Rattle.request_reasons.specs.declared.payload.PayloadFault.{PayloadFault}
 use Rattle.request_reasons.specs.declared.payload.PayloadFault.TheVariants as fault
@@ -95,14 +95,14 @@ refused_for purpose resources node others =
     option_or (fault_as purpose node (resource_in resources (number_in node)))
     (if has_number (number_in node) others then Some record_fault.Twice else None)
 
-abbrev pub named : ℕ → Tree → RecordFault → PayloadFault
-named place node why = fault.Record place (number_in node) why
+abbrev pub record_fault_at : ℕ → Tree → RecordFault → PayloadFault
+record_fault_at place node why = fault.Record place (number_in node) why
 
 -- the first record of an instance that is refused, where the first of them has this place
 abbrev pub first_refused : GivenFor → List ResourceDef → ℕ → Trees → Option PayloadFault
 first_refused purpose resources place none = None
 first_refused purpose resources place (more node nodes) =
-    option_or (option_map (named place node) (refused_for purpose resources node nodes))
+    option_or (option_map (record_fault_at place node) (refused_for purpose resources node nodes))
     (first_refused purpose resources (place + 1) nodes)
 
 -- ---- payloads
@@ -116,7 +116,7 @@ instance_fault resources i nodes = first_refused given_for.Write resources 1 nod
 -- a Write of a resource: one record of its number
 abbrev pub resource_fault : ResourceDef → Trees → Option PayloadFault
 resource_fault d (more node none) =
-    if number_in node == d.id then option_map (named 1 node) (fault_in d node)
+    if number_in node == d.id then option_map (record_fault_at 1 node) (fault_in d node)
     else Some (fault.Record 1 (number_in node) record_fault.Number)
 resource_fault d nodes = Some (fault.Records (count_of nodes))
 
@@ -130,7 +130,7 @@ lone_part_in kind n (multi r inner) = Some record_fault.Form
 lone_part_in kind n (single r bytes) = Some record_fault.Form
 
 abbrev pub lone_part_fault : ValueKind → ℕ → Trees → Option PayloadFault
-lone_part_fault kind n (more node none) = option_map (named 1 node) (lone_part_in kind n node)
+lone_part_fault kind n (more node none) = option_map (record_fault_at 1 node) (lone_part_in kind n node)
 lone_part_fault kind n nodes = Some (fault.Records (count_of nodes))
 
 abbrev pub part_record_fault : ResourceDef → ℕ → Trees → Option PayloadFault
@@ -168,7 +168,7 @@ instance_payload_fault resources i payload = tlv_fault (instance_fault resources
 -- a Write at a path, in a format that is served there
 abbrev pub write_fault : List ObjectDef → Path → List ℕ → Format → Option PayloadFault
 write_fault catalog (Object o) payload format = None
-write_fault catalog (Instance o i) payload format = instance_payload_fault (defined catalog o) i payload
+write_fault catalog (Instance o i) payload format = instance_payload_fault (resources_defined catalog o) i payload
 write_fault catalog (Resource o i r) payload format =
     write_fault_as (definition_of catalog o r) (λ d. resource_payload_fault d format payload)
 write_fault catalog (Part o i r n) payload format =
@@ -205,7 +205,7 @@ creation_fault stored o resources nodes = records_fault stored o resources None 
 
 abbrev pub create_fault : Client → ℕ → List ℕ → Option PayloadFault
 create_fault client o payload =
-    tlv_fault (creation_fault client.store o (defined client.catalog o)) (nodes_of_bytes payload)
+    tlv_fault (creation_fault client.store o (resources_defined client.catalog o)) (nodes_of_bytes payload)
 
 -- ---- requests
 

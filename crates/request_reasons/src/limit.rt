@@ -10,7 +10,7 @@ ghost use Rattle.device_requests.specs.Write.{mode_at};
 ghost use Rattle.instance_store.specs.Stored.{parts_of};
 ghost use Rattle.lwm2m_payloads.specs.Changes.{is_other};
 ghost use Rattle.request_reasons.specs.Limits.{IsLimit, assigned_at, created_excess, excess_in, firmware_state_in};
-ghost use Rattle.request_reasons.specs.Limits.{given_at, is_excess, lone, part_count, place_in, state_as};
+ghost use Rattle.request_reasons.specs.Limits.{given_at, is_excess, lone_assignment, part_count, place_in, state_as};
 ghost use Rattle.request_reasons.specs.Limits.{written_excess};
 
 use coap_codec::Message;
@@ -246,7 +246,7 @@ fn lone_excess(
     resource: u16,
     given: Option<Given>,
 ) -> Result<Option<(u16, usize)>, AllocError>
-    ensures { IfOk result (λ e. e ≡ written_excess client.now mode path (option_map (lone resource) given)) }
+    ensures { IfOk result (λ e. e ≡ written_excess client.now mode path (option_map (lone_assignment resource) given)) }
 {
     match given {
         None => Ok(None),

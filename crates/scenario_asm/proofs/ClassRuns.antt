@@ -40,11 +40,10 @@ use Rattle.lwm2m_values.specs.Value.{has_good_length}
 use Rattle.device_template.specs.Built.{IsBuilt}
 use Rattle.device_template.specs.declared.fault.TemplateFault.{TemplateFault}
 use Rattle.device_template.specs.declared.fault.TemplateFault.TheVariants as template
-use Rattle.scenario_layout.specs.Class.{class, behind_accounts, behind_instances, behind_notify}
-use Rattle.scenario_layout.specs.Class.{behind_objects, notify, notify_in}
-use Rattle.scenario_layout.specs.Class.{defined, entry, instance, instances, instances_in, is_taken, object, object_id}
-use Rattle.scenario_layout.specs.Class.{objects, objects_in, value_path, values, values_in, with_accounts}
-use Rattle.scenario_layout.specs.Class.{with_instances, with_objects, with_values}
+use Rattle.scenario_layout.specs.Class.{class, behind_accounts, behind_instances, behind_notify, behind_objects, notify}
+use Rattle.scenario_layout.specs.Class.{notify_in, entry, instance, instances, instances_in, is_taken, object}
+use Rattle.scenario_layout.specs.Class.{object_id, object_of_definitions, objects, objects_in, value_path, values}
+use Rattle.scenario_layout.specs.Class.{values_in, with_accounts, with_instances, with_objects, with_values}
 use Rattle.scenario_layout.proofs.Defined.{defined_end, not_refused_at}
 use Rattle.scenario_layout.proofs.Filling.{instance_added as more_instances, instances_itself, instances_none}
 use Rattle.scenario_layout.proofs.Filling.{value_added as more_values, values_itself, values_none}
@@ -59,7 +58,7 @@ use Rattle.scenario_statements.specs.declared.statement.Statement.TheVariants as
 use Rattle.scenario_asm.specs.Canonical.{of_class, of_notify, of_object, of_value}
 use Rattle.scenario_asm.specs.Causes.{needs, scenario_cause, template_cause, unless}
 use Rattle.scenario_asm.specs.ClassLines.{has_object, is_stated, value_cause}
-use Rattle.scenario_asm.specs.Draft.{Draft, closed}
+use Rattle.scenario_asm.specs.Draft.{Draft, closed_scenario}
 use Rattle.scenario_asm.specs.Effect.{class_begun, effect}
 use Rattle.scenario_asm.specs.Denotes.{Lead}
 use Rattle.scenario_asm.proofs.Canonical.{lead_append}
@@ -255,16 +254,17 @@ other : (n m : ℕ) → ltb n m ≡ true → eqb n m ≡ false
 other n m h = grind (arith, nat_tests)
 
 found_last : (front : List ObjectDef) (id : ℕ) (ds : List ResourceDef) → list_all (λ o. nat_lt o.id id) front ≡ true
-    → object_of (front ++ defined id ds ∷ []) id ≡ Some (defined id ds)
-found_last [] id ds low = ap (λ b. cond b (Some (defined id ds)) None) (same_number id)
+    → object_of (front ++ object_of_definitions id ds ∷ []) id ≡ Some (object_of_definitions id ds)
+found_last [] id ds low = ap (λ b. cond b (Some (object_of_definitions id ds)) None) (same_number id)
 found_last (o ∷ front) id ds low =
     let p = and_parts (ltb o.id id) (list_all (λ q. nat_lt q.id id) front) low in
-    ap (λ b. cond b (Some o) (object_of (front ++ defined id ds ∷ []) id)) (other o.id id p.0)
+    ap (λ b. cond b (Some o) (object_of (front ++ object_of_definitions id ds ∷ []) id)) (other o.id id p.0)
     ∙ found_last front id ds p.1
 
 one_definition : (front : List ObjectDef) (id : ℕ) (before : List ResourceDef) (d : ResourceDef)
     → list_all (λ o. nat_lt o.id id) front ≡ true → (resource before).Good d
-    → with_resource (front ++ defined id before ∷ []) id d ≡ front ++ defined id (before ++ d ∷ []) ∷ []
+    → with_resource (front ++ object_of_definitions id before ∷ []) id d ≡ front
+    ++ object_of_definitions id (before ++ d ∷ []) ∷ []
 unfolding each
 one_definition front id before d low good = defined_end (suc zero) front id before (d ∷ []) low (good, refl)
 
@@ -277,24 +277,28 @@ is_below m n k h = omega (arith, h)
 definitions_lead : (s : Scenario) (c : Template) (front : List ObjectDef) (id : ℕ) (n : ℕ)
     (before ds : List ResourceDef) → is_vendor id ≡ true → list_all (λ o. nat_lt o.id id) front ≡ true
     → length before + n ≤ 64 → (each resource n before).Good ds
-    → Lead (opened s (with_catalog c (front ++ defined id before ∷ [])) (Some id)) (map (λ d. says.Def d) ds)
-    (opened s (with_catalog c (front ++ defined id (before ++ ds) ∷ [])) (Some id))
+    → Lead (opened s (with_catalog c (front ++ object_of_definitions id before ∷ [])) (Some id))
+    (map (λ d. says.Def d) ds)
+    (opened s (with_catalog c (front ++ object_of_definitions id (before ++ ds) ∷ [])) (Some id))
 unfolding each
 definitions_lead s c front id zero before ds vendor low nat_le_below good =
-    subst (λ ys. Lead (opened s (with_catalog c (front ++ defined id before ∷ [])) (Some id))
-    (map (λ d. says.Def d) ys) (opened s (with_catalog c (front ++ defined id (before ++ ys) ∷ [])) (Some id)))
+    subst (λ ys. Lead (opened s (with_catalog c (front ++ object_of_definitions id before ∷ [])) (Some id))
+    (map (λ d. says.Def d) ys) (opened s (with_catalog c (front ++ object_of_definitions id (before ++ ys) ∷ []))
+    (Some id)))
     (sym good)
-    (ap (λ ys. opened s (with_catalog c (front ++ defined id ys ∷ [])) (Some id)) (sym (append-nil before)))
+    (ap (λ ys. opened s (with_catalog c (front ++ object_of_definitions id ys ∷ [])) (Some id))
+    (sym (append-nil before)))
 definitions_lead s c front id (suc n) before [] vendor low nat_le_below good = absurd good
 definitions_lead s c front id (suc n) before (d ∷ ds) vendor low nat_le_below good =
-    let k = with_catalog c (front ++ defined id before ∷ []) in (
-      opened s (with_catalog c (front ++ defined id (before ++ d ∷ []) ∷ [])) (Some id),
+    let k = with_catalog c (front ++ object_of_definitions id before ∷ []) in (
+      opened s (with_catalog c (front ++ object_of_definitions id (before ++ d ∷ []) ∷ [])) (Some id),
       ap (λ f. unless (option_map template_cause f) (with_catalog k (with_resource k.catalog id d)) >>=
           (λ e. Ok (opened s e (Some id)))) (not_refused_at k id before d vendor (found_last front id before low) good.0
           (is_below (length before) n 64 nat_le_below))
           ∙ ap (λ t. Ok (opened s (with_catalog c t) (Some id))) (one_definition front id before d low good.0),
-      subst (λ ys. Lead (opened s (with_catalog c (front ++ defined id (before ++ d ∷ []) ∷ [])) (Some id))
-          (map (λ d. says.Def d) ds) (opened s (with_catalog c (front ++ defined id ys ∷ [])) (Some id)))
+      subst (λ ys. Lead (opened s (with_catalog c (front ++ object_of_definitions id (before ++ d ∷ []) ∷ []))
+          (Some id))
+          (map (λ d. says.Def d) ds) (opened s (with_catalog c (front ++ object_of_definitions id ys ∷ [])) (Some id)))
           (append_assoc before (d ∷ []) ds)
           (definitions_lead s c front id n (before ++ d ∷ []) ds vendor low
           (subst (λ m. m + n ≤ 64) (sym (length_pushed before d)) (one_less (length before) n 64 nat_le_below)) good.1),
@@ -313,12 +317,12 @@ object_lead s c before o num good =
     let both = and_parts (list_all (λ q. nat_lt q.id o.id) (base ++ before))
     (is_taken (object_fault k o.id)) good.0.1 in
     let free : object_fault k o.id ≡ None = taken_is _ both.1 in (
-      opened s (with_catalog c ((base ++ before) ++ defined o.id [] ∷ [])) (Some o.id),
+      opened s (with_catalog c ((base ++ before) ++ object_of_definitions o.id [] ∷ [])) (Some o.id),
       ap (λ f. unless (option_map template_cause f) (with_catalog k (with_object k.catalog o.id)) >>=
           (λ e. Ok (opened s e (Some o.id)))) free
           ∙ ap (λ t. Ok (opened s (with_catalog c t) (Some o.id)))
           (inserted_end (λ q. q.id) (new_object o.id) (base ++ before) both.0),
-      subst (λ t. Lead (opened s (with_catalog c ((base ++ before) ++ defined o.id [] ∷ [])) (Some o.id))
+      subst (λ t. Lead (opened s (with_catalog c ((base ++ before) ++ object_of_definitions o.id [] ∷ [])) (Some o.id))
           (map (λ d. says.Def d) o.resources) (opened s (with_catalog c t) (Some o.id)))
           (append_assoc base before (o ∷ []))
           (definitions_lead s c (base ++ before) o.id (length o.resources) [] o.resources
@@ -360,7 +364,7 @@ objects_lead s c xs num none good =
 
 -- ---- a class
 
-begin_lead : (s : Scenario) (d : Draft) → d.begun ≡ true → closed d ≡ s → length s.classes < 256
+begin_lead : (s : Scenario) (d : Draft) → d.begun ≡ true → closed_scenario d ≡ s → length s.classes < 256
     → effect says.Class d ≡ Ok (opened s empty_class None)
 begin_lead s d begun same room =
     ap (λ b. needs b (class_begun d)) begun
@@ -372,7 +376,7 @@ begin_lead s d begun same room =
     ∙ ap (λ b. Ok (record { begun = b; scenario = s; open_class = Some empty_class; object = None })) begun
 
 -- the statements of a class make it, from a draft that has room for it
-pub class_lead : (s : Scenario) (c : Template) (d : Draft) → IsBuilt c → d.begun ≡ true → closed d ≡ s
+pub class_lead : (s : Scenario) (c : Template) (d : Draft) → IsBuilt c → d.begun ≡ true → closed_scenario d ≡ s
     → length s.classes < 256 → (m : Option ℕ) × Lead d (of_class c) (opened s c m)
 unfolding class notify_in notify behind_notify behind_accounts behind_objects behind_instances
 class_lead s c d built begun same room =
@@ -405,9 +409,9 @@ abbrev script : List Template → Scenario
 script cs = record { classes = cs; rows = [] }
 
 -- the statements of classes make them
-pub classes_lead : (cs todo : List Template) (d : Draft) → d.begun ≡ true → closed d ≡ script cs
+pub classes_lead : (cs todo : List Template) (d : Draft) → d.begun ≡ true → closed_scenario d ≡ script cs
     → AllByRecursion IsBuilt todo → length cs + length todo ≤ 256
-    → (e : Draft) × Lead d (flat_map of_class todo) e × (e.begun ≡ true) × (closed e ≡ script (cs ++ todo))
+    → (e : Draft) × Lead d (flat_map of_class todo) e × (e.begun ≡ true) × (closed_scenario e ≡ script (cs ++ todo))
 classes_lead cs [] d begun same built room = (d, refl, begun, same ∙ ap script (sym (append-nil cs)))
 classes_lead cs (c ∷ todo) d begun same built room =
     let one = class_lead (script cs) c d built.0 begun same (is_below (length cs) (length todo) 256 room) in

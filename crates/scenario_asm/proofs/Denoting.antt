@@ -9,11 +9,12 @@ use Rattle.scenario_words.specs.Reading.{◌>>=◌}
 use Rattle.scenario_statements.specs.declared.statement.Statement.{Statement}
 use Rattle.scenario_statements.specs.Grammar.{some, statement_by, statement_of}
 use Rattle.scenario_asm.specs.declared.fault.AsmFault.{AsmFault}
-use Rattle.scenario_asm.specs.Draft.{Draft, closed, nothing}
+use Rattle.scenario_asm.specs.Draft.{Draft, closed_scenario, nothing}
 use Rattle.scenario_asm.specs.Effect.{effect}
 use Rattle.scenario_asm.specs.Denotes.{AreSaid, Denotes, Lead}
 use Rattle.scenario_asm.specs.Denotes.AreSaid.{done, blank, stated}
-use Rattle.scenario_asm.specs.Text.{assembled, at_line, effect_of, lines_after, then_lines, whole, whole_of}
+use Rattle.scenario_asm.specs.Text.{at_line, effect_of, lines_after, scenario_of_text, then_lines, whole_of}
+use Rattle.scenario_asm.specs.Text.{whole_scenario}
 
 -- what lines say, and where it leads
 abbrev Found : List (List ℕ) → Draft → Draft → Type 0
@@ -69,14 +70,15 @@ no_scenario fault s h = cc
 
 -- a text denotes what its draft states
 whole_is : (text : List ℕ) (s : Scenario) (d : Draft) (b : Bool) → d.begun ≡ b → Found (lines text) nothing d
-    → whole d ≡ Ok s → Denotes text s
+    → whole_scenario d ≡ Ok s → Denotes text s
 whole_is text s d true begun f h =
-    let is : Ok (closed d) ≡ Ok s =
-    sym (ap (λ b. cond b (Ok (closed d)) (Err (record { line = 1; cause = Missing }))) begun) ∙ h in
-    let same : closed d ≡ s = cc in
+    let is : Ok (closed_scenario d) ≡ Ok s =
+    sym (ap (λ b. cond b (Ok (closed_scenario d)) (Err (record { line = 1; cause = Missing }))) begun) ∙ h in
+    let same : closed_scenario d ≡ s = cc in
     record { statements = f.0; said = f.1; draft = d; lead = f.2; begun = begun; scenario = same }
 whole_is text s d false begun f h =
-    absurd (no_scenario _ s (sym (ap (λ b. cond b (Ok (closed d)) (Err (record { line = 1; cause = Missing }))) begun)
+    absurd (no_scenario _ s (sym (ap (λ b. cond b (Ok (closed_scenario d)) (Err (record { line = 1; cause = Missing })))
+    begun)
     ∙ h))
 
 by_all : (text : List ℕ) (s : Scenario) (r : Result Draft AsmFault) → lines_after (lines text) 0 nothing ≡ r
@@ -84,11 +86,11 @@ by_all : (text : List ℕ) (s : Scenario) (r : Result Draft AsmFault) → lines_
 by_all text s (Err fault) is h = absurd cc
 by_all text s (Ok d) is h = whole_is text s d d.begun refl (found (lines text) 0 nothing d is) h
 
-pub so_denotes : (text : List ℕ) (s : Scenario) → assembled text ≡ Ok s → Denotes text s
+pub so_denotes : (text : List ℕ) (s : Scenario) → scenario_of_text text ≡ Ok s → Denotes text s
 so_denotes text s h = by_all text s (lines_after (lines text) 0 nothing) refl h
 
-pub denotes_so : (text : List ℕ) (s : Scenario) → Denotes text s → assembled text ≡ Ok s
+pub denotes_so : (text : List ℕ) (s : Scenario) → Denotes text s → scenario_of_text text ≡ Ok s
 denotes_so text s d =
     ap whole_of (lead_on (lines text) d.statements 0 nothing d.draft d.said d.lead)
-    ∙ ap (λ b. cond b (Ok (closed d.draft)) (Err (record { line = 1; cause = Missing }))) d.begun
+    ∙ ap (λ b. cond b (Ok (closed_scenario d.draft)) (Err (record { line = 1; cause = Missing }))) d.begun
     ∙ ap (λ x. Ok x) d.scenario

@@ -4,7 +4,7 @@ use Rattle.std.proofs.Common.{Ordering, refl}
 use Rattle.std.specs.List.{AllByRecursion}
 use Rattle.std.specs.declared.cmp.Ordering.TheVariants.{Less, Equal, Greater}
 use Rattle.std.specs.FinMap.Entries.{put, by_order}
-use Rattle.object_defs.specs.Vendor.{inserted}
+use Rattle.object_defs.specs.Vendor.{with_inserted}
 
 pub chosen : {A : Type 0} (P : A → Type 0) (b : Bool) (x y : A) → (b ≡ true → P x) → (b ≡ false → P y) → P (cond b x y)
 chosen P true x y h k = h refl
@@ -16,10 +16,10 @@ each_map Q P f g [] h = tt
 each_map Q P f g (x ∷ xs) h = (g x h.0, each_map Q P f g xs h.1)
 
 pub each_inserted : {A : Type 0} (P : A → Type 0) (number : A → ℕ) (x : A) (ys : List A) → P x → AllByRecursion P ys
-    → AllByRecursion P (inserted number x ys)
+    → AllByRecursion P (with_inserted number x ys)
 each_inserted P number x [] h k = (h, tt)
 each_inserted P number x (y ∷ ys) h k =
-    chosen (AllByRecursion P) (ltb (number x) (number y)) (x ∷ y ∷ ys) (y ∷ inserted number x ys) (λ e. (h, k))
+    chosen (AllByRecursion P) (ltb (number x) (number y)) (x ∷ y ∷ ys) (y ∷ with_inserted number x ys) (λ e. (h, k))
     (λ e. (k.0, each_inserted P number x ys h k.1))
 
 -- what holds of each key and of each value holds of a key and a value more

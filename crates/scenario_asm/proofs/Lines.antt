@@ -7,7 +7,8 @@ use Rattle.scenario_words.specs.declared.cause.Cause.{Cause}
 use Rattle.scenario_words.specs.Words.{lines}
 use Rattle.scenario_asm.specs.declared.fault.AsmFault.{AsmFault}
 use Rattle.scenario_asm.specs.Draft.{Draft, nothing}
-use Rattle.scenario_asm.specs.Text.{IsReached, assembled, at_line, line_after, lines_after, then_lines, whole, whole_of}
+use Rattle.scenario_asm.specs.Text.{IsReached, at_line, line_after, lines_after, scenario_of_text, then_lines, whole_of}
+use Rattle.scenario_asm.specs.Text.{whole_scenario}
 
 -- one more than the bytes that are left, and nothing after the last line
 abbrev pub bytes_left : Option (List ℕ) → ℕ
@@ -26,14 +27,14 @@ goes_on text first more n d e all cut taken so_far =
 pub stops : (text first : List ℕ) (more : List (List ℕ)) (n : ℕ) (d : Draft) (cause : Cause) (from : List ℕ)
     → lines text ≡ first ∷ more → line_after first d ≡ Err cause
     → lines_after (lines text) n d ≡ lines_after (lines from) 0 nothing
-    → assembled from ≡ Err (record { line = n + 1; cause = cause })
+    → scenario_of_text from ≡ Err (record { line = n + 1; cause = cause })
 stops text first more n d cause from cut refused so_far =
     ap whole_of (sym so_far ∙ ap (λ ls. lines_after ls n d) cut
     ∙ ap (λ r. then_lines (lines_after more (n + 1)) (at_line (n + 1) r)) refused)
 
 -- no line is left
 pub ends : (n : ℕ) (d : Draft) (from : List ℕ) → lines_after [] n d ≡ lines_after (lines from) 0 nothing
-    → assembled from ≡ whole d
+    → scenario_of_text from ≡ whole_scenario d
 ends n d from so_far = ap whole_of (sym so_far)
 
 -- the class of the row at a place

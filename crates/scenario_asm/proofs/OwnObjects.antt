@@ -7,8 +7,8 @@ use Rattle.std.proofs.lemmas.Bool.{and_parts, leb-true}
 use Rattle.std.proofs.lemmas.Bool.Decides.{nat_tests}
 use Rattle.object_defs.specs.Base.{base}
 use Rattle.object_defs.specs.Catalog.{object_of}
-use Rattle.object_defs.specs.Vendor.{inserted, is_vendor, new_object, resource_fault_in, with_definition, with_object}
-use Rattle.object_defs.specs.Vendor.{with_resource}
+use Rattle.object_defs.specs.Vendor.{is_vendor, new_object, resource_fault_in, with_definition, with_inserted}
+use Rattle.object_defs.specs.Vendor.{with_object, with_resource}
 use Rattle.object_defs.specs.declared.definition.ObjectDef.{ObjectDef}
 use Rattle.object_defs.specs.declared.definition.ResourceDef.{ResourceDef}
 use Rattle.device_template.specs.Template.{Template, definition_fault, fault_of}
@@ -42,10 +42,11 @@ base_low = (omega arith, (omega arith, (omega arith, (omega arith, (omega arith,
 
 inserted_behind : (o : ObjectDef) (front back : List ObjectDef) → 10241 ≤ o.id
     → AllByRecursion (λ (f : ObjectDef). f.id < 10241) front
-    → inserted (λ (f : ObjectDef). f.id) o (front ++ back) ≡ front ++ inserted (λ (f : ObjectDef). f.id) o back
+    → with_inserted (λ (f : ObjectDef). f.id) o (front ++ back) ≡ front
+    ++ with_inserted (λ (f : ObjectDef). f.id) o back
 inserted_behind o [] back h low = refl
 inserted_behind o (f ∷ front) back h low =
-    ap (λ b. cond b (o ∷ f ∷ front ++ back) (f ∷ inserted (λ (g : ObjectDef). g.id) o (front ++ back)))
+    ap (λ b. cond b (o ∷ f ∷ front ++ back) (f ∷ with_inserted (λ (g : ObjectDef). g.id) o (front ++ back)))
     (not_below o.id f.id h low.0)
     ∙ ap (λ t. f ∷ t) (inserted_behind o front back h low.1)
 

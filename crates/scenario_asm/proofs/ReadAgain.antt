@@ -10,7 +10,7 @@ use Rattle.scenario_statements.specs.Grammar.{statement_of}
 use Rattle.scenario_statements.specs.Spelling.{IsSayable, line_of}
 use Rattle.scenario_statements.proofs.Again.{words_of_line, line_alone, statement_again}
 use Rattle.scenario_asm.specs.Canonical.{printed_lines}
-use Rattle.scenario_asm.specs.Reading.{behind, said_in, said_by}
+use Rattle.scenario_asm.specs.Reading.{statements_from, said_in, said_by}
 use Rattle.scenario_asm.proofs.Each.{each_map}
 
 pub lines_of : (ss : List Statement) → AllByRecursion IsSayable ss
@@ -21,8 +21,8 @@ lines_of ss h = ap lines (sym (flat_map-map ended_line line_of ss))
 said_more : (s : Statement) (rest : List (List ℕ)) (ss : List Statement) → IsSayable s → said_in rest ≡ Ok ss
     → said_in (line_of s ∷ rest) ≡ Ok (s ∷ ss)
 said_more s rest ss h e =
-    ap (λ ws. statement_of ws >>= (λ o. said_in rest >>= (λ r. Ok (behind o r)))) (words_of_line s h)
-    ∙ ap (λ o. o >>= (λ p. said_in rest >>= (λ r. Ok (behind p r)))) (statement_again s h)
+    ap (λ ws. statement_of ws >>= (λ o. said_in rest >>= (λ r. Ok (statements_from o r)))) (words_of_line s h)
+    ∙ ap (λ o. o >>= (λ p. said_in rest >>= (λ r. Ok (statements_from p r)))) (statement_again s h)
     ∙ ap (λ r. r >>= (λ q. Ok (s ∷ q))) e
 
 said_lines : (ss : List Statement) → AllByRecursion IsSayable ss → said_in (map line_of ss ++ [] ∷ []) ≡ Ok ss

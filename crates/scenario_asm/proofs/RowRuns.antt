@@ -30,8 +30,8 @@ use Rattle.scenario_statements.specs.declared.statement.Statement.TheVariants as
 use Rattle.scenario_asm.specs.Canonical.{of_datagram, of_row, of_step}
 use Rattle.scenario_asm.proofs.Numbers.{bytes_all}
 use Rattle.scenario_asm.specs.Causes.{needs, scenario_cause, unless}
-use Rattle.scenario_asm.specs.Draft.{Draft, closed}
-use Rattle.scenario_asm.specs.Effect.{device_begun, effect, fitting, has_device, has_server, knows, step_added}
+use Rattle.scenario_asm.specs.Draft.{Draft, closed_scenario}
+use Rattle.scenario_asm.specs.Effect.{device_begun, effect, has_device, has_server, if_path_fits, knows, step_added}
 use Rattle.scenario_asm.specs.Denotes.{Lead}
 use Rattle.scenario_asm.proofs.Canonical.{lead_append}
 
@@ -109,7 +109,7 @@ by_mnemonic : (d e : Draft) (server : ℕ) (bytes : List ℕ) (m : Mnemonic) →
     → effect (says.Request server m) d ≡ Ok e
 by_mnemonic d e server bytes m begun known good same h =
     ap (λ b. needs b (needs (has_server d server)
-    (fitting m (step_added (step.Event (event.Recv server (datagram_of m))) d)))) begun
+    (if_path_fits m (step_added (step.Event (event.Recv server (datagram_of m))) d)))) begun
     ∙ of_server d e server _ known
     (ap (λ b. cond b (step_added (step.Event (event.Recv server (datagram_of m))) d) (Err Range)) (good_fits m good)
     ∙ ap (λ bs. step_added (step.Event (event.Recv server bs)) d) same
@@ -185,7 +185,7 @@ row_lines true b h i = absurd cc
 row_lines false true h i = absurd cc
 
 device_lead : (cs : List Template) (rows : List Row) (class : ℕ) (d : Draft) → d.begun ≡ true
-    → closed d ≡ script cs rows → class < length cs → length rows < 16384
+    → closed_scenario d ≡ script cs rows → class < length cs → length rows < 16384
     → effect (says.Device class) d ≡ Ok (here cs rows class [])
 device_lead cs rows class d begun same there short =
     ap (λ b. needs b (device_begun class d)) begun
@@ -198,7 +198,8 @@ device_lead cs rows class d begun same there short =
     ∙ ap (λ b. Ok (record { begun = b; scenario = with_row (script cs rows) class; open_class = None; object = None }))
     begun
 
-row_lead : (cs : List Template) (rows : List Row) (r : Row) (d : Draft) → d.begun ≡ true → closed d ≡ script cs rows
+row_lead : (cs : List Template) (rows : List Row) (r : Row) (d : Draft) → d.begun ≡ true
+    → closed_scenario d ≡ script cs rows
     → IsGoodRow cs r → length rows < 16384 → Lead d (of_row r) (shut (script cs (rows ++ r ∷ [])))
 row_lead cs rows r d begun same good short = (
   here cs rows r.class [],
@@ -207,9 +208,10 @@ row_lead cs rows r d begun same good short = (
 )
 
 -- the statements of rows lead to the scenario that has them
-pub rows_lead : (cs : List Template) (rows todo : List Row) (d : Draft) → d.begun ≡ true → closed d ≡ script cs rows
+pub rows_lead : (cs : List Template) (rows todo : List Row) (d : Draft) → d.begun ≡ true
+    → closed_scenario d ≡ script cs rows
     → AllByRecursion (IsGoodRow cs) todo → length rows + length todo ≤ 16384
-    → (e : Draft) × Lead d (flat_map of_row todo) e × (e.begun ≡ true) × (closed e ≡ script cs (rows ++ todo))
+    → (e : Draft) × Lead d (flat_map of_row todo) e × (e.begun ≡ true) × (closed_scenario e ≡ script cs (rows ++ todo))
 rows_lead cs rows [] d begun same good short = (d, refl, begun, same ∙ ap (script cs) (sym (append-nil rows)))
 rows_lead cs rows (r ∷ todo) d begun same good short =
     let one = row_lead cs rows r d begun same good.0 (has_one (length rows) (length todo) 16384 short) in

@@ -73,5 +73,5 @@ abbrev pub printed_lines : List Statement → List ℕ
 printed_lines ss = flat_map printed_line ss
 
 -- the canonical text of a scenario
-abbrev pub printed : Scenario → List ℕ
-printed s = printed_lines (statements s)
+abbrev pub text_of_scenario : Scenario → List ℕ
+text_of_scenario s = printed_lines (statements s)

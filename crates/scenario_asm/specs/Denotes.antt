@@ -4,7 +4,7 @@ use Rattle.scenario_image.specs.Scenario.{Scenario}
 use Rattle.scenario_words.specs.Words.{lines, words}
 use Rattle.scenario_statements.specs.declared.statement.Statement.{Statement}
 use Rattle.scenario_statements.specs.Grammar.{statement_of}
-use Rattle.scenario_asm.specs.Draft.{Draft, closed, nothing}
+use Rattle.scenario_asm.specs.Draft.{Draft, closed_scenario, nothing}
 use Rattle.scenario_asm.specs.Effect.{effect}
 
 -- what lines say: a line without words nothing, each other one its statement
@@ -27,4 +27,4 @@ pub record Denotes (text : List ℕ) (s : Scenario) : Type 0 where
   pub draft : Draft
   pub lead : Lead nothing statements draft
   pub begun : draft.begun ≡ true
-  pub scenario : closed draft ≡ s
+  pub scenario : closed_scenario draft ≡ s

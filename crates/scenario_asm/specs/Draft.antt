@@ -23,8 +23,8 @@ with_open s None = s
 with_open s (Some class) = with_class s class
 
 -- the scenario, whose last class is the open one, where there is one
-abbrev pub closed : Draft → Scenario
-closed d = with_open d.scenario d.open_class
+abbrev pub closed_scenario : Draft → Scenario
+closed_scenario d = with_open d.scenario d.open_class
 
 -- the open class is one of 256 at most
 abbrev pub HasRoom : Draft → Type 0

@@ -19,11 +19,11 @@ use Rattle.scenario_statements.specs.declared.statement.Statement.TheVariants as
 use Rattle.scenario_asm.specs.Causes.{needs, scenario_cause, unless}
 use Rattle.scenario_asm.specs.ClassLines.{account_added, definition_added, instance_added, notify_set, object_added}
 use Rattle.scenario_asm.specs.ClassLines.{value_added}
-use Rattle.scenario_asm.specs.Draft.{Draft, closed}
+use Rattle.scenario_asm.specs.Draft.{Draft, closed_scenario}
 
 -- the draft, whose open class is this one
-abbrev pub reopened : Draft → Template → Draft
-reopened d c = record d { open_class = Some c }
+abbrev pub with_open_class : Draft → Template → Draft
+with_open_class d c = record d { open_class = Some c }
 
 -- the same, where this object was stated last
 abbrev pub reopened_with : ℕ → Draft → Template → Draft
@@ -43,14 +43,14 @@ in_object (Some object) add c = add object c
 -- a class that is begun closes the one before it
 abbrev pub class_begun : Draft → Result Draft Cause
 class_begun d =
-    unless (option_map scenario_cause (class_fault (closed d)))
-    (record { begun = d.begun; scenario = closed d; open_class = Some empty_class; object = None })
+    unless (option_map scenario_cause (class_fault (closed_scenario d)))
+    (record { begun = d.begun; scenario = closed_scenario d; open_class = Some empty_class; object = None })
 
 -- a device closes the class before it
 abbrev pub device_begun : ℕ → Draft → Result Draft Cause
 device_begun class d =
-    unless (option_map scenario_cause (row_fault (closed d) class))
-    (record { begun = d.begun; scenario = with_row (closed d) class; open_class = None; object = None })
+    unless (option_map scenario_cause (row_fault (closed_scenario d) class))
+    (record { begun = d.begun; scenario = with_row (closed_scenario d) class; open_class = None; object = None })
 
 abbrev pub has_device : Draft → Bool
 has_device d = nat_lt 0 (length d.scenario.rows)
@@ -77,27 +77,28 @@ abbrev pub device_step : Step → Draft → Result Draft Cause
 device_step s d = needs (has_device d) (step_added s d)
 
 -- a mnemonic has a path of as many numbers as it needs
-abbrev pub fitting : Mnemonic → Result Draft Cause → Result Draft Cause
-fitting m x = if fits_mnemonic m then x else Err Range
+abbrev pub if_path_fits : Mnemonic → Result Draft Cause → Result Draft Cause
+if_path_fits m x = if fits_mnemonic m then x else Err Range
 
 -- what a statement adds; each but the first needs `scenario 1` before it
 abbrev pub effect : Statement → Draft → Result Draft Cause
 effect says.Scenario d =
     if d.begun then Err Duplicate else Ok (record d { begun = true })
 effect says.Class d = needs d.begun (class_begun d)
-effect (says.Notify seconds) d = needs d.begun (in_class d (notify_set seconds) (reopened d) d.open_class)
-effect (says.Account server) d = needs d.begun (in_class d (account_added server) (reopened d) d.open_class)
+effect (says.Notify seconds) d = needs d.begun (in_class d (notify_set seconds) (with_open_class d) d.open_class)
+effect (says.Account server) d = needs d.begun (in_class d (account_added server) (with_open_class d) d.open_class)
 effect (says.Object id) d = needs d.begun (in_class d (object_added id) (reopened_with id d) d.open_class)
 effect (says.Def r) d =
-    needs d.begun (in_class d (in_object d.object (λ object. definition_added object r)) (reopened d) d.open_class)
-effect (says.Instance place) d = needs d.begun (in_class d (instance_added place) (reopened d) d.open_class)
-effect (says.Value p value) d = needs d.begun (in_class d (value_added p value) (reopened d) d.open_class)
+    needs d.begun (in_class d (in_object d.object (λ object. definition_added object r))
+    (with_open_class d) d.open_class)
+effect (says.Instance place) d = needs d.begun (in_class d (instance_added place) (with_open_class d) d.open_class)
+effect (says.Value p value) d = needs d.begun (in_class d (value_added p value) (with_open_class d) d.open_class)
 effect (says.Device class) d = needs d.begun (device_begun class d)
 effect (says.Recv server bytes) d =
     needs d.begun (needs (has_server d server) (step_added (step.Event (event.Recv server bytes)) d))
 effect (says.Request server m) d =
     needs d.begun (needs (has_server d server)
-    (fitting m (step_added (step.Event (event.Recv server (datagram_of m))) d)))
+    (if_path_fits m (step_added (step.Event (event.Recv server (datagram_of m))) d)))
 effect (says.Tick seconds) d = needs d.begun (device_step (step.Event (event.Tick seconds)) d)
 effect (says.Put p value) d = needs d.begun (device_step (step.Event (event.Put p value)) d)
 effect (says.Firmware code) d = needs d.begun (device_step (step.Event (event.Firmware code)) d)

@@ -10,9 +10,9 @@ use Rattle.scenario_statements.specs.declared.statement.Statement.{Statement}
 use Rattle.scenario_statements.specs.Grammar.{statement_of}
 
 -- a statement before others, where a line has one
-abbrev pub behind : Option Statement → List Statement → List Statement
-behind None ss = ss
-behind (Some s) ss = s ∷ ss
+abbrev pub statements_from : Option Statement → List Statement → List Statement
+statements_from None ss = ss
+statements_from (Some s) ss = s ∷ ss
 
 -- what lines say, in their order
 abbrev pub said_in : List (List ℕ) → Result (List Statement) Cause
@@ -20,7 +20,7 @@ said_in [] = Ok []
 said_in (line ∷ ls) = do
   s ← statement_of (words line)
   ss ← said_in ls
-  Ok (behind s ss)
+  Ok (statements_from s ss)
 
 -- what a text says, in the order of its lines
 abbrev pub said_by : List ℕ → Result (List Statement) Cause

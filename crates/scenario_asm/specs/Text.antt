@@ -8,7 +8,7 @@ use Rattle.scenario_words.specs.Words.{lines, words}
 use Rattle.scenario_words.specs.Reading.{◌>>=◌}
 use Rattle.scenario_statements.specs.declared.statement.Statement.{Statement}
 use Rattle.scenario_statements.specs.Grammar.{statement_of}
-use Rattle.scenario_asm.specs.Draft.{Draft, closed, nothing}
+use Rattle.scenario_asm.specs.Draft.{Draft, closed_scenario, nothing}
 use Rattle.scenario_asm.specs.Effect.{effect}
 use Rattle.scenario_asm.specs.declared.fault.AsmFault.{AsmFault}
 
@@ -35,16 +35,16 @@ lines_after [] n d = Ok d
 lines_after (line ∷ more) n d = then_lines (lines_after more (n + 1)) (at_line (n + 1) (line_after line d))
 
 -- what was stated in all; where nothing was, line 1 has to
-abbrev pub whole : Draft → Result Scenario AsmFault
-whole d = if d.begun then Ok (closed d) else Err (record { line = 1; cause = Missing })
+abbrev pub whole_scenario : Draft → Result Scenario AsmFault
+whole_scenario d = if d.begun then Ok (closed_scenario d) else Err (record { line = 1; cause = Missing })
 
 abbrev pub whole_of : Result Draft AsmFault → Result Scenario AsmFault
-whole_of (Ok d) = whole d
+whole_of (Ok d) = whole_scenario d
 whole_of (Err fault) = Err fault
 
 -- the scenario of a text, or its first fault
-abbrev pub assembled : List ℕ → Result Scenario AsmFault
-assembled text = whole_of (lines_after (lines text) 0 nothing)
+abbrev pub scenario_of_text : List ℕ → Result Scenario AsmFault
+scenario_of_text text = whole_of (lines_after (lines text) 0 nothing)
 
 -- a line of the text, by its number: those before it are taken
 pub record IsReached (text : List ℕ) (line : ℕ) : Type 0 where

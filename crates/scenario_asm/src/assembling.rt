@@ -1,6 +1,6 @@
 ghost use Rattle.std.specs.Prelude.{◌≡◌, ◌≢◌, Ok, Err, IfErr, MatchResult};
 ghost use Rattle.scenario_words.specs.declared.cause.Cause.TheVariants.{Memory};
-ghost use Rattle.scenario_asm.specs.Text.{IsReached, assembled};
+ghost use Rattle.scenario_asm.specs.Text.{IsReached, scenario_of_text};
 
 use crate::draft::Draft;
 use crate::fault::AsmFault;
@@ -17,8 +17,8 @@ use std::alloc::Global;
 /// If memory runs out, the line that is named is one of the text's, and those before it were taken (`memory`).
 #[tactic(auto, using(crate::proofs::Lines::line_by_line))]
 pub fn assemble(alloc: Global, text: &str) -> Result<Scenario, AsmFault>
-    ensures assembled { MatchResult result (λ s. assembled text.now ≡ Ok s)
-        (λ f. f.cause ≢ Memory → assembled text.now ≡ Err f) }
+    ensures assembled { MatchResult result (λ s. scenario_of_text text.now ≡ Ok s)
+        (λ f. f.cause ≢ Memory → scenario_of_text text.now ≡ Err f) }
     ensures memory { IfErr result (λ f. f.cause ≡ Memory → IsReached text.now f.line) }
 {
     let mut draft = Draft::nothing(alloc);

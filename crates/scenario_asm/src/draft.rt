@@ -13,11 +13,11 @@ ghost use Rattle.scenario_mnemonics.specs.Messages.{datagram_of};
 ghost use Rattle.scenario_asm.specs.Causes.{Makes, needs};
 ghost use Rattle.scenario_asm.specs.ClassLines.{account_added, definition_added, instance_added, object_added};
 ghost use Rattle.scenario_asm.specs.ClassLines.{notify_set, value_added};
-ghost use Rattle.scenario_asm.specs.Draft.{closed, nothing};
-ghost use Rattle.scenario_asm.specs.Effect.{class_begun, device_begun, device_step, effect, fitting, has_device};
-ghost use Rattle.scenario_asm.specs.Effect.{has_server, in_class, in_object, is_refused_first, last_class, reopened};
-ghost use Rattle.scenario_asm.specs.Effect.{reopened_with, step_added};
-ghost use Rattle.scenario_asm.specs.Text.{line_after, whole};
+ghost use Rattle.scenario_asm.specs.Draft.{closed_scenario, nothing};
+ghost use Rattle.scenario_asm.specs.Effect.{class_begun, device_begun, device_step, effect, has_device, has_server};
+ghost use Rattle.scenario_asm.specs.Effect.{if_path_fits, in_class, in_object, is_refused_first, last_class};
+ghost use Rattle.scenario_asm.specs.Effect.{reopened_with, step_added, with_open_class};
+ghost use Rattle.scenario_asm.specs.Text.{line_after, whole_scenario};
 ghost use Rattle.scenario_asm.specs.declared.fault.AsmFault.{AsmFault};
 
 use crate::causes::of_scenario;
@@ -94,7 +94,7 @@ impl Draft {
     /// Adds the open class to the scenario, if there is one.
     fn close(&mut self) -> Result<(), Cause>
         ensures closed { OnOk result (self.new ≡ record
-            { begun = self.old.begun; scenario = closed self.old; open_class = None; object = None }) }
+            { begun = self.old.begun; scenario = closed_scenario self.old; open_class = None; object = None }) }
         ensures memory { IfErr result (λ e. e ≢ Memory → ⊥) }
     {
         self.object = None;
@@ -131,9 +131,9 @@ impl Draft {
 
     fn account(&mut self, server: u16) -> Result<(), Cause>
         ensures made { Makes result self.new
-            (in_class self.old (account_added server) (reopened self.old) self.old.open_class) }
+            (in_class self.old (account_added server) (with_open_class self.old) self.old.open_class) }
         ensures refused { (c : Cause)
-            → in_class self.old (account_added server) (reopened self.old) self.old.open_class ≡ Err c
+            → in_class self.old (account_added server) (with_open_class self.old) self.old.open_class ≡ Err c
             → result ≡ Err c }
     {
         match &mut self.open_class {
@@ -144,9 +144,9 @@ impl Draft {
 
     fn notify(&mut self, seconds: u8) -> Result<(), Cause>
         ensures made { Makes result self.new
-            (in_class self.old (notify_set seconds) (reopened self.old) self.old.open_class) }
+            (in_class self.old (notify_set seconds) (with_open_class self.old) self.old.open_class) }
         ensures refused { (c : Cause)
-            → in_class self.old (notify_set seconds) (reopened self.old) self.old.open_class ≡ Err c
+            → in_class self.old (notify_set seconds) (with_open_class self.old) self.old.open_class ≡ Err c
             → result ≡ Err c }
     {
         match &mut self.open_class {
@@ -172,10 +172,10 @@ impl Draft {
     fn definition(&mut self, definition: ResourceDef) -> Result<(), Cause>
         ensures made { Makes result self.new
             (in_class self.old (in_object self.old.object (λ object. definition_added object definition))
-            (reopened self.old) self.old.open_class) }
+            (with_open_class self.old) self.old.open_class) }
         ensures refused { (c : Cause)
             → in_class self.old (in_object self.old.object (λ object. definition_added object definition))
-            (reopened self.old) self.old.open_class ≡ Err c
+            (with_open_class self.old) self.old.open_class ≡ Err c
             → result ≡ Err c }
     {
         let object = self.object;
@@ -187,9 +187,9 @@ impl Draft {
 
     fn instance(&mut self, place: InstancePath) -> Result<(), Cause>
         ensures made { Makes result self.new
-            (in_class self.old (instance_added place) (reopened self.old) self.old.open_class) }
+            (in_class self.old (instance_added place) (with_open_class self.old) self.old.open_class) }
         ensures refused { (c : Cause)
-            → in_class self.old (instance_added place) (reopened self.old) self.old.open_class ≡ Err c
+            → in_class self.old (instance_added place) (with_open_class self.old) self.old.open_class ≡ Err c
             → result ≡ Err c }
     {
         match &mut self.open_class {
@@ -200,7 +200,7 @@ impl Draft {
 
     fn value(&mut self, alloc: Global, path: Path, value: Value) -> Result<(), Cause>
         ensures { Makes result self.new (in_class self.old (value_added path value)
-            (reopened self.old) self.old.open_class) }
+            (with_open_class self.old) self.old.open_class) }
     {
         match &mut self.open_class {
             None => Err(Cause::Missing),
@@ -281,10 +281,10 @@ impl Draft {
 
     fn request(&mut self, alloc: Global, server: u16, mnemonic: &Mnemonic) -> Result<(), Cause>
         ensures made { Makes result self.new
-            (needs (has_server self.old server) (fitting mnemonic.now
+            (needs (has_server self.old server) (if_path_fits mnemonic.now
             (step_added (step.Event (event.Recv server (datagram_of mnemonic.now))) self.old))) }
         ensures refused { (c : Cause)
-            → needs (has_server self.old server) (fitting mnemonic.now (Ok self.old)) ≡ Err c → result ≡ Err c }
+            → needs (has_server self.old server) (if_path_fits mnemonic.now (Ok self.old)) ≡ Err c → result ≡ Err c }
     {
         if !self.has_server(server) {
             return Err(Cause::Missing);
@@ -338,8 +338,9 @@ impl Draft {
 
     /// The scenario that was stated, after n lines.
     pub(crate) fn finish(mut self, lines: usize) -> Result<Scenario, AsmFault>
-        ensures made { MatchResult result (λ s. whole self ≡ Ok s) (λ f. f.cause ≢ Memory → whole self ≡ Err f) }
-        ensures refused { (f : AsmFault) → whole self ≡ Err f → result ≡ Err f }
+        ensures made { MatchResult result (λ s. whole_scenario self ≡ Ok s)
+            (λ f. f.cause ≢ Memory → whole_scenario self ≡ Err f) }
+        ensures refused { (f : AsmFault) → whole_scenario self ≡ Err f → result ≡ Err f }
         ensures memory { IfErr result (λ f. f.cause ≡ Memory → f.line ≡ lines) }
     {
         if !self.begun {

@@ -8,10 +8,10 @@ ghost use Rattle.scenario_image.specs.Scenario.{Scenario};
 ghost use Rattle.scenario_words.specs.Words.{lines};
 ghost use Rattle.scenario_statements.specs.Spelling.{IsSayable, line_of};
 ghost use Rattle.scenario_statements.specs.declared.statement.Statement.TheVariants.{Account, Class, Instance};
-ghost use Rattle.scenario_asm.specs.Canonical.{of_class, of_object, of_value, printed, statements};
+ghost use Rattle.scenario_asm.specs.Canonical.{of_class, of_object, of_value, statements, text_of_scenario};
 ghost use Rattle.scenario_asm.specs.Denotes.{Denotes};
 ghost use Rattle.scenario_asm.specs.Reading.{IsScenario, said_by};
-ghost use Rattle.scenario_asm.specs.Text.{assembled};
+ghost use Rattle.scenario_asm.specs.Text.{scenario_of_text};
 
 /// Each statement of a scenario can be written in words.
 pub fn statements_are_sayable()
@@ -21,9 +21,10 @@ pub fn statements_are_sayable()
 /// The lines of a canonical text are those of its statements, with an empty one after the last LF (`lines`); they are
 /// read as these statements (`read`); scenarios of one text have the same statements (`one`).
 pub fn canonical_lines()
-    ensures lines { (s : Scenario) → IsScenario s → lines (printed s) ≡ map line_of (statements s) ++ [] ∷ [] }
-    ensures read { (s : Scenario) → IsScenario s → said_by (printed s) ≡ Ok (statements s) }
-    ensures one { (s t : Scenario) → IsScenario s → IsScenario t → printed s ≡ printed t → statements s ≡ statements t }
+    ensures lines { (s : Scenario) → IsScenario s → lines (text_of_scenario s) ≡ map line_of (statements s) ++ [] ∷ [] }
+    ensures read { (s : Scenario) → IsScenario s → said_by (text_of_scenario s) ≡ Ok (statements s) }
+    ensures one { (s t : Scenario) → IsScenario s → IsScenario t → text_of_scenario s ≡ text_of_scenario t
+        → statements s ≡ statements t }
 {}
 
 /// A class whose devices send Non-confirmable notifications has no line about it: it is said by its accounts, the
@@ -36,10 +37,10 @@ pub fn non_confirmable_is_not_said()
 
 /// The law of canonical texts: the canonical text of a scenario denotes it, so it assembles to that scenario.
 pub fn canonical_text()
-    ensures { (s : Scenario) → IsScenario s → assembled (printed s) ≡ Ok s }
+    ensures { (s : Scenario) → IsScenario s → scenario_of_text (text_of_scenario s) ≡ Ok s }
 {}
 
 /// The law of texts: a text assembles to a scenario exactly if it denotes it; so it denotes one at most.
 pub fn texts_denote()
-    ensures { (text : List ℕ) (s : Scenario) → (assembled text ≡ Ok s) ↔ Denotes text s }
+    ensures { (text : List ℕ) (s : Scenario) → (scenario_of_text text ≡ Ok s) ↔ Denotes text s }
 {}

@@ -6,7 +6,7 @@ use Rattle.std.proofs.lemmas.Bool.Decides.{nat_tests}
 use Rattle.std.specs.Int.{w8, w16, w32}
 use Rattle.std.specs.List.{list_any}
 use Rattle.byte_layout.specs.declared.fault.Break.TheVariants.{BadField}
-use Rattle.byte_layout.specs.Layout.{number, judged, at_most, last}
+use Rattle.byte_layout.specs.Layout.{number, layout_with_test, at_most, last}
 use Rattle.byte_layout.specs.Exact.{IsExact}
 use Rattle.byte_layout.proofs.Fields.{byte_exact, short_exact, long_exact}
 use Rattle.byte_layout.proofs.Layouts.{fits_exact, at_most_exact, split_exact, last_exact, sized_exact}
@@ -58,7 +58,7 @@ numbered (suc (suc (suc (suc (suc (suc (suc n))))))) h =
 
 kind_exact : IsExact kind
 unfolding kind
-kind_exact = last_exact step_kind_number step_kind_numbered (judged BadField is_number (number w8))
+kind_exact = last_exact step_kind_number step_kind_numbered (layout_with_test BadField is_number (number w8))
     (fits_exact is_number (number w8) byte_exact) (λ n good. numbered n good.1)
 
 datagram_exact : IsExact datagram
@@ -68,7 +68,8 @@ datagram_exact = sized_exact (at_most 1500 (number w16)) (at_most_exact 1500 (nu
 recv_exact : (accounts : List ℕ) → IsExact (recv accounts)
 unfolding recv
 recv_exact accounts =
-    split_exact server_in (judged BadField (λ server. list_any (λ account. account == server) accounts) (number w16))
+    split_exact server_in (layout_with_test BadField (λ server. list_any (λ account. account == server) accounts)
+    (number w16))
     (λ server. last datagram_in (λ bytes. Event (Recv server bytes)) datagram)
     (fits_exact (λ server. list_any (λ account. account == server) accounts) (number w16) short_exact)
     (λ server good. last_exact datagram_in (λ bytes. Event (Recv server bytes)) datagram datagram_exact
@@ -79,7 +80,7 @@ tick_exact : IsExact tick
 unfolding tick
 tick_exact =
     last_exact seconds_in (λ seconds. Event (Tick seconds))
-    (judged BadField (λ n. nat_le 1 n && nat_le n 86400) (number w32))
+    (layout_with_test BadField (λ n. nat_le 1 n && nat_le n 86400) (number w32))
     (fits_exact (λ n. nat_le 1 n && nat_le n 86400) (number w32) long_exact) (λ n ok. refl)
 
 -- the path that is put at is the path that was read
@@ -98,7 +99,7 @@ put_exact =
 firmware_exact : IsExact firmware
 unfolding firmware
 firmware_exact =
-    last_exact code_in (λ code. Event (Firmware code)) (judged BadField (λ n. nat_le n 9) (number w8))
+    last_exact code_in (λ code. Event (Firmware code)) (layout_with_test BadField (λ n. nat_le n 9) (number w8))
     (fits_exact (λ n. nat_le n 9) (number w8) byte_exact) (λ n ok. refl)
 
 post_exact : IsExact post
@@ -109,9 +110,9 @@ need_exact : IsExact need
 unfolding need
 need_exact =
     split_exact group_in (number w8) (λ group. last count_in (λ count. Need group count)
-    (judged BadField (λ n. nat_le 1 n && nat_le n 1000000) (number w32))) byte_exact
+    (layout_with_test BadField (λ n. nat_le 1 n && nat_le n 1000000) (number w32))) byte_exact
     (λ group good. last_exact count_in (λ count. Need group count)
-    (judged BadField (λ n. nat_le 1 n && nat_le n 1000000) (number w32))
+    (layout_with_test BadField (λ n. nat_le 1 n && nat_le n 1000000) (number w32))
     (fits_exact (λ n. nat_le 1 n && nat_le n 1000000) (number w32) long_exact) (λ n ok. refl))
     (λ group good s h. ap group_in h.1)
 
@@ -147,7 +148,7 @@ steps_exact accounts =
 pub row_exact : (classes : List Template) → IsExact (row classes)
 unfolding row
 row_exact classes =
-    split_exact (λ r. r.class) (judged BadField (λ class. nat_lt class (length classes)) (number w16))
+    split_exact (λ r. r.class) (layout_with_test BadField (λ class. nat_lt class (length classes)) (number w16))
     (λ class. last (λ r. r.steps) (row_of class) (steps (accounts_of classes class)))
     (fits_exact (λ class. nat_lt class (length classes)) (number w16) short_exact)
     (λ class good. last_exact (λ r. r.steps) (row_of class) (steps (accounts_of classes class))

@@ -9,14 +9,14 @@ use Rattle.byte_layout.specs.declared.fault.ReadError.TheVariants as errors
 use Rattle.byte_layout.specs.Layout.{Layout, ◌>>=◌, number, at_most, mark, each}
 use Rattle.byte_layout.specs.Outcome.{Fails}
 use Rattle.byte_layout.specs.Exact.{IsExact}
-use Rattle.byte_layout.specs.Whole.{placed, fault_of, read_all}
+use Rattle.byte_layout.specs.Whole.{fault_of_break, fault_of, read_all}
 use Rattle.byte_layout.proofs.Steps.{went_well, bind_err}
 use Rattle.byte_layout.proofs.Layouts.{at_most_exact}
 use Rattle.byte_layout.proofs.Fields.{short_exact}
 use Rattle.scenario_layout.specs.Class.{class}
 use Rattle.scenario_image.specs.Scenario.{Scenario}
 use Rattle.scenario_image.proofs.Imaged.{headed_exact}
-use Rattle.scenario_image.specs.Image.{classes, lists, behind_classes, version, in_version, headed, image, front}
+use Rattle.scenario_image.specs.Image.{classes, lists, behind_classes, version, in_version, after_header, image, front}
 
 in_version_off : {A B : Type 0} (p : ℕ → Layout A) (q : ℕ → Layout B) (v : ℕ) (rest : List ℕ) (b : Break)
     → ((p v).read rest ≡ Err b → (q v).read rest ≡ Err b) → (in_version p v).read rest ≡ Err b
@@ -29,8 +29,9 @@ in_version_off {A} {B} p q v rest b within e =
 
 -- a break of the mark, of the version or of the part is one of each part that has its breaks
 headed_off : {A B : Type 0} (p : ℕ → Layout A) (q : ℕ → Layout B) (bytes : List ℕ) (b : Break)
-    → ((v : ℕ) (rest : List ℕ) → (p v).read rest ≡ Err b → (q v).read rest ≡ Err b) → (headed p).read bytes ≡ Err b
-    → (headed q).read bytes ≡ Err b
+    → ((v : ℕ) (rest : List ℕ) → (p v).read rest ≡ Err b → (q v).read rest ≡ Err b)
+    → (after_header p).read bytes ≡ Err b
+    → (after_header q).read bytes ≡ Err b
 headed_off p q bytes b within e =
     let first = mark Magic 0x4C575343 (number w32) in
     let third = λ (y : ℕ × List ℕ). (in_version q y.0).read y.1 in
@@ -72,9 +73,10 @@ front_fails bytes (errors.Fault b) h =
 
 -- it is the break of the front, unless memory ran out
 pub front_broke : (bytes : List ℕ) (total : ℕ) (e : ReadError) (b : Break) → e ≢ errors.Memory
-    → Fails e (front.read bytes) → front.Breaks bytes b → fault_of total e ≡ placed total b
+    → Fails e (front.read bytes) → front.Breaks bytes b → fault_of total e ≡ fault_of_break total b
 front_broke bytes total errors.Memory b other h k = absurd (other refl)
-front_broke bytes total (errors.Fault c) b other h k = let e = front_exact.refused bytes b k in ap (placed total) cc
+front_broke bytes total (errors.Fault c) b other h k = let e =
+    front_exact.refused bytes b k in ap (fault_of_break total) cc
 
 -- a front that is read does not break off
 pub front_whole : (bytes rest : List ℕ) (count : ℕ × ℕ) (b : Break) → front.read bytes ≡ Ok (count, rest)

@@ -17,8 +17,8 @@ use Rattle.scenario_layout.specs.Class.{class}
 use Rattle.scenario_layout.proofs.ExactClass.{class_exact}
 use Rattle.scenario_image.specs.Scenario.{Row, Scenario, IsValid}
 use Rattle.scenario_image.specs.Layout.{rows}
-use Rattle.scenario_image.specs.Image.{classes, script_of, behind_classes, lists, version, in_version}
-use Rattle.scenario_image.specs.Image.{headed, image, IsImage, IsImageIn, HasImageFault}
+use Rattle.scenario_image.specs.Image.{classes, script_of, behind_classes, lists, version, in_version, after_header}
+use Rattle.scenario_image.specs.Image.{image, IsImage, IsImageIn, HasImageFault}
 use Rattle.scenario_image.proofs.Exact.{rows_exact}
 use Rattle.scenario_image.proofs.Fits.{good_rows}
 
@@ -44,7 +44,7 @@ version_exact = judged_exact (λ left. Version) (λ left. omega arith) (λ n. n 
 in_version_exact : {A : Type 0} (part : ℕ → Layout A) (v : ℕ) → IsExact (part v) → IsExact (in_version part v)
 in_version_exact part v exact = last_exact (λ x. x.1) (λ a. (v, a)) (part v) exact (λ a ok. refl)
 
-pub headed_exact : {A : Type 0} (part : ℕ → Layout A) → ((v : ℕ) → IsExact (part v)) → IsExact (headed part)
+pub headed_exact : {A : Type 0} (part : ℕ → Layout A) → ((v : ℕ) → IsExact (part v)) → IsExact (after_header part)
 headed_exact part exact =
     marked_exact Magic refl 0x4C575343 (number w32) (split (λ x. x.0) version (in_version part))
     (number_exact w32 wide32)

@@ -17,7 +17,7 @@ use Rattle.byte_layout.proofs.Steps.{bind_ok, ok_is, went_well}
 use Rattle.scenario_layout.specs.Class.{class}
 use Rattle.scenario_image.specs.Layout.{rows}
 use Rattle.scenario_image.specs.Scenario.{Scenario, no_class}
-use Rattle.scenario_image.specs.Image.{classes, lists, behind_classes, version, in_version, headed, image, front}
+use Rattle.scenario_image.specs.Image.{classes, lists, behind_classes, version, in_version, after_header, image, front}
 use Rattle.scenario_image.specs.Image.{IsImage, IsImageIn, HasImageFault}
 use Rattle.scenario_image.proofs.Imaged.{image_exact}
 use Rattle.scenario_image.proofs.Fronts.{front_exact}
@@ -35,7 +35,7 @@ in_version_on {A} {B} p q v w bytes r s a b within e =
 
 headed_on : {A B : Type 0} (p : ℕ → Layout A) (q : ℕ → Layout B) (v : ℕ) (bytes r s : List ℕ) (a : A) (b : B)
     → ((w : ℕ) (t : List ℕ) → (p w).read t ≡ Ok (a, r) → (q w).read t ≡ Ok (b, s))
-    → (headed p).read bytes ≡ Ok ((v, a), r) → (headed q).read bytes ≡ Ok ((v, b), s)
+    → (after_header p).read bytes ≡ Ok ((v, a), r) → (after_header q).read bytes ≡ Ok ((v, b), s)
 headed_on p q v bytes r s a b within e =
     let first = mark Magic 0x4C575343 (number w32) in
     let third = λ (y : ℕ × List ℕ). (in_version q y.0).read y.1 in
@@ -70,8 +70,9 @@ none_good : (at_most 256 (number w16)).Good 0
 unfolding number
 none_good = (omega arith, refl)
 
-headed_good : {A B : Type 0} (p : ℕ → Layout A) (q : ℕ → Layout B) (v : ℕ) (a : A) (b : B) → (headed p).Good (v, a)
-    → (q v).Good b → (headed q).Good (v, b)
+headed_good : {A B : Type 0} (p : ℕ → Layout A) (q : ℕ → Layout B) (v : ℕ) (a : A) (b : B)
+    → (after_header p).Good (v, a)
+    → (q v).Good b → (after_header q).Good (v, b)
 headed_good p q v a b g h = (g.0, (g.1.0, (h, refl)))
 
 regrouped : (m v l c r : List ℕ) → l ≡ c ++ r → m ++ (v ++ (l ++ [])) ≡ (m ++ (v ++ (c ++ []))) ++ r
@@ -84,7 +85,7 @@ unfolding lists classes rows each number
 lists_spelled v = refl
 
 headed_spelled : {A B : Type 0} (p : ℕ → Layout A) (q : ℕ → Layout B) (v : ℕ) (a : A) (b : B) (r : List ℕ)
-    → (p v).spell a ≡ (q v).spell b ++ r → (headed p).spell (v, a) ≡ (headed q).spell (v, b) ++ r
+    → (p v).spell a ≡ (q v).spell b ++ r → (after_header p).spell (v, a) ≡ (after_header q).spell (v, b) ++ r
 headed_spelled p q v a b r e =
     regrouped ((mark Magic 0x4C575343 (number w32)).spell 0x4C575343) (version.spell v) ((p v).spell a)
     ((q v).spell b) r e
@@ -95,7 +96,7 @@ pub front_of_none : (v : ℕ) (bytes : List ℕ) → IsImageIn v bytes no_class
 unfolding image front
 front_of_none v bytes h =
     let part : ℕ → Layout ℕ = λ v. at_most 256 (number w16) in
-    ap (headed part).read (h.1 ∙ headed_spelled lists part v no_class 0 (0 ∷ 0 ∷ []) (lists_spelled v))
+    ap (after_header part).read (h.1 ∙ headed_spelled lists part v no_class 0 (0 ∷ 0 ∷ []) (lists_spelled v))
     ∙ front_exact.again (v, 0) (0 ∷ 0 ∷ []) (headed_good lists part v no_class 0 h.0 none_good)
 
 -- ---- what was read of a front, and what stands after it

@@ -16,14 +16,14 @@ use Rattle.device_machine.specs.State.{Machine, Device, Shows}
 use Rattle.device_machine.specs.Reactions.{passes_end}
 use Rattle.scenario_image.specs.declared.step.Step.{Step}
 use Rattle.scenario_image.specs.declared.step.Step.TheVariants.{Event, Post, Need}
-use Rattle.scenario_image.specs.Play.{step_after, step_outputs, state_after, PutsOut, is_step_refused, shown, IsStopped}
-use Rattle.scenario_image.specs.Play.{IsLeft, is_event, outputs_in}
+use Rattle.scenario_image.specs.Play.{step_after, step_outputs, state_after, PutsOut, is_step_refused, device_showing}
+use Rattle.scenario_image.specs.Play.{IsStopped, IsLeft, is_event, outputs_in}
 
 -- the first n steps are not refused after those before them
 abbrev pub AreTaken : Machine → List Step → ℕ → Type 0
 AreTaken f steps n =
     (k : ℕ) (s : Step) → slice_get (take n steps) k ≡ Some s
-    → is_step_refused (shown (state_after f (take k steps))) s ≡ false
+    → is_step_refused (device_showing (state_after f (take k steps))) s ≡ false
 
 -- a spent device, which has heard of none of these steps
 abbrev pub IsDeaf : Device → List Step → Type 0
@@ -76,24 +76,24 @@ starts device steps =
 
 -- a device refuses what the one that shows its flat state refuses
 same_refusal : (x : Device) (f : Machine) (step : Step) → Shows x f
-    → is_step_refused x step ≡ is_step_refused (shown f) step
+    → is_step_refused x step ≡ is_step_refused (device_showing f) step
 same_refusal x f (Event e) h =
     ap (λ b. b || passes_end x.flat.kept.clock e) h.ready ∙ ap (λ (g : Machine). passes_end g.kept.clock e) h.holds
 same_refusal x f (Post group) h = refl
 same_refusal x f (Need group count) h = refl
 
 taken_by_place : (f : Machine) (steps : List Step) (n : ℕ) (step : Step) (k : ℕ) (s : Step)
-    → length (take n steps) ≡ n → is_step_refused (shown (state_after f (take n steps))) step ≡ false
+    → length (take n steps) ≡ n → is_step_refused (device_showing (state_after f (take n steps))) step ≡ false
     → AreTaken f steps n
     → (slice_get (take n steps) k ≡ Some s) ⊎ ((k ≡ length (take n steps)) × (step ≡ s))
-    → is_step_refused (shown (state_after f (take k steps))) s ≡ false
+    → is_step_refused (device_showing (state_after f (take k steps))) s ≡ false
 taken_by_place f steps n step k s count free before (inl h) = before k s h
 taken_by_place f steps n step k s count free before (inr h) =
-    subst (λ m. is_step_refused (shown (state_after f (take m steps))) s ≡ false) (sym (h.0 ∙ count))
-    (subst (λ t. is_step_refused (shown (state_after f (take n steps))) t ≡ false) h.1 free)
+    subst (λ m. is_step_refused (device_showing (state_after f (take m steps))) s ≡ false) (sym (h.0 ∙ count))
+    (subst (λ t. is_step_refused (device_showing (state_after f (take n steps))) t ≡ false) h.1 free)
 
 taken_more : (f : Machine) (steps : List Step) (n : ℕ) (step : Step) → slice_get steps n ≡ Some step
-    → is_step_refused (shown (state_after f (take n steps))) step ≡ false → AreTaken f steps n
+    → is_step_refused (device_showing (state_after f (take n steps))) step ≡ false → AreTaken f steps n
     → AreTaken f steps (n + 1)
 taken_more f steps n step at free before k s h =
     let within = slice_get_within steps n step at in

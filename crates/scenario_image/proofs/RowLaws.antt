@@ -4,17 +4,17 @@ use Rattle.lemmas.proofs.Lists.{each_at, item_at, item_pushed, last_place, set_p
 use Rattle.device_template.specs.Template.{Template}
 use Rattle.scenario_image.specs.declared.step.Step.{Step}
 use Rattle.scenario_image.specs.Play.{IsRowOf}
-use Rattle.scenario_image.specs.Scenario.{IsGoodRow, IsValid, Row, Scenario, last_row, longer, with_last}
+use Rattle.scenario_image.specs.Scenario.{IsGoodRow, IsValid, Row, Scenario, last_row, with_last, with_last_step}
 
 pub last_is : (rows : List Row) (row : Row) → last_row (rows ++ row ∷ []) ≡ Some row
 last_is rows row = ap (slice_get (rows ++ row ∷ [])) (last_place rows row) ∙ item_pushed rows row
 
 pub last_longer : (rows : List Row) (row : Row) (step : Step)
-    → with_last (rows ++ row ∷ []) (last_row (rows ++ row ∷ [])) step ≡ rows ++ longer row step ∷ []
+    → with_last (rows ++ row ∷ []) (last_row (rows ++ row ∷ [])) step ≡ rows ++ with_last_step row step ∷ []
 last_longer rows row step =
     ap (λ o. with_last (rows ++ row ∷ []) o step) (last_is rows row)
-    ∙ ap (λ n. set (rows ++ row ∷ []) n (longer row step)) (last_place rows row)
-    ∙ set_pushed rows row (longer row step)
+    ∙ ap (λ n. set (rows ++ row ∷ []) n (with_last_step row step)) (last_place rows row)
+    ∙ set_pushed rows row (with_last_step row step)
 
 -- a row that is there
 pub record HasRow (s : Scenario) (d : ℕ) : Type 0 where

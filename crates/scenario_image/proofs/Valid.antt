@@ -11,7 +11,7 @@ use Rattle.scenario_image.specs.declared.step.Step.{Step}
 use Rattle.scenario_image.specs.declared.fault.ScenarioFault.{ScenarioFault}
 use Rattle.scenario_image.specs.declared.fault.ScenarioFault.TheVariants as faults
 use Rattle.scenario_image.specs.Scenario.{Row, Scenario, HasFields, IsGoodStep, IsGoodRow, IsValid, is_in_range}
-use Rattle.scenario_image.specs.Scenario.{is_within_limits, is_known, class_fault, row_fault, last_row, longer}
+use Rattle.scenario_image.specs.Scenario.{is_within_limits, is_known, class_fault, row_fault, last_row, with_last_step}
 use Rattle.scenario_image.specs.Scenario.{with_last, accounts_in, accounts_of, fault_in, step_fault, most_rows}
 use Rattle.scenario_image.specs.Scenario.{most_steps}
 
@@ -85,7 +85,7 @@ by_row classes rows new s class valid same ok more =
 
 longer_row : (classes : List Template) (row : Row) (step : Step) → IsGoodRow classes row → HasFields step
     → is_in_range step ≡ true → fault_in classes (Some row) step ≡ None
-    → IsGoodRow classes (longer row step)
+    → IsGoodRow classes (with_last_step row step)
 longer_row classes row step good fields range ok =
     let known = is_known (accounts_of classes row.class) step in
     let count = nat_le most_steps (length row.steps) in
@@ -115,8 +115,8 @@ stepped classes rows None step valid at fields range ok = valid
 stepped classes rows (Some row) step valid at fields range ok =
     record {
       classes = valid.classes;
-      rows = subst (λ n. n ≤ most_rows) (sym (length-set rows (length rows - 1) (longer row step))) valid.rows;
-      each = all_set (IsGoodRow classes) rows (length rows - 1) (longer row step) valid.each
+      rows = subst (λ n. n ≤ most_rows) (sym (length-set rows (length rows - 1) (with_last_step row step))) valid.rows;
+      each = all_set (IsGoodRow classes) rows (length rows - 1) (with_last_step row step) valid.each
           (longer_row classes row step (each_at (IsGoodRow classes) rows (length rows - 1) row valid.each at) fields
           range ok);
     }

@@ -4,7 +4,8 @@ use Rattle.std.specs.Prelude.{ℕ, ◌==◌, ◌||◌, List}
 use Rattle.std.specs.Int.{w8, w16, w32}
 use Rattle.byte_layout.specs.declared.fault.Break.TheVariants.{Magic, Version}
 use Rattle.byte_layout.specs.declared.fault.LayoutFault.{LayoutFault}
-use Rattle.byte_layout.specs.Layout.{Layout, number, judged, at_most, split, last, marked, done, counted}
+use Rattle.byte_layout.specs.Layout.{Layout, number, layout_with_test, at_most, split, last, after_mark}
+use Rattle.byte_layout.specs.Layout.{constant_layout, list_with_count}
 use Rattle.byte_layout.specs.Whole.{IsAll, HasFault}
 use Rattle.device_template.specs.Template.{Template}
 use Rattle.scenario_layout.specs.Class.{class}
@@ -13,7 +14,7 @@ use Rattle.scenario_image.specs.Layout.{rows}
 
 -- at most 256 classes, as a version has them
 unfoldable pub classes : ℕ → Layout (List Template)
-classes version = counted (at_most 256 (number w16)) (λ before. class version)
+classes version = list_with_count (at_most 256 (number w16)) (λ before. class version)
 
 abbrev pub script_of : List Template → List Row → Scenario
 script_of classes rows = record { classes = classes; rows = rows }
@@ -28,27 +29,27 @@ lists version = split (λ s. s.classes) (classes version) behind_classes
 
 -- the version: 1 or 2
 abbrev pub version : Layout ℕ
-version = judged (λ left. Version) (λ n. n == 1 || n == 2) (number w8)
+version = layout_with_test (λ left. Version) (λ n. n == 1 || n == 2) (number w8)
 
 -- a part, beside the version that it is laid out by
 abbrev pub in_version : {A : Type 0} → (ℕ → Layout A) → ℕ → Layout (ℕ × A)
 in_version part v = last (λ x. x.1) (λ a. (v, a)) (part v)
 
 -- the image's mark and version, and this as the version has it
-abbrev pub headed : {A : Type 0} → (ℕ → Layout A) → Layout (ℕ × A)
-headed part = marked Magic 0x4C575343 (number w32) (split (λ x. x.0) version (in_version part))
+abbrev pub after_header : {A : Type 0} → (ℕ → Layout A) → Layout (ℕ × A)
+after_header part = after_mark Magic 0x4C575343 (number w32) (split (λ x. x.0) version (in_version part))
 
 -- the mark and the version alone
 abbrev pub header : Layout (ℕ × Unit {0})
-header = headed (λ v. done tt)
+header = after_header (λ v. constant_layout tt)
 
 -- the image's mark and version, the classes, and the rows: a version, and a scenario that it can say
 unfoldable pub image : Layout (ℕ × Scenario)
-image = headed lists
+image = after_header lists
 
 -- its front: the mark, the version, and how many classes there are
 unfoldable pub front : Layout (ℕ × ℕ)
-front = headed (λ v. at_most 256 (number w16))
+front = after_header (λ v. at_most 256 (number w16))
 
 -- the bytes are the image of this scenario in this version
 abbrev pub IsImageIn : ℕ → List ℕ → Scenario → Type 0

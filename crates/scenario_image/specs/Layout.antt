@@ -4,7 +4,8 @@ use Rattle.std.specs.Prelude.{Some, unwrap_or, if◌then◌else◌}
 use Rattle.std.specs.Int.{w8, w16, w32}
 use Rattle.std.specs.List.{list_any}
 use Rattle.byte_layout.specs.declared.fault.Break.TheVariants.{BadField}
-use Rattle.byte_layout.specs.Layout.{Layout, number, judged, at_most, split, last, sized, counted}
+use Rattle.byte_layout.specs.Layout.{Layout, number, layout_with_test, at_most, split, last, bytes_with_length}
+use Rattle.byte_layout.specs.Layout.{list_with_count}
 use Rattle.lwm2m_values.specs.declared.value.Value.{Value}
 use Rattle.lwm2m_values.specs.declared.value.Value.TheVariants.{Text}
 use Rattle.object_defs.specs.Path.{full_path, path_to}
@@ -44,7 +45,7 @@ step_kind_numbered n =
     else (if n == 5 then kinds.Post else kinds.Need))))
 
 unfoldable pub kind : Layout StepKind
-kind = last step_kind_number step_kind_numbered (judged BadField
+kind = last step_kind_number step_kind_numbered (layout_with_test BadField
     (λ n. n == 1 || (n == 2 || (n == 3 || (n == 4 || (n == 5 || n == 6))))) (number w8))
 
 -- whether a step of this kind holds bytes or a value, for which memory is taken
@@ -95,17 +96,17 @@ count_in _ = 0
 
 -- at most 1,500 bytes
 unfoldable pub datagram : Layout (List ℕ)
-datagram = sized (at_most 1500 (number w16))
+datagram = bytes_with_length (at_most 1500 (number w16))
 
 -- a server of these accounts, and a datagram
 unfoldable pub recv : List ℕ → Layout Step
-recv accounts = split server_in (judged BadField (λ server. list_any (λ account. account == server) accounts)
+recv accounts = split server_in (layout_with_test BadField (λ server. list_any (λ account. account == server) accounts)
     (number w16)) (λ server. last datagram_in (λ bytes. Event (Recv server bytes)) datagram)
 
 -- 1 to 86,400 seconds
 unfoldable pub tick : Layout Step
 tick = last seconds_in (λ seconds. Event (Tick seconds))
-    (judged BadField (λ n. nat_le 1 n && nat_le n 86400) (number w32))
+    (layout_with_test BadField (λ n. nat_le 1 n && nat_le n 86400) (number w32))
 
 -- a path and a value of any kind
 unfoldable pub put : Layout Step
@@ -113,7 +114,7 @@ put = split path_in path (λ p. last value_in (λ v. Event (Put (path_to p) v)) 
 
 -- a code of 0 to 9
 unfoldable pub firmware : Layout Step
-firmware = last code_in (λ code. Event (Firmware code)) (judged BadField (λ n. nat_le n 9) (number w8))
+firmware = last code_in (λ code. Event (Firmware code)) (layout_with_test BadField (λ n. nat_le n 9) (number w8))
 
 -- a group
 unfoldable pub post : Layout Step
@@ -122,7 +123,7 @@ post = last group_in (λ group. Post group) (number w8)
 -- a group, and 1 to 1,000,000 posts
 unfoldable pub need : Layout Step
 need = split group_in (number w8) (λ group. last count_in (λ count. Need group count)
-    (judged BadField (λ n. nat_le 1 n && nat_le n 1000000) (number w32)))
+    (layout_with_test BadField (λ n. nat_le 1 n && nat_le n 1000000) (number w32)))
 
 abbrev pub of_kind : List ℕ → StepKind → Layout Step
 of_kind accounts kinds.Recv = recv accounts
@@ -138,7 +139,7 @@ step accounts = split step_kind kind (of_kind accounts)
 
 -- at most `most_steps` steps
 unfoldable pub steps : List ℕ → Layout (List Step)
-steps accounts = counted (at_most most_steps (number w16)) (λ before. step accounts)
+steps accounts = list_with_count (at_most most_steps (number w16)) (λ before. step accounts)
 
 -- ---- rows
 
@@ -147,9 +148,9 @@ row_of class steps = record { class = class; steps = steps }
 
 -- the place of a class that is there, and steps that suit it
 unfoldable pub row : List Template → Layout Row
-row classes = split (λ r. r.class) (judged BadField (λ class. nat_lt class (length classes)) (number w16))
+row classes = split (λ r. r.class) (layout_with_test BadField (λ class. nat_lt class (length classes)) (number w16))
     (λ class. last (λ r. r.steps) (row_of class) (steps (accounts_of classes class)))
 
 -- at most `most_rows` rows
 unfoldable pub rows : List Template → Layout (List Row)
-rows classes = counted (at_most most_rows (number w16)) (λ before. row classes)
+rows classes = list_with_count (at_most most_rows (number w16)) (λ before. row classes)

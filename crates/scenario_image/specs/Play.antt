@@ -4,7 +4,7 @@ use Rattle.std.specs.Prelude.{Some, slice_get}
 use Rattle.device_template.specs.Template.{Template}
 use Rattle.device_machine.specs.declared.output.Output.{Output}
 use Rattle.device_machine.specs.Template.{start_of}
-use Rattle.device_machine.specs.State.{Machine, Device, Shows, living}
+use Rattle.device_machine.specs.State.{Machine, Device, Shows, with_live_records}
 use Rattle.device_machine.specs.Reactions.{outputs_of, flat_after, is_refused}
 use Rattle.scenario_image.specs.declared.step.Step.{Step}
 use Rattle.scenario_image.specs.declared.step.Step.TheVariants.{Event, Post, Need}
@@ -54,15 +54,15 @@ is_step_refused device (Post group) = false
 is_step_refused device (Need group count) = false
 
 -- the device that shows this flat state
-abbrev pub shown : Machine → Device
-shown f = record { spent = false; flat = living f }
+abbrev pub device_showing : Machine → Device
+device_showing f = record { spent = false; flat = with_live_records f }
 
 -- one of the steps, of a device that is in this flat state before step 0, is refused after those before it
 pub record IsStopped (f : Machine) (steps : List Step) : Type 0 where
   pub place : ℕ
   pub step : Step
   pub stands : slice_get steps place ≡ Some step
-  pub refused : is_step_refused (shown (state_after f (take place steps))) step ≡ true
+  pub refused : is_step_refused (device_showing (state_after f (take place steps))) step ≡ true
 
 -- the device hears of events alone
 abbrev pub is_event : Step → Bool

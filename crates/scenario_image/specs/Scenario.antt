@@ -133,13 +133,13 @@ abbrev pub last_row : List Row → Option Row
 last_row rows = slice_get rows (length rows - 1)
 
 -- with one step more at its end
-abbrev pub longer : Row → Step → Row
-longer row step = record row { steps = row.steps ++ step ∷ [] }
+abbrev pub with_last_step : Row → Step → Row
+with_last_step row step = record row { steps = row.steps ++ step ∷ [] }
 
 -- the rows, where the last one is this, with a step more at its end
 abbrev pub with_last : List Row → Option Row → Step → List Row
 with_last rows None step = rows
-with_last rows (Some row) step = slice_set rows (length rows - 1) (longer row step)
+with_last rows (Some row) step = slice_set rows (length rows - 1) (with_last_step row step)
 
 -- a step is added to the last row
 abbrev pub with_step : Scenario → Step → Scenario

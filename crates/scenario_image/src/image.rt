@@ -8,7 +8,7 @@ ghost use Rattle.byte_layout.specs.declared.fault.LayoutFault.TheVariants.{Memor
 ghost use Rattle.byte_layout.specs.declared.fault.ReadError.TheVariants as errors;
 ghost use Rattle.byte_layout.specs.Outcome.{Gives};
 ghost use Rattle.byte_layout.specs.Layout.{each};
-ghost use Rattle.byte_layout.specs.Whole.{placed, read_all};
+ghost use Rattle.byte_layout.specs.Whole.{fault_of_break, read_all};
 ghost use Rattle.scenario_layout.specs.Class.{class};
 ghost use Rattle.scenario_image.specs.Scenario.{Scenario, no_class};
 ghost use Rattle.scenario_image.specs.Image.{classes, lists, header, image, front, IsImage, IsImageIn, HasImageFault};
@@ -139,7 +139,7 @@ pub fn load(alloc: Global, bytes: &[u8]) -> Result<Scenario, LayoutFault>
     ensures only { (s : Scenario) → IsImage bytes.now s → MatchResult result (λ x. x ≡ s) (λ f. f ≡ Memory) }
     ensures fault { IfErr result (λ f. f ≢ Memory → HasImageFault bytes.now f) }
     ensures refused { (f : LayoutFault) → HasImageFault bytes.now f → IsErrAnd result (λ g. g ≢ Memory → g ≡ f) }
-    ensures front { (b : Break) → front.Breaks bytes.now b → result ≡ Err (placed (length bytes.now) b) }
+    ensures front { (b : Break) → front.Breaks bytes.now b → result ≡ Err (fault_of_break (length bytes.now) b) }
     ensures empty { IsImage bytes.now no_class → IsOk result }
 {
     // Another file than an image is refused by its front, and a scenario of nothing is made of it: no memory is taken.

@@ -1,5 +1,5 @@
 ghost use Rattle.std.specs.Prelude.{◌≡◌, [], length, OnOk, OnErr};
-ghost use Rattle.scenario_image.specs.Scenario.{longer};
+ghost use Rattle.scenario_image.specs.Scenario.{with_last_step};
 
 use crate::step::Step;
 use std::alloc::{AllocError, Global};
@@ -54,7 +54,7 @@ impl Row {
 
     /// Adds a step at the end.
     pub(crate) fn push(&mut self, step: Step) -> Result<(), AllocError>
-        ensures ok { OnOk result (self.new ≡ longer self.old step) }
+        ensures ok { OnOk result (self.new ≡ with_last_step self.old step) }
         ensures unchanged { OnErr result (self.new ≡ self.old) }
     {
         self.steps.push(step)?;

@@ -6,7 +6,7 @@ ghost use Rattle.std.specs.Io.{StartsWith};
 ghost use Rattle.byte_layout.specs.declared.fault.Break.TheVariants.{BadField};
 ghost use Rattle.byte_layout.specs.declared.fault.ReadError.TheVariants.{Memory};
 ghost use Rattle.byte_layout.specs.Outcome.{Gives};
-ghost use Rattle.byte_layout.specs.Layout.{number, judged};
+ghost use Rattle.byte_layout.specs.Layout.{number, layout_with_test};
 ghost use Rattle.scenario_image.specs.Layout.{row, rows};
 ghost use Rattle.scenario_image.specs.Scenario.{accounts_of};
 
@@ -33,7 +33,7 @@ fn accounts_of(classes: &[Template], class: u16) -> &[u16]
 /// The place of a class that is there.
 fn class_number_at<'a>(classes: &[Template], bytes: &'a [u8]) -> Result<(u16, &'a [u8]), ReadError>
     ensures read { Gives (λ x. (x.0, x.1.now)) result
-        ((judged BadField (λ class. nat_lt class (length classes.now)) (number w16)).read bytes.now) }
+        ((layout_with_test BadField (λ class. nat_lt class (length classes.now)) (number w16)).read bytes.now) }
     ensures no_memory { IfErr result (λ e. e ≢ Memory) }
 {
     let (class, rest) = u16_at(bytes)?;

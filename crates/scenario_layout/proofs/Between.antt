@@ -10,7 +10,7 @@ use Rattle.lemmas.proofs.Lists.{each_here}
 use Rattle.lemmas.proofs.Numbers.{eqb_below}
 use Rattle.byte_layout.specs.Layout.{Layout, each}
 use Rattle.object_defs.specs.Lines.{first_line}
-use Rattle.object_defs.specs.Vendor.{inserted}
+use Rattle.object_defs.specs.Vendor.{with_inserted}
 use Rattle.device_template.proofs.Ascending.{Rises}
 
 -- ---- what holds of each item
@@ -45,12 +45,13 @@ length_between (x ∷ front) a back = ap suc (length_between front a back)
 pub length_more : {A : Type 0} (a : A) (xs ys : List A) → IsOneMore a xs ys → length ys ≡ suc (length xs)
 length_more a xs ys s = ap length s.is ∙ length_between s.front a s.back ∙ ap (λ t. suc (length t)) (sym s.was)
 
-pub inserted_more : {X : Type 0} (number : X → ℕ) (x : X) (xs : List X) → IsOneMore x xs (inserted number x xs)
+pub inserted_more : {X : Type 0} (number : X → ℕ) (x : X) (xs : List X) → IsOneMore x xs (with_inserted number x xs)
 inserted_more number x [] = record { front = []; back = []; was = refl; is = refl }
 inserted_more number x (y ∷ ys) =
-    elim (ltb (number x) (number y)) as (λ b. IsOneMore x (y ∷ ys) (cond b (x ∷ y ∷ ys) (y ∷ inserted number x ys))) [
+    elim (ltb (number x) (number y)) as (λ b. IsOneMore x (y ∷ ys)
+    (cond b (x ∷ y ∷ ys) (y ∷ with_inserted number x ys))) [
       | true ↦ record { front = []; back = y ∷ ys; was = refl; is = refl }
-      | false ↦ behind_head y x ys (inserted number x ys) (inserted_more number x ys)
+      | false ↦ behind_head y x ys (with_inserted number x ys) (inserted_more number x ys)
     ]
 
 -- what is taken of a list, part by part
@@ -105,11 +106,11 @@ all_below number n [] h = refl
 all_below number n (x ∷ xs) h = and_from (ltb (number x) n) _ (lt-ltb (number x) n h.0) (all_below number n xs h.1)
 
 pub map_inserted : {X : Type 0} (number : X → ℕ) (x : X) (xs : List X)
-    → map number (inserted number x xs) ≡ inserted (λ a. a) (number x) (map number xs)
+    → map number (with_inserted number x xs) ≡ with_inserted (λ a. a) (number x) (map number xs)
 map_inserted number x [] = refl
 map_inserted number x (y ∷ ys) =
-    elim (ltb (number x) (number y)) as (λ b. map number (cond b (x ∷ y ∷ ys) (y ∷ inserted number x ys))
-    ≡ cond b (number x ∷ number y ∷ map number ys) (number y ∷ inserted (λ a. a) (number x) (map number ys))) [
+    elim (ltb (number x) (number y)) as (λ b. map number (cond b (x ∷ y ∷ ys) (y ∷ with_inserted number x ys))
+    ≡ cond b (number x ∷ number y ∷ map number ys) (number y ∷ with_inserted (λ a. a) (number x) (map number ys))) [
       | true ↦ refl
       | false ↦ ap (λ t. number y ∷ t) (map_inserted number x ys)
     ]

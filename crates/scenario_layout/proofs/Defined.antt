@@ -27,7 +27,7 @@ use Rattle.device_template.specs.Template.{Template, definition_fault, fault_of,
 use Rattle.device_template.specs.declared.fault.TemplateFault.{TemplateFault}
 use Rattle.device_template.specs.declared.fault.TemplateFault.TheVariants as faults
 use Rattle.scenario_layout.specs.Growing.{refusal, with_definitions}
-use Rattle.scenario_layout.specs.Class.{defined}
+use Rattle.scenario_layout.specs.Class.{object_of_definitions}
 use Rattle.scenario_layout.proofs.Ordered.{inserted_end}
 
 sound_at : (n : ℕ) (o : Ops) (m r : Bool) (k : ValueKind) → flags_fit o (flags_of m r) ≡ true → kind_fits o k ≡ true
@@ -77,7 +77,7 @@ few : (n : ℕ) → n < 64 → nat_le 64 n ≡ false
 few n h = grind (arith, nat_tests)
 
 pub not_refused_at : (c : Template) (id : ℕ) (before : List ResourceDef) (d : ResourceDef) → is_vendor id ≡ true
-    → object_of c.catalog id ≡ Some (defined id before) → (resource before).Good d → length before < 64
+    → object_of c.catalog id ≡ Some (object_of_definitions id before) → (resource before).Good d → length before < 64
     → definition_fault c id d ≡ None
 not_refused_at c id before d vendor found good short =
     ap (λ b. option_map fault_of (resource_fault_in d (cond b (object_of c.catalog id) None))) vendor
@@ -101,38 +101,42 @@ with_definitions-push c id (e ∷ ds) d = with_definitions-push (with_resource c
 
 -- the object after one more definition
 pub found_on : (c : List ObjectDef) (id : ℕ) (before : List ResourceDef) (d : ResourceDef)
-    → object_of c id ≡ Some (defined id before) → (resource before).Good d
-    → object_of (with_resource c id d) id ≡ Some (defined id (before ++ d ∷ []))
+    → object_of c id ≡ Some (object_of_definitions id before) → (resource before).Good d
+    → object_of (with_resource c id d) id ≡ Some (object_of_definitions id (before ++ d ∷ []))
 found_on c id before d found good =
     object_of-with_resource_same c id d
     ∙ ap (option_map (λ o. with_definition o d)) found
-    ∙ ap (λ ds. Some (defined id ds)) (inserted_end (λ r. r.id) d before (is_above before d good))
+    ∙ ap (λ ds. Some (object_of_definitions id ds)) (inserted_end (λ r. r.id) d before (is_above before d good))
 
 -- an object at the end gets the definitions
 resource_end : (front : List ObjectDef) (id : ℕ) (before : List ResourceDef) (d : ResourceDef)
     → list_all (λ o. nat_lt o.id id) front ≡ true → list_all (λ q. nat_lt q.id d.id) before ≡ true
-    → with_resource (front ++ defined id before ∷ []) id d ≡ front ++ defined id (before ++ d ∷ []) ∷ []
+    → with_resource (front ++ object_of_definitions id before ∷ []) id d ≡ front
+    ++ object_of_definitions id (before ++ d ∷ []) ∷ []
 resource_end [] id before d low above =
-    ap (λ b. cond b (with_definition (defined id before) d ∷ []) (defined id before ∷ [])) (same_number id)
-    ∙ ap (λ ds. defined id ds ∷ []) (inserted_end (λ r. r.id) d before above)
+    ap (λ b. cond b (with_definition (object_of_definitions id before) d ∷ []) (object_of_definitions id before ∷ []))
+    (same_number id)
+    ∙ ap (λ ds. object_of_definitions id ds ∷ []) (inserted_end (λ r. r.id) d before above)
 resource_end (o ∷ front) id before d low above =
     let p = and_parts (ltb o.id id) (list_all (λ q. nat_lt q.id id) front) low in
-    ap (λ b. cond b (with_definition o d ∷ front ++ defined id before ∷ [])
-    (o ∷ with_resource (front ++ defined id before ∷ []) id d)) (other o.id id p.0)
+    ap (λ b. cond b (with_definition o d ∷ front ++ object_of_definitions id before ∷ [])
+    (o ∷ with_resource (front ++ object_of_definitions id before ∷ []) id d)) (other o.id id p.0)
     ∙ ap (λ t. o ∷ t) (resource_end front id before d p.1 above)
 
 pub defined_end : (n : ℕ) (front : List ObjectDef) (id : ℕ) (before ds : List ResourceDef)
     → list_all (λ o. nat_lt o.id id) front ≡ true → (each resource n before).Good ds
-    → with_definitions (front ++ defined id before ∷ []) id ds ≡ front ++ defined id (before ++ ds) ∷ []
+    → with_definitions (front ++ object_of_definitions id before ∷ []) id ds ≡ front
+    ++ object_of_definitions id (before ++ ds) ∷ []
 unfolding each
 defined_end zero front id before ds low good =
-    ap (with_definitions (front ++ defined id before ∷ []) id) good
-    ∙ ap (λ xs. front ++ defined id xs ∷ []) (sym (append-nil before) ∙ ap (λ xs. before ++ xs) (sym good))
+    ap (with_definitions (front ++ object_of_definitions id before ∷ []) id) good
+    ∙ ap (λ xs. front ++ object_of_definitions id xs ∷ [])
+    (sym (append-nil before) ∙ ap (λ xs. before ++ xs) (sym good))
 defined_end (suc n) front id before [] low good = absurd good
 defined_end (suc n) front id before (d ∷ ds) low good =
     ap (λ c. with_definitions c id ds) (resource_end front id before d low (is_above before d good.0))
     ∙ defined_end n front id (before ++ d ∷ []) ds low good.1
-    ∙ ap (λ xs. front ++ defined id xs ∷ []) (append_assoc before (d ∷ []) ds)
+    ∙ ap (λ xs. front ++ object_of_definitions id xs ∷ []) (append_assoc before (d ∷ []) ds)
 
 -- the object at the end is found
 pub found_end : (front : List ObjectDef) (id : ℕ) → list_all (λ o. nat_lt o.id id) front ≡ true
@@ -156,7 +160,8 @@ few_definitions ds i good lt =
     omega (arith, ltb-true (length ds) 65 good.0.1, length-take-le i ds (omega (arith, lt)), lt)
 
 pub free_at : (c : Template) (id : ℕ) (ds : List ResourceDef) (i : ℕ) (d : ResourceDef) → is_vendor id ≡ true
-    → resources.Good ds → i < length ds → d ≡ get_or ds i d → object_of c.catalog id ≡ Some (defined id (take i ds))
+    → resources.Good ds → i < length ds → d ≡ get_or ds i d
+    → object_of c.catalog id ≡ Some (object_of_definitions id (take i ds))
     → definition_fault c id d ≡ None
 free_at c id ds i d vendor good lt item found =
     not_refused_at c id (take i ds) d vendor found (item_good ds i d good lt item) (few_definitions ds i good lt)
@@ -176,13 +181,13 @@ made_on c t u id ds i d lt item so_far made =
     ∙ ap (with_definitions c.catalog id) (sym (next ds i d lt item)))
 
 pub found_more : (t u : Template) (id : ℕ) (ds : List ResourceDef) (i : ℕ) (d : ResourceDef) → resources.Good ds
-    → i < length ds → d ≡ get_or ds i d → object_of t.catalog id ≡ Some (defined id (take i ds))
+    → i < length ds → d ≡ get_or ds i d → object_of t.catalog id ≡ Some (object_of_definitions id (take i ds))
     → u ≡ with_catalog t (with_resource t.catalog id d)
-    → object_of u.catalog id ≡ Some (defined id (take (i + 1) ds))
+    → object_of u.catalog id ≡ Some (object_of_definitions id (take (i + 1) ds))
 found_more t u id ds i d good lt item found made =
     ap (λ (k : Template). object_of k.catalog id) made
     ∙ found_on t.catalog id (take i ds) d found (item_good ds i d good lt item)
-    ∙ ap (λ xs. Some (defined id xs)) (sym (next ds i d lt item))
+    ∙ ap (λ xs. Some (object_of_definitions id xs)) (sym (next ds i d lt item))
 
 pub clash : (o : Option TemplateFault) (f : TemplateFault) → o ≡ None → o ≡ Some f → ⊥
 clash o f free bad = let e : None ≡ Some f = sym free ∙ bad in cc

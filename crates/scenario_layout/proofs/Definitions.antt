@@ -6,7 +6,7 @@ use Rattle.std.specs.List.{list_all}
 use Rattle.std.specs.Int.{w8, w16}
 use Rattle.std.proofs.lemmas.Bool.{ltb-true, eqb-true, and_parts, or_cases}
 use Rattle.byte_layout.specs.declared.fault.Break.TheVariants.{BadField}
-use Rattle.byte_layout.specs.Layout.{Layout, number, judged, at_most, split, last}
+use Rattle.byte_layout.specs.Layout.{Layout, number, layout_with_test, at_most, split, last}
 use Rattle.byte_layout.specs.Exact.{IsExact}
 use Rattle.byte_layout.proofs.Fields.{number_good, byte_exact, short_exact}
 use Rattle.byte_layout.proofs.Layouts.{fits_exact, at_most_exact, split_exact, last_exact}
@@ -34,7 +34,7 @@ ops_known n e = let t = and_parts (nat_lt 0 n) (nat_lt n 5) e in ops_again n (lt
 ops_exact : IsExact ops
 unfolding ops
 ops_exact =
-    last_exact ops_number ops_numbered (judged BadField (λ n. nat_lt 0 n && nat_lt n 5) (number w8))
+    last_exact ops_number ops_numbered (layout_with_test BadField (λ n. nat_lt 0 n && nat_lt n 5) (number w8))
     (fits_exact (λ n. nat_lt 0 n && nat_lt n 5) (number w8) byte_exact)
     (λ n good. ops_known n good.1)
 
@@ -58,15 +58,15 @@ flags_again (suc (suc (suc (suc n)))) below = absurd (omega arith)
 -- after the operations, and after the flags
 abbrev flags_and_kind : ℕ → Ops → Layout ResourceDef
 flags_and_kind n o =
-    split (λ r. flags_of r.multiple r.mandatory) (judged BadField (flags_fit o) (number w8))
-    (λ flags. last (λ r. r.kind) (definition n o flags) (judged BadField (kind_fits o) kind))
+    split (λ r. flags_of r.multiple r.mandatory) (layout_with_test BadField (flags_fit o) (number w8))
+    (λ flags. last (λ r. r.kind) (definition n o flags) (layout_with_test BadField (kind_fits o) kind))
 
 flags_and_kind_exact : (n : ℕ) (o : Ops) → IsExact (flags_and_kind n o)
 flags_and_kind_exact n o =
-    split_exact (λ r. flags_of r.multiple r.mandatory) (judged BadField (flags_fit o) (number w8))
-    (λ flags. last (λ r. r.kind) (definition n o flags) (judged BadField (kind_fits o) kind))
+    split_exact (λ r. flags_of r.multiple r.mandatory) (layout_with_test BadField (flags_fit o) (number w8))
+    (λ flags. last (λ r. r.kind) (definition n o flags) (layout_with_test BadField (kind_fits o) kind))
     (fits_exact (flags_fit o) (number w8) byte_exact)
-    (λ flags good. last_exact (λ r. r.kind) (definition n o flags) (judged BadField (kind_fits o) kind)
+    (λ flags good. last_exact (λ r. r.kind) (definition n o flags) (layout_with_test BadField (kind_fits o) kind)
     (fits_exact (kind_fits o) kind kind_exact) (λ k ok. refl))
     (λ flags good r h. ap (λ d. flags_of d.multiple d.mandatory) h.1 ∙ flags_again flags (flags_below o flags good.1))
 
@@ -78,7 +78,8 @@ behind_id_exact n =
 pub resource_exact : (before : List ResourceDef) → IsExact (resource before)
 unfolding resource
 resource_exact before =
-    split_exact (λ r. r.id) (judged BadField (λ n. list_all (λ r. nat_lt r.id n) before) (number w16)) behind_id
+    split_exact (λ r. r.id) (layout_with_test BadField (λ n. list_all (λ r. nat_lt r.id n) before) (number w16))
+    behind_id
     (fits_exact (λ n. list_all (λ r. nat_lt r.id n) before) (number w16) short_exact)
     (λ n good. behind_id_exact n)
     (λ n good r h. ap (λ d. d.id) h.1.1.1)

@@ -24,10 +24,10 @@ use Rattle.scenario_layout.proofs.Definitions.{resources_exact}
 use Rattle.device_template.specs.Template.{Template, most_accounts, account_fault, object_fault, instance_fault}
 use Rattle.device_template.specs.Template.{kind_taken, empty_class, is_notify, with_notify}
 use Rattle.scenario_layout.specs.Class.{objects_in, instances_in, values_in, with_accounts, with_objects}
-use Rattle.scenario_layout.specs.Class.{with_instances, with_values, is_taken, account, accounts, defined, object_id}
-use Rattle.scenario_layout.specs.Class.{object, objects, instance, instances, value_path, entry, values}
-use Rattle.scenario_layout.specs.Class.{behind_instances, behind_objects, behind_accounts, behind_notify, class}
-use Rattle.scenario_layout.specs.Class.{notify, notify_if, notify_in}
+use Rattle.scenario_layout.specs.Class.{with_instances, with_values, is_taken, account, accounts, object_of_definitions}
+use Rattle.scenario_layout.specs.Class.{object_id, object, objects, instance, instances, value_path, entry, values}
+use Rattle.scenario_layout.specs.Class.{behind_instances, behind_objects, behind_accounts, behind_notify, class, notify}
+use Rattle.scenario_layout.specs.Class.{notify_if, notify_in}
 use Rattle.scenario_layout.proofs.Ordered.{is_true, ascends, map_same, map_units}
 
 notify_exact : IsExact notify
@@ -63,9 +63,9 @@ object_id_exact c before =
 object_exact : (c : Template) (before : List ObjectDef) → IsExact (object c before)
 unfolding object
 object_exact c before =
-    split_exact (λ o. o.id) (object_id c before) (λ id. last (λ o. o.resources) (defined id) resources)
+    split_exact (λ o. o.id) (object_id c before) (λ id. last (λ o. o.resources) (object_of_definitions id) resources)
     (object_id_exact c before)
-    (λ id good. last_exact (λ o. o.resources) (defined id) resources resources_exact (λ ds ok. refl))
+    (λ id good. last_exact (λ o. o.resources) (object_of_definitions id) resources resources_exact (λ ds ok. refl))
     (λ id good o h. ap (λ d. d.id) h.1)
 
 objects_exact : (c : Template) → IsExact (objects c)

@@ -5,7 +5,8 @@ use Rattle.std.specs.Int.{w8, w16, w64}
 use Rattle.std.specs.Str.{is_utf8}
 use Rattle.std.proofs.lemmas.Bool.{ltb-true}
 use Rattle.byte_layout.specs.declared.fault.Break.TheVariants.{BadField}
-use Rattle.byte_layout.specs.Layout.{Layout, number, signed, judged, at_most, split, last, sized}
+use Rattle.byte_layout.specs.Layout.{Layout, number, signed_number, layout_with_test, at_most, split, last}
+use Rattle.byte_layout.specs.Layout.{bytes_with_length}
 use Rattle.byte_layout.specs.Exact.{IsExact}
 use Rattle.byte_layout.proofs.Fields.{byte_exact, short_exact}
 use Rattle.byte_layout.proofs.Layouts.{fits_exact, at_most_exact, done_exact, split_exact, last_exact, sized_exact}
@@ -39,7 +40,7 @@ flag_agrees (suc (suc n)) lt o h = absurd (let small : suc (suc n) < 2 = ltb-tru
 part_number_exact : IsExact part_number
 unfolding part_number
 part_number_exact =
-    split_exact flag_of (judged BadField (λ n. nat_lt n 2) (number w8)) behind_flag
+    split_exact flag_of (layout_with_test BadField (λ n. nat_lt n 2) (number w8)) behind_flag
     (fits_exact (λ n. nat_lt n 2) (number w8) byte_exact)
     (λ n good. behind_flag_exact n)
     (λ n good o h. flag_agrees n good.1 o h)
@@ -82,13 +83,13 @@ numbered (suc (suc (suc (suc (suc (suc n)))))) lt =
 pub kind_exact : IsExact kind
 unfolding kind
 kind_exact =
-    last_exact kind_number kind_numbered (judged BadField (λ n. nat_lt n 6) (number w8))
+    last_exact kind_number kind_numbered (layout_with_test BadField (λ n. nat_lt n 6) (number w8))
     (fits_exact (λ n. nat_lt n 6) (number w8) byte_exact)
     (λ n good. numbered n good.1)
 
 text_exact : IsExact text
 unfolding text
-text_exact = fits_exact is_utf8 (sized (number w8)) (sized_exact (number w8) byte_exact)
+text_exact = fits_exact is_utf8 (bytes_with_length (number w8)) (sized_exact (number w8) byte_exact)
 
 opaque_exact : IsExact opaque
 unfolding opaque
@@ -101,12 +102,13 @@ flag_again (suc (suc n)) lt = absurd (let small : suc (suc n) < 2 = ltb-true (su
 
 of_kind_exact : (k : ValueKind) → IsExact (of_kind k)
 of_kind_exact kinds.Text = last_exact bytes_in (λ t. values.Text t) text text_exact (λ t ok. refl)
-of_kind_exact kinds.Whole = last_exact number_in (λ z. values.Whole z) (signed w64) signed64_exact (λ z ok. refl)
+of_kind_exact kinds.Whole = last_exact number_in (λ z. values.Whole z) (signed_number w64) signed64_exact (λ z ok. refl)
 of_kind_exact kinds.Flag =
-    last_exact flag_in (λ n. values.Flag (n == 1)) (judged BadField (λ n. nat_lt n 2) (number w8))
+    last_exact flag_in (λ n. values.Flag (n == 1)) (layout_with_test BadField (λ n. nat_lt n 2) (number w8))
     (fits_exact (λ n. nat_lt n 2) (number w8) byte_exact) (λ n good. flag_again n good.1)
 of_kind_exact kinds.Opaque = last_exact bytes_in (λ b. values.Opaque b) opaque opaque_exact (λ b ok. refl)
-of_kind_exact kinds.Moment = last_exact number_in (λ z. values.Moment z) (signed w64) signed64_exact (λ z ok. refl)
+of_kind_exact kinds.Moment =
+    last_exact number_in (λ z. values.Moment z) (signed_number w64) signed64_exact (λ z ok. refl)
 of_kind_exact kinds.Link =
     split_exact object_in (number w16) (λ o. last instance_in (λ i. values.Link o i) (number w16)) short_exact
     (λ o good. last_exact instance_in (λ i. values.Link o i) (number w16) short_exact (λ i ok. refl))
@@ -123,6 +125,7 @@ kind_agrees kinds.Link v h = ap kind_of h.1.1
 pub value_exact : (wanted : Option ValueKind) → IsExact (value wanted)
 unfolding value
 value_exact wanted =
-    split_exact kind_of (judged BadField (fits wanted) kind) of_kind (fits_exact (fits wanted) kind kind_exact)
+    split_exact kind_of (layout_with_test BadField (fits wanted) kind) of_kind
+    (fits_exact (fits wanted) kind kind_exact)
     (λ k good. of_kind_exact k)
     (λ k good v h. kind_agrees k v h)

@@ -8,7 +8,7 @@ use Rattle.std.proofs.lemmas.List.{nil_from_length}
 use Rattle.std.specs.FinMap as finite
 use Rattle.byte_layout.specs.declared.fault.Break.{Break}
 use Rattle.byte_layout.specs.declared.fault.Break.TheVariants.{BadField}
-use Rattle.byte_layout.specs.Layout.{Layout, judged}
+use Rattle.byte_layout.specs.Layout.{Layout, layout_with_test}
 use Rattle.byte_layout.specs.Outcome.{Fails}
 use Rattle.lwm2m_values.specs.declared.value.Value.{Value}
 use Rattle.object_defs.specs.Base.{base}
@@ -21,7 +21,7 @@ use Rattle.instance_store.specs.Stored.{with_instance, with_value}
 use Rattle.device_template.specs.Template.{Template, with_catalog, with_store, instance_fault}
 use Rattle.device_template.specs.declared.fault.TemplateFault.{TemplateFault}
 use Rattle.device_template.specs.declared.fault.TemplateFault.TheVariants as faults
-use Rattle.scenario_layout.specs.Growing.{grown, refusal, IsLast}
+use Rattle.scenario_layout.specs.Growing.{items_with_next, refusal, IsLast}
 use Rattle.scenario_layout.specs.Class.{objects_in, instances_in, values_in, with_accounts, with_objects}
 use Rattle.scenario_layout.specs.Class.{with_instances, with_values, is_taken, account, object, object_id, instance}
 use Rattle.scenario_layout.specs.Class.{entry, value_path}
@@ -32,13 +32,13 @@ use Rattle.scenario_layout.proofs.Ordered.{from_entries_of, insert_end}
 -- an item that passes is read after the others
 pub passed : {A : Type 0} (test : A → Bool) (p : Layout A) (before : List A) (bytes : List ℕ) (a : A) (rest : List ℕ)
     → p.read bytes ≡ Ok (a, rest) → test a ≡ true
-    → grown before ((judged BadField test p).read bytes) ≡ Ok (before ++ a ∷ [], rest)
+    → items_with_next before ((layout_with_test BadField test p).read bytes) ≡ Ok (before ++ a ∷ [], rest)
 passed test p before bytes a rest read good = rw (read, good) refl
 
 -- one that does not is a bad field
 pub failed : {A : Type 0} (test : A → Bool) (p : Layout A) (before : List A) (bytes : List ℕ) (a : A) (rest : List ℕ)
     → p.read bytes ≡ Ok (a, rest) → test a ≡ false
-    → grown before ((judged BadField test p).read bytes) ≡ Err (BadField (length bytes))
+    → items_with_next before ((layout_with_test BadField test p).read bytes) ≡ Err (BadField (length bytes))
 failed test p before bytes a rest read bad = rw (read, bad) refl
 
 -- what a class refuses is a bad field

@@ -16,8 +16,8 @@ use Rattle.lwm2m_values.specs.declared.kind.ValueKind.{ValueKind}
 use Rattle.lwm2m_values.specs.declared.kind.ValueKind.TheVariants as kinds
 use Rattle.object_defs.specs.Base.{base}
 use Rattle.object_defs.specs.Catalog.{object_of, resource_in}
-use Rattle.object_defs.specs.Vendor.{inserted, is_sound, is_text, is_vendor, new_object, vendor_fault, resource_fault}
-use Rattle.object_defs.specs.Vendor.{resource_fault_in, with_definition, with_object, with_resource}
+use Rattle.object_defs.specs.Vendor.{with_inserted, is_sound, is_text, is_vendor, new_object, vendor_fault}
+use Rattle.object_defs.specs.Vendor.{resource_fault, resource_fault_in, with_definition, with_object, with_resource}
 use Rattle.object_defs.specs.declared.definition.Ops.{Ops}
 use Rattle.object_defs.specs.declared.definition.Ops.TheVariants.{R, W, RW, E}
 use Rattle.object_defs.specs.declared.definition.ObjectDef.{ObjectDef}
@@ -30,8 +30,8 @@ use Rattle.scenario_layout.proofs.Definitions.{resource_good}
 use Rattle.device_template.specs.Template.{Template, fault_of}
 use Rattle.device_template.specs.Built.{IsBuilt}
 use Rattle.device_template.specs.Built.IsBuilt.{nothing, account, object, resource, instance, value, notify}
-use Rattle.device_template.proofs.Ascending.{Rises, rises-inserted}
-use Rattle.scenario_layout.specs.Class.{objects_in, defined, objects}
+use Rattle.device_template.proofs.Ascending.{Rises, rises-with_inserted}
+use Rattle.scenario_layout.specs.Class.{objects_in, object_of_definitions, objects}
 use Rattle.scenario_layout.specs.Class as layout
 use Rattle.scenario_layout.proofs.Between.{all_more, length_more, inserted_more, map_inserted}
 use Rattle.scenario_layout.proofs.Between.{shorter, each_good, rising_front, all_below, found_any, three_lines}
@@ -60,7 +60,7 @@ definitions_more o d short before free =
     let more = inserted_more (λ r. r.id) d o.resources in
     record {
       rising = subst Rises (sym (map_inserted (λ r. r.id) d o.resources))
-          (rises-inserted d.id (ids o.resources) (sym (found_any (λ r. r.id) d.id o.resources) ∙ lines.1)
+          (rises-with_inserted d.id (ids o.resources) (sym (found_any (λ r. r.id) d.id o.resources) ∙ lines.1)
           before.rising);
       each = all_more IsFit d o.resources _ more (short, not-false (is_sound d) lines.0) before.each;
       few = omega (arith, length_more d o.resources _ more, below (length o.resources) 64 lines.2);
@@ -152,11 +152,12 @@ not_low x y h = grind (arith, nat_tests)
 
 inserted_behind : {X : Type 0} (number : X → ℕ) (x : X) (front xs : List X)
     → list_all (λ y. ltb (number y) (number x)) front ≡ true
-    → inserted number x (front ++ xs) ≡ front ++ inserted number x xs
+    → with_inserted number x (front ++ xs) ≡ front ++ with_inserted number x xs
 inserted_behind number x [] xs low = refl
 inserted_behind number x (y ∷ front) xs low =
     let p = and_parts (ltb (number y) (number x)) _ low in
-    ap (λ b. cond b (x ∷ y ∷ front ++ xs) (y ∷ inserted number x (front ++ xs))) (not_low (number x) (number y) p.0)
+    ap (λ b. cond b (x ∷ y ∷ front ++ xs) (y ∷ with_inserted number x (front ++ xs)))
+    (not_low (number x) (number y) p.0)
     ∙ ap (λ t. y ∷ t) (inserted_behind number x front xs p.1)
 
 resource_behind : (front os : List ObjectDef) (id : ℕ) (d : ResourceDef) → list_all (λ o. ltb o.id id) front ≡ true
@@ -191,11 +192,11 @@ object_more catalog id h free =
     ∙ lines.1 in
     let room : length h.own < 11 = omega (arith, below (length catalog) 16 lines.2, ap length h.behind) in
     record {
-      own = inserted (λ o. o.id) (new_object id) h.own;
+      own = with_inserted (λ o. o.id) (new_object id) h.own;
       behind = ap (λ c. with_object c id) h.behind ∙ inserted_behind (λ o. o.id) (new_object id) base h.own low;
       good = record {
         rising = subst Rises (sym (map_inserted (λ o. o.id) (new_object id) h.own))
-            (rises-inserted id (numbers h.own) (sym (found_any (λ o. o.id) id h.own) ∙ absent) h.good.rising);
+            (rises-with_inserted id (numbers h.own) (sym (found_any (λ o. o.id) id h.own) ∙ absent) h.good.rising);
         each = all_more IsOwnObject (new_object id) h.own _ more
             (vendor, record { rising = tt; each = tt; few = omega arith }) h.good.each;
         few = omega (arith, length_more (new_object id) h.own _ more, room);

@@ -7,7 +7,7 @@ use Rattle.std.proofs.lemmas.Str.{is_utf8-from_IsUtf8, IsUtf8-from_is_utf8}
 use Rattle.std.proofs.lemmas.Bool.{lt-ltb, ltb-true}
 use Rattle.byte_layout.proofs.Steps.{behind_front, front_bytes}
 use Rattle.byte_layout.specs.Exact.{IsBytes}
-use Rattle.byte_layout.specs.Layout.{number, raw, judged}
+use Rattle.byte_layout.specs.Layout.{number, raw, layout_with_test}
 use Rattle.byte_layout.specs.declared.fault.Break.TheVariants.{BadField}
 use Rattle.byte_layout.proofs.Fields.{number_good, number_below, raw_good}
 use Rattle.byte_layout.proofs.Signed.{signed64_good, signed64_fits}
@@ -58,7 +58,7 @@ opaque_good b short = (
   raw_good (length b) b refl,
 )
 
-flag_good : (n : ℕ) → n < 2 → (judged BadField (λ m. nat_lt m 2) (number w8)).Good n
+flag_good : (n : ℕ) → n < 2 → (layout_with_test BadField (λ m. nat_lt m 2) (number w8)).Good n
 flag_good n lt = (number_good w8 n (omega (arith, lt)), lt-ltb n 2 lt)
 
 held_good : (v : Value) → IsGood v → (of_kind (kind_of v)).Good v

@@ -8,17 +8,18 @@ use Rattle.byte_layout.specs.Layout.{Layout, each}
 use Rattle.byte_layout.specs.Outcome.{Fails}
 use Rattle.byte_layout.proofs.Loop.{IsLeft, starts, goes_on, ends, is_done}
 use Rattle.device_template.specs.Template.{Template}
-use Rattle.scenario_layout.specs.Growing.{grown}
+use Rattle.scenario_layout.specs.Growing.{items_with_next}
 
 -- what was read after the others
 grown_ok : {A : Type 0} (before : List A) (r : Result (A × List ℕ) Break) (after : List A) (rest : List ℕ)
-    → grown before r ≡ Ok (after, rest) → (a : A) × (r ≡ Ok (a, rest)) × (after ≡ before ++ a ∷ [])
+    → items_with_next before r ≡ Ok (after, rest) → (a : A) × (r ≡ Ok (a, rest)) × (after ≡ before ++ a ∷ [])
 grown_ok {A} before (Ok x) after rest e =
     let same : ◌≡◌ {A = List A × List ℕ} (before ++ x.0 ∷ [], x.1) (after, rest) = cc in
     (x.0, ap (λ (s : List A × List ℕ). Ok (x.0, s.1)) same, sym (ap (λ (s : List A × List ℕ). s.0) same))
 grown_ok before (Err b) after rest e = absurd cc
 
-grown_fails : {A : Type 0} (before : List A) (e : ReadError) (r : Result (A × List ℕ) Break) → Fails e (grown before r)
+grown_fails : {A : Type 0} (before : List A) (e : ReadError) (r : Result (A × List ℕ) Break)
+    → Fails e (items_with_next before r)
     → Fails e r
 grown_fails before errors.Memory r h = tt
 grown_fails before (errors.Fault b) (Ok x) h = absurd cc
@@ -26,7 +27,8 @@ grown_fails before (errors.Fault b) (Err c) h = let same : b ≡ c = cc in ap (�
 
 -- an item was read
 pub grows_on : {A : Type 0} (part : List A → Layout A) (front after : List A) (count i : ℕ) (bytes rest : List ℕ)
-    (total : Result (List A × List ℕ) Break) → i < count → grown front ((part front).read bytes) ≡ Ok (after, rest)
+    (total : Result (List A × List ℕ) Break) → i < count
+    → items_with_next front ((part front).read bytes) ≡ Ok (after, rest)
     → IsLeft part front (count - i) bytes total → IsLeft part after (count - (i + 1)) rest total
 grows_on {A} part front after count i bytes rest total lt h so_far =
     let g = grown_ok front ((part front).read bytes) after rest h in
@@ -36,7 +38,7 @@ grows_on {A} part front after count i bytes rest total lt h so_far =
 -- an item was not read
 pub grows_no_more : {A : Type 0} (part : List A → Layout A) (e : ReadError) (front : List A) (count i : ℕ)
     (bytes : List ℕ) (total : Result (List A × List ℕ) Break) → i < count
-    → Fails e (grown front ((part front).read bytes))
+    → Fails e (items_with_next front ((part front).read bytes))
     → IsLeft part front (count - i) bytes total → Fails e total
 grows_no_more part e front count i bytes total lt h so_far =
     ends part e front count i bytes total front refl lt (grown_fails front e ((part front).read bytes) h) so_far
@@ -67,17 +69,21 @@ module _ {A : Type 0} (part : Template → List A → Layout A) (items : Templat
     part_of c t e before = ap (λ k. part k before) e ∙ same c (items t) before
 
     pub filled_on : (c t u : Template) (count i : ℕ) (bytes rest : List ℕ) (total : Result (List A × List ℕ) Break)
-        → i < count → grown (items t) ((part t (items t)).read bytes) ≡ Ok (items u, rest) → u ≡ put t (items u)
+        → i < count → items_with_next (items t) ((part t (items t)).read bytes) ≡ Ok (items u, rest)
+        → u ≡ put t (items u)
         → IsFilled c t (count - i) bytes total → IsFilled c u (count - (i + 1)) rest total
     filled_on c t u count i bytes rest total lt read made h = (
       grows_on (part c) (items t) (items u) count i bytes rest total lt
-          (ap (λ (p : Layout A). grown (items t) (p.read bytes)) (sym (part_of c t h.1 (items t))) ∙ read) h.0,
+          (ap (λ (p : Layout A). items_with_next (items t) (p.read bytes)) (sym (part_of c t h.1 (items t))) ∙ read)
+          h.0,
       made ∙ ap (λ k. put k (items u)) h.1 ∙ twice c (items t) (items u),
     )
 
     pub filled_no_more : (c t : Template) (e : ReadError) (count i : ℕ) (bytes : List ℕ)
-        (total : Result (List A × List ℕ) Break) → i < count → Fails e (grown (items t) ((part t (items t)).read bytes))
+        (total : Result (List A × List ℕ) Break) → i < count
+        → Fails e (items_with_next (items t) ((part t (items t)).read bytes))
         → IsFilled c t (count - i) bytes total → Fails e total
     filled_no_more c t e count i bytes total lt read h =
         grows_no_more (part c) e (items t) count i bytes total lt
-        (subst (λ (p : Layout A). Fails e (grown (items t) (p.read bytes))) (part_of c t h.1 (items t)) read) h.0
+        (subst (λ (p : Layout A). Fails e (items_with_next (items t) (p.read bytes))) (part_of c t h.1 (items t)) read)
+        h.0

@@ -9,7 +9,7 @@ use Rattle.std.proofs.lemmas.Bool.{eqb-true, le-leb}
 use Rattle.byte_layout.specs.declared.fault.Break.TheVariants.{BadField}
 use Rattle.byte_layout.specs.declared.fault.ReadError.{ReadError}
 use Rattle.byte_layout.specs.declared.fault.ReadError.TheVariants as errors
-use Rattle.byte_layout.specs.Layout.{Layout, number, judged}
+use Rattle.byte_layout.specs.Layout.{Layout, number, layout_with_test}
 use Rattle.byte_layout.specs.Exact.{IsBytes}
 use Rattle.byte_layout.specs.Outcome.{Fails}
 use Rattle.lwm2m_values.specs.declared.kind.ValueKind.{ValueKind}
@@ -21,7 +21,7 @@ use Rattle.object_defs.specs.Base.{base}
 use Rattle.object_defs.specs.Catalog.{object_of}
 use Rattle.object_defs.specs.Lines.{first_line}
 use Rattle.object_defs.specs.Path.{path_cmp, instance_cmp}
-use Rattle.object_defs.specs.Vendor.{inserted, is_vendor, new_object, with_object}
+use Rattle.object_defs.specs.Vendor.{is_vendor, new_object, with_inserted, with_object}
 use Rattle.object_defs.specs.declared.fault.CatalogFault.{CatalogFault}
 use Rattle.object_defs.specs.declared.fault.CatalogFault.TheVariants as catalog_faults
 use Rattle.object_defs.specs.declared.path.FullPath.{FullPath}
@@ -35,7 +35,7 @@ use Rattle.device_template.specs.Values.{has_kind, with_value_at}
 use Rattle.lwm2m_values.specs.Value.{has_good_length}
 use Rattle.device_template.specs.declared.fault.TemplateFault.{TemplateFault}
 use Rattle.instance_store.specs.Stored.{with_instance, with_value}
-use Rattle.scenario_layout.specs.Growing.{grown, IsLast}
+use Rattle.scenario_layout.specs.Growing.{items_with_next, IsLast}
 use Rattle.scenario_layout.specs.Class.{objects_in, instances_in, values_in, with_accounts, with_objects}
 use Rattle.scenario_layout.specs.Class.{with_instances, with_values, is_taken, account, instance, entry, value_path}
 use Rattle.byte_layout.proofs.Layouts.{bytes_behind}
@@ -52,7 +52,7 @@ account_test before n =
 
 pub account_low : (before : List ℕ) (bytes : List ℕ) (n : ℕ) (rest : List ℕ) → (number w16).read bytes ≡ Ok (n, rest)
     → list_all (λ m. nat_lt m n) before ≡ false
-    → grown before ((account before).read bytes) ≡ Err (BadField (length bytes))
+    → items_with_next before ((account before).read bytes) ≡ Err (BadField (length bytes))
 unfolding account
 account_low before bytes n rest read low =
     failed (account_test before) (number w16) before bytes n rest read
@@ -60,8 +60,8 @@ account_low before bytes n rest read low =
 
 pub account_fits : (before : List ℕ) (u : Template) (bytes : List ℕ) (n : ℕ) (rest : List ℕ)
     → (number w16).read bytes ≡ Ok (n, rest) → list_all (λ m. nat_lt m n) before ≡ true
-    → account_fault (with_accounts empty_class before) n ≡ None → u.accounts ≡ inserted (λ a. a) n before
-    → grown before ((account before).read bytes) ≡ Ok (u.accounts, rest)
+    → account_fault (with_accounts empty_class before) n ≡ None → u.accounts ≡ with_inserted (λ a. a) n before
+    → items_with_next before ((account before).read bytes) ≡ Ok (u.accounts, rest)
 unfolding account
 account_fits before u bytes n rest read above free more =
     passed (account_test before) (number w16) before bytes n rest read
@@ -99,13 +99,13 @@ object_vendor c id h =
 
 pub instance_bad : (c : Template) (bytes : List ℕ) (p : InstancePath) (rest : List ℕ) → place.read bytes ≡ Ok (p, rest)
     → instance_test c p ≡ false
-    → grown (instances_in c) ((instance c (instances_in c)).read bytes) ≡ Err (BadField (length bytes))
+    → items_with_next (instances_in c) ((instance c (instances_in c)).read bytes) ≡ Err (BadField (length bytes))
 unfolding instance
 instance_bad c bytes p rest read bad = failed (instance_test c) place (instances_in c) bytes p rest read bad
 
 pub instance_good : (c u : Template) (bytes : List ℕ) (p : InstancePath) (rest : List ℕ)
     → place.read bytes ≡ Ok (p, rest) → instance_test c p ≡ true → instances_in u ≡ instances_in c ++ p ∷ []
-    → grown (instances_in c) ((instance c (instances_in c)).read bytes) ≡ Ok (instances_in u, rest)
+    → items_with_next (instances_in c) ((instance c (instances_in c)).read bytes) ≡ Ok (instances_in u, rest)
 unfolding instance
 instance_good c u bytes p rest read good more =
     passed (instance_test c) place (instances_in c) bytes p rest read good ∙ ap (λ xs. Ok (xs, rest)) (sym more)
@@ -120,11 +120,12 @@ same_kind : (c : Template) (p : FullPath) → kind_taken (with_values c (values_
 same_kind c p = ap (λ k. kind_taken k p) (sym (values_itself c))
 
 judged_ok : {A : Type 0} (test : A → Bool) (p : Layout A) (bytes : List ℕ) (a : A) (rest : List ℕ)
-    → p.read bytes ≡ Ok (a, rest) → test a ≡ true → (judged BadField test p).read bytes ≡ Ok (a, rest)
+    → p.read bytes ≡ Ok (a, rest) → test a ≡ true → (layout_with_test BadField test p).read bytes ≡ Ok (a, rest)
 judged_ok test p bytes a rest read good = rw (read, good) refl
 
 judged_bad : {A : Type 0} (test : A → Bool) (p : Layout A) (bytes : List ℕ) (a : A) (rest : List ℕ)
-    → p.read bytes ≡ Ok (a, rest) → test a ≡ false → (judged BadField test p).read bytes ≡ Err (BadField (length bytes))
+    → p.read bytes ≡ Ok (a, rest) → test a ≡ false
+    → (layout_with_test BadField test p).read bytes ≡ Err (BadField (length bytes))
 judged_bad test p bytes a rest read bad = rw (read, bad) refl
 
 and_false : (b c : Bool) → c ≡ false → (b && c) ≡ false
@@ -156,7 +157,8 @@ path_fits c bytes p rest k read above some =
 
 pub entry_cut : (c : Template) (bytes : List ℕ) (p : FullPath) (rest : List ℕ) (k : ValueKind) (e : ReadError)
     → (value_path c (values_in c)).read bytes ≡ Ok (p, rest) → kind_taken c p ≡ Some k
-    → Fails e ((value (Some k)).read rest) → Fails e (grown (values_in c) ((entry c (values_in c)).read bytes))
+    → Fails e ((value (Some k)).read rest)
+    → Fails e (items_with_next (values_in c) ((entry c (values_in c)).read bytes))
 unfolding entry
 entry_cut c bytes p rest k errors.Memory read some cut = tt
 entry_cut c bytes p rest k (errors.Fault b) read some cut = rw (read, same_kind c p, some, cut) refl
@@ -165,7 +167,7 @@ pub entry_read : (c u : Template) (bytes : List ℕ) (p : FullPath) (rest : List
     (after : List ℕ) → (value_path c (values_in c)).read bytes ≡ Ok (p, rest) → kind_taken c p ≡ Some k
     → (value (Some k)).read rest ≡ Ok (v, after)
     → values_in u ≡ values_in c ++ (p, v) ∷ []
-    → grown (values_in c) ((entry c (values_in c)).read bytes) ≡ Ok (values_in u, after)
+    → items_with_next (values_in c) ((entry c (values_in c)).read bytes) ≡ Ok (values_in u, after)
 unfolding entry
 entry_read c u bytes p rest k v after read some held more = rw (read, same_kind c p, some, held, more) refl
 

@@ -12,8 +12,8 @@ use Rattle.object_defs.specs.declared.definition.ResourceDef.{ResourceDef}
 use Rattle.scenario_layout.specs.Definition.{resource, resources}
 use Rattle.scenario_layout.proofs.Definitions.{resources_exact}
 use Rattle.device_template.specs.Template.{Template, with_catalog}
-use Rattle.scenario_layout.specs.Growing.{grown, with_definitions}
-use Rattle.scenario_layout.specs.Class.{objects_in, with_objects, defined, object_id, object}
+use Rattle.scenario_layout.specs.Growing.{items_with_next, with_definitions}
+use Rattle.scenario_layout.specs.Class.{objects_in, with_objects, object_of_definitions, object_id, object}
 use Rattle.scenario_layout.proofs.ExactClass.{object_id_exact}
 use Rattle.scenario_layout.proofs.Defined.{found_end, defined_end}
 
@@ -47,24 +47,24 @@ pub object_behind : (c u v : Template) (id : ℕ) (ds : List ResourceDef) → c 
     → list_all (λ o. nat_lt o.id id) c.catalog ≡ true → resources.Good ds
     → u ≡ with_objects c (objects_in c ++ new_object id ∷ [])
     → v ≡ with_catalog u (with_definitions u.catalog id ds)
-    → v ≡ with_objects c (objects_in c ++ defined id ds ∷ [])
+    → v ≡ with_objects c (objects_in c ++ object_of_definitions id ds ∷ [])
 object_behind c u v id ds itself above good made defs =
     defs
     ∙ ap (λ t. with_catalog u (with_definitions t id ds)) (catalog_on c u id itself made)
     ∙ ap (with_catalog u) (defined_end (length ds) c.catalog id [] ds above (list_good ds good)
-    ∙ ap (λ (k : Template). k.catalog ++ defined id ds ∷ []) itself
-    ∙ append_assoc base (objects_in c) (defined id ds ∷ []))
-    ∙ ap (λ (k : Template). with_catalog k (base ++ (objects_in c ++ defined id ds ∷ []))) made
+    ∙ ap (λ (k : Template). k.catalog ++ object_of_definitions id ds ∷ []) itself
+    ∙ append_assoc base (objects_in c) (object_of_definitions id ds ∷ []))
+    ∙ ap (λ (k : Template). with_catalog k (base ++ (objects_in c ++ object_of_definitions id ds ∷ []))) made
 
 pub object_read : (c v : Template) (bytes : List ℕ) (id : ℕ) (rest : List ℕ) (ds : List ResourceDef) (after : List ℕ)
     → (object_id c (objects_in c)).read bytes ≡ Ok (id, rest) → resources.read rest ≡ Ok (ds, after)
-    → v ≡ with_objects c (objects_in c ++ defined id ds ∷ [])
-    → grown (objects_in c) ((object c (objects_in c)).read bytes) ≡ Ok (objects_in v, after)
+    → v ≡ with_objects c (objects_in c ++ object_of_definitions id ds ∷ [])
+    → items_with_next (objects_in c) ((object c (objects_in c)).read bytes) ≡ Ok (objects_in v, after)
 unfolding object
 object_read c v bytes id rest ds after read held made =
-    let more : objects_in v ≡ objects_in c ++ defined id ds ∷ [] = ap objects_in made in
+    let more : objects_in v ≡ objects_in c ++ object_of_definitions id ds ∷ [] = ap objects_in made in
     rw (read, held, more) refl
 
 pub object_kept : (c v : Template) (id : ℕ) (ds : List ResourceDef)
-    → v ≡ with_objects c (objects_in c ++ defined id ds ∷ []) → v ≡ with_objects c (objects_in v)
+    → v ≡ with_objects c (objects_in c ++ object_of_definitions id ds ∷ []) → v ≡ with_objects c (objects_in v)
 object_kept c v id ds made = made ∙ ap (with_objects c) (sym (ap objects_in made))

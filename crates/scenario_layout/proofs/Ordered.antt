@@ -11,7 +11,7 @@ use Rattle.std.specs.FinMap.{FinMap}
 use Rattle.std.specs.FinMap.Entries.{put, by_order, below_all, is_sorted}
 use Rattle.std.proofs.lemmas.Bool.Decides.{nat_tests}
 use Rattle.std.proofs.lemmas.Bool.{and_parts, and_from}
-use Rattle.object_defs.specs.Vendor.{inserted}
+use Rattle.object_defs.specs.Vendor.{with_inserted}
 use Rattle.byte_layout.specs.Layout.{Layout, each}
 use Rattle.scenario_layout.specs.Growing.{IsLast}
 
@@ -24,11 +24,11 @@ not_above x y h = grind (arith, nat_tests)
 
 -- what stands above all goes to the end
 pub inserted_end : {X : Type 0} (number : X → ℕ) (x : X) (xs : List X)
-    → list_all (λ y. ltb (number y) (number x)) xs ≡ true → inserted number x xs ≡ xs ++ x ∷ []
+    → list_all (λ y. ltb (number y) (number x)) xs ≡ true → with_inserted number x xs ≡ xs ++ x ∷ []
 inserted_end number x [] h = refl
 inserted_end number x (y ∷ ys) h =
     let p = and_parts (ltb (number y) (number x)) (list_all (λ y. ltb (number y) (number x)) ys) h in
-    ap (λ b. cond b (x ∷ y ∷ ys) (y ∷ inserted number x ys)) (not_above (number x) (number y) p.0)
+    ap (λ b. cond b (x ∷ y ∷ ys) (y ∷ with_inserted number x ys)) (not_above (number x) (number y) p.0)
     ∙ ap (λ t. y ∷ t) (inserted_end number x ys p.1)
 
 pub all_push : {X : Type 0} (p : X → Bool) (xs : List X) (x : X) → list_all p (xs ++ x ∷ []) ≡ (list_all p xs && p x)

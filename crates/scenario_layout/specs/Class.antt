@@ -6,7 +6,8 @@ use Rattle.std.specs.Int.{w8, w16}
 use Rattle.std.specs.Ordering.{is_lt}
 use Rattle.std.specs.FinMap as finite
 use Rattle.byte_layout.specs.declared.fault.Break.TheVariants.{BadField}
-use Rattle.byte_layout.specs.Layout.{Layout, number, judged, at_most, done, split, last, counted}
+use Rattle.byte_layout.specs.Layout.{Layout, number, layout_with_test, at_most, constant_layout, split, last}
+use Rattle.byte_layout.specs.Layout.{list_with_count}
 use Rattle.lwm2m_values.specs.declared.value.Value.{Value}
 use Rattle.object_defs.specs.Base.{base}
 use Rattle.object_defs.specs.Path.{path_cmp, instance_cmp}
@@ -56,12 +57,12 @@ is_taken fault = not (is_some fault)
 
 -- how the devices of a class notify: the first timeout of their Confirmable notifications in seconds, or 0
 unfoldable pub notify : Layout ℕ
-notify = judged BadField is_notify (number w8)
+notify = layout_with_test BadField is_notify (number w8)
 
 -- where there is no such byte, they send Non-confirmable notifications
 abbrev pub notify_if : Bool → Layout ℕ
 notify_if true = notify
-notify_if false = done 0
+notify_if false = constant_layout 0
 
 -- version 1 has no such byte
 unfoldable pub notify_in : ℕ → Layout ℕ
@@ -70,41 +71,42 @@ notify_in version = notify_if (not (version == 1))
 -- an account above those before it, which the class takes
 unfoldable pub account : List ℕ → Layout ℕ
 account before =
-    judged BadField (λ n. list_all (λ m. nat_lt m n) before
+    layout_with_test BadField (λ n. list_all (λ m. nat_lt m n) before
     && is_taken (account_fault (with_accounts empty_class before) n)) (number w16)
 
 unfoldable pub accounts : Layout (List ℕ)
-accounts = counted (at_most most_accounts (number w8)) account
+accounts = list_with_count (at_most most_accounts (number w8)) account
 
-abbrev pub defined : ℕ → List ResourceDef → ObjectDef
-defined id definitions = record { id = id; resources = definitions }
+abbrev pub object_of_definitions : ℕ → List ResourceDef → ObjectDef
+object_of_definitions id definitions = record { id = id; resources = definitions }
 
 -- the number of an object, above those that the class has, which the class takes
 unfoldable pub object_id : Template → List ObjectDef → Layout ℕ
 object_id c before =
-    judged BadField (λ id. list_all (λ o. nat_lt o.id id) (base ++ before)
+    layout_with_test BadField (λ id. list_all (λ o. nat_lt o.id id) (base ++ before)
     && is_taken (object_fault (with_objects c before) id)) (number w16)
 
 -- an object of the class's own: its number, and the definitions of its resources
 unfoldable pub object : Template → List ObjectDef → Layout ObjectDef
-object c before = split (λ o. o.id) (object_id c before) (λ id. last (λ o. o.resources) (defined id) resources)
+object c before =
+    split (λ o. o.id) (object_id c before) (λ id. last (λ o. o.resources) (object_of_definitions id) resources)
 
 unfoldable pub objects : Template → Layout (List ObjectDef)
-objects c = counted (at_most 11 (number w8)) (object c)
+objects c = list_with_count (at_most 11 (number w8)) (object c)
 
 -- an instance after those before it, which the class takes
 unfoldable pub instance : Template → List InstancePath → Layout InstancePath
 instance c before =
-    judged BadField (λ p. list_all (λ q. is_lt (instance_cmp q p)) before
+    layout_with_test BadField (λ p. list_all (λ q. is_lt (instance_cmp q p)) before
     && is_taken (instance_fault (with_instances c before) p)) place
 
 unfoldable pub instances : Template → Layout (List InstancePath)
-instances c = counted (number w16) (instance c)
+instances c = list_with_count (number w16) (instance c)
 
 -- the path of a value, after those before it, at which the class takes values of some kind
 unfoldable pub value_path : Template → List (FullPath × Value) → Layout FullPath
 value_path c before =
-    judged BadField (λ p. list_all (λ e. is_lt (path_cmp e.0 p)) before
+    layout_with_test BadField (λ p. list_all (λ e. is_lt (path_cmp e.0 p)) before
     && is_some (kind_taken (with_values c before) p)) path
 
 -- a path, and a value of the kind that is taken there
@@ -114,7 +116,7 @@ entry c before =
     (value (kind_taken (with_values c before) p)))
 
 unfoldable pub values : Template → Layout (List (FullPath × Value))
-values c = counted (number w16) (entry c)
+values c = list_with_count (number w16) (entry c)
 
 -- ---- the class: how it notifies, its accounts, the objects of its own, its instances, its values
 

@@ -3,7 +3,7 @@ use Rattle.std.specs.Prelude.{ℕ, ◌+◌, ◌==◌, ◌&&◌, ◌||◌, Bool, 
 use Rattle.std.specs.List.{list_all}
 use Rattle.std.specs.Int.{w8, w16}
 use Rattle.byte_layout.specs.declared.fault.Break.TheVariants.{BadField}
-use Rattle.byte_layout.specs.Layout.{Layout, number, judged, at_most, split, last, counted}
+use Rattle.byte_layout.specs.Layout.{Layout, number, layout_with_test, at_most, split, last, list_with_count}
 use Rattle.lwm2m_values.specs.declared.kind.ValueKind.{ValueKind}
 use Rattle.object_defs.specs.declared.definition.Ops.{Ops}
 use Rattle.object_defs.specs.declared.definition.Ops.TheVariants.{R, W, RW, E}
@@ -22,7 +22,7 @@ abbrev pub ops_numbered : ℕ → Ops
 ops_numbered n = if n == 1 then R else (if n == 2 then W else (if n == 3 then RW else E))
 
 unfoldable pub ops : Layout Ops
-ops = last ops_number ops_numbered (judged BadField (λ n. nat_lt 0 n && nat_lt n 5) (number w8))
+ops = last ops_number ops_numbered (layout_with_test BadField (λ n. nat_lt 0 n && nat_lt n 5) (number w8))
 
 -- 1 for a multiple resource, 2 more for a mandatory one
 abbrev pub flags_of : Bool → Bool → ℕ
@@ -45,13 +45,14 @@ definition n o flags k =
 -- what stands after the number of a resource: operations, flags, kind
 abbrev pub behind_id : ℕ → Layout ResourceDef
 behind_id n = split (λ r. r.ops) ops (λ o. split (λ r. flags_of r.multiple r.mandatory)
-    (judged BadField (flags_fit o) (number w8))
-    (λ flags. last (λ r. r.kind) (definition n o flags) (judged BadField (kind_fits o) kind)))
+    (layout_with_test BadField (flags_fit o) (number w8))
+    (λ flags. last (λ r. r.kind) (definition n o flags) (layout_with_test BadField (kind_fits o) kind)))
 
 -- a definition, whose number is above those of the definitions before it
 unfoldable pub resource : List ResourceDef → Layout ResourceDef
-resource before = split (λ r. r.id) (judged BadField (λ n. list_all (λ r. nat_lt r.id n) before) (number w16)) behind_id
+resource before =
+    split (λ r. r.id) (layout_with_test BadField (λ n. list_all (λ r. nat_lt r.id n) before) (number w16)) behind_id
 
 -- at most 64 definitions, their numbers ascending
 unfoldable pub resources : Layout (List ResourceDef)
-resources = counted (at_most 64 (number w8)) resource
+resources = list_with_count (at_most 64 (number w8)) resource

@@ -15,8 +15,8 @@ use Rattle.device_template.specs.declared.fault.TemplateFault.{TemplateFault}
 use Rattle.device_template.specs.declared.fault.TemplateFault.TheVariants as faults
 
 -- the items before, and the one that is read after them
-abbrev pub grown : {A : Type 0} → List A → Result (A × List ℕ) Break → Result (List A × List ℕ) Break
-grown before r = r >>= λ x. Ok (before ++ x.0 ∷ [], x.1)
+abbrev pub items_with_next : {A : Type 0} → List A → Result (A × List ℕ) Break → Result (List A × List ℕ) Break
+items_with_next before r = r >>= λ x. Ok (before ++ x.0 ∷ [], x.1)
 
 -- after this key, where there is one
 abbrev pub is_behind : {K : Type 0} → (K → K → Ordering) → Option K → K → Bool

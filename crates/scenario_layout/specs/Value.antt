@@ -4,7 +4,8 @@ use Rattle.std.specs.Prelude.{if◌then◌else◌}
 use Rattle.std.specs.Int.{w8, w16, w64}
 use Rattle.std.specs.Str.{is_utf8}
 use Rattle.byte_layout.specs.declared.fault.Break.TheVariants.{BadField}
-use Rattle.byte_layout.specs.Layout.{Layout, number, signed, judged, at_most, done, split, last, sized}
+use Rattle.byte_layout.specs.Layout.{Layout, number, signed_number, layout_with_test, at_most, constant_layout, split}
+use Rattle.byte_layout.specs.Layout.{last, bytes_with_length}
 use Rattle.lwm2m_values.specs.declared.kind.ValueKind.{ValueKind}
 use Rattle.lwm2m_values.specs.declared.kind.ValueKind.TheVariants as kinds
 use Rattle.lwm2m_values.specs.declared.value.Value.{Value}
@@ -28,11 +29,11 @@ flag_of None = 0
 flag_of (Some n) = 1
 
 abbrev pub behind_flag : ℕ → Layout (Option ℕ)
-behind_flag zero = done None
+behind_flag zero = constant_layout None
 behind_flag (suc n) = last (λ o. unwrap_or o 0) (λ m. Some m) (number w16)
 
 unfoldable pub part_number : Layout (Option ℕ)
-part_number = split flag_of (judged BadField (λ n. nat_lt n 2) (number w8)) behind_flag
+part_number = split flag_of (layout_with_test BadField (λ n. nat_lt n 2) (number w8)) behind_flag
 
 -- object, instance, resource, and the part's number where there is one
 abbrev pub path_of : ℕ → ℕ → ℕ → Option ℕ → FullPath
@@ -62,7 +63,7 @@ kind_numbered n =
     else (if n == 4 then kinds.Moment else kinds.Link))))
 
 unfoldable pub kind : Layout ValueKind
-kind = last kind_number kind_numbered (judged BadField (λ n. nat_lt n 6) (number w8))
+kind = last kind_number kind_numbered (layout_with_test BadField (λ n. nat_lt n 6) (number w8))
 
 -- ---- values
 
@@ -91,19 +92,19 @@ instance_in _ = 0
 
 -- UTF-8 of at most 255 bytes, judged at its length
 unfoldable pub text : Layout (List ℕ)
-text = judged BadField is_utf8 (sized (number w8))
+text = layout_with_test BadField is_utf8 (bytes_with_length (number w8))
 
 -- at most 1,024 bytes
 unfoldable pub opaque : Layout (List ℕ)
-opaque = sized (at_most 1024 (number w16))
+opaque = bytes_with_length (at_most 1024 (number w16))
 
 -- what stands after the number of a kind
 abbrev pub of_kind : ValueKind → Layout Value
 of_kind kinds.Text = last bytes_in (λ t. values.Text t) text
-of_kind kinds.Whole = last number_in (λ z. values.Whole z) (signed w64)
-of_kind kinds.Flag = last flag_in (λ n. values.Flag (n == 1)) (judged BadField (λ n. nat_lt n 2) (number w8))
+of_kind kinds.Whole = last number_in (λ z. values.Whole z) (signed_number w64)
+of_kind kinds.Flag = last flag_in (λ n. values.Flag (n == 1)) (layout_with_test BadField (λ n. nat_lt n 2) (number w8))
 of_kind kinds.Opaque = last bytes_in (λ b. values.Opaque b) opaque
-of_kind kinds.Moment = last number_in (λ z. values.Moment z) (signed w64)
+of_kind kinds.Moment = last number_in (λ z. values.Moment z) (signed_number w64)
 of_kind kinds.Link = split object_in (number w16) (λ o. last instance_in (λ i. values.Link o i) (number w16))
 
 -- a kind fits where none is wanted, and where it is the one that is
@@ -113,4 +114,4 @@ fits (Some wanted) k = kind_number k == kind_number wanted
 
 -- a value of the kind that is wanted, judged at the number of its kind
 unfoldable pub value : Option ValueKind → Layout Value
-value wanted = split kind_of (judged BadField (fits wanted) kind) of_kind
+value wanted = split kind_of (layout_with_test BadField (fits wanted) kind) of_kind

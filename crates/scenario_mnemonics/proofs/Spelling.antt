@@ -33,10 +33,10 @@ use Rattle.scenario_mnemonics.specs.declared.mnemonic.Mnemonic.{Mnemonic}
 use Rattle.scenario_mnemonics.specs.declared.mnemonic.Mnemonic.TheVariants as mnemonic
 use Rattle.scenario_mnemonics.specs.Queries.{is_query, are_queries}
 use Rattle.scenario_mnemonics.specs.Messages.{fields_of, has_words, IsGood}
-use Rattle.scenario_mnemonics.specs.MnemonicWords.{verb_word, keyword_word, keyword_named, keyword_of}
-use Rattle.scenario_mnemonics.specs.MnemonicWords.{type_word, type_of, format_word, format_of, short_token, token_at}
-use Rattle.scenario_mnemonics.specs.MnemonicWords.{head_at, last_by, content_at, queries_at, action_at}
-use Rattle.scenario_mnemonics.specs.MnemonicWords.{mnemonic_at, details, behind_keyword, spelled, spaced}
+use Rattle.scenario_mnemonics.specs.MnemonicWords.{verb_word, keyword_word, keyword_named, keyword_of, type_word}
+use Rattle.scenario_mnemonics.specs.MnemonicWords.{type_of, format_word, format_of, short_token, token_at, head_at}
+use Rattle.scenario_mnemonics.specs.MnemonicWords.{last_by, content_at, queries_at, action_at, mnemonic_at, details}
+use Rattle.scenario_mnemonics.specs.MnemonicWords.{behind_keyword, words_of_mnemonic, spaced_words}
 
 -- read again
 
@@ -133,7 +133,7 @@ keyword_again (keyword.Request v) = verb_again v
 keyword_again keyword.Reset = refl
 
 -- words with a space before each, after a word, are words joined by spaces
-pub joined : (w : List ℕ) (ws : List (List ℕ)) → w ++ spaced ws ≡ join_with_byte 32 (w ∷ ws)
+pub joined : (w : List ℕ) (ws : List (List ℕ)) → w ++ spaced_words ws ≡ join_with_byte 32 (w ∷ ws)
 joined w [] = append-nil w
 joined w (v ∷ ws) = ap (λ t. w ++ 32 ∷ t) (joined v ws)
 
@@ -219,7 +219,8 @@ verbs_word verb.Create = refl
 verbs_word verb.Attr = refl
 verbs_word verb.Exec = refl
 
-pub all_words : (server : ℕ) (m : Mnemonic) → server ≤ 65534 → IsGood m → AllByRecursion IsWord (spelled server m)
+pub all_words : (server : ℕ) (m : Mnemonic) → server ≤ 65534 → IsGood m
+    → AllByRecursion IsWord (words_of_mnemonic server m)
 all_words server (mnemonic.Request r) small h = (
   verbs_word (fields_of r.action).verb,
   (
@@ -237,5 +238,5 @@ all_words server (mnemonic.Reset mid) small h =
     (refl, (decimal_word server (omega (arith, small)), (decimal_word mid (omega (arith, h)), tt)))
 
 pub line_again : (server : ℕ) (m : Mnemonic) → server ≤ 65534 → IsGood m
-    → words (join_with_byte 32 (spelled server m)) ≡ spelled server m
-line_again server m small h = words_again (spelled server m) (all_words server m small h)
+    → words (join_with_byte 32 (words_of_mnemonic server m)) ≡ words_of_mnemonic server m
+line_again server m small h = words_again (words_of_mnemonic server m) (all_words server m small h)

@@ -8,7 +8,7 @@ use Rattle.coap_codec.specs.declared.option.Opt.{Opt}
 use Rattle.coap_codec.specs.OptionNumber.{observe_option, uri_path_option, content_format_option, uri_query_option}
 use Rattle.coap_codec.specs.OptionNumber.{accept_option}
 use Rattle.coap_codec.specs.Message.{Message, spelling}
-use Rattle.coap_codec.specs.Number.{shortest}
+use Rattle.coap_codec.specs.Number.{shortest_big_endian}
 use Rattle.object_defs.specs.declared.path.Path.{Path}
 use Rattle.object_defs.specs.declared.path.Path.TheVariants.{Object, Instance, Resource, Part}
 use Rattle.scenario_words.specs.PathWord.{IsPath}
@@ -32,9 +32,9 @@ options_with number values = map (λ v. record { number = number; value = v }) v
 -- the option that a format is, in the fewest bytes
 abbrev pub format_values : Format → List (List ℕ)
 format_values format.Any = []
-format_values format.Text = shortest 0 ∷ []
-format_values format.Opaque = shortest 42 ∷ []
-format_values format.Tlv = shortest 11542 ∷ []
+format_values format.Text = shortest_big_endian 0 ∷ []
+format_values format.Opaque = shortest_big_endian 42 ∷ []
+format_values format.Tlv = shortest_big_endian 11542 ∷ []
 
 -- Uri-Path: each number in decimal
 abbrev pub segments : Path → List (List ℕ)
@@ -61,9 +61,11 @@ method code verb =
 -- deregisters (RFC 7641 section 2); an Accept of 40 is the link format
 abbrev pub fields_of : Action → RequestFields
 fields_of (act.Read f) = record (method 1 verb.Read) { accept = format_values f }
-fields_of (act.Observe f) = record (method 1 verb.Observe) { observe = shortest 0 ∷ []; accept = format_values f }
-fields_of (act.Cancel f) = record (method 1 verb.Cancel) { observe = shortest 1 ∷ []; accept = format_values f }
-fields_of act.Discover = record (method 1 verb.Discover) { accept = shortest 40 ∷ [] }
+fields_of (act.Observe f) =
+    record (method 1 verb.Observe) { observe = shortest_big_endian 0 ∷ []; accept = format_values f }
+fields_of (act.Cancel f) =
+    record (method 1 verb.Cancel) { observe = shortest_big_endian 1 ∷ []; accept = format_values f }
+fields_of act.Discover = record (method 1 verb.Discover) { accept = shortest_big_endian 40 ∷ [] }
 fields_of act.Delete = method 4 verb.Delete
 fields_of (act.Write f b) = record (method 3 verb.Write) { content = format_values f; payload = b }
 fields_of (act.Update f b) = record (method 2 verb.Update) { content = format_values f; payload = b }

@@ -6,7 +6,7 @@ use Rattle.std.specs.List.{flat_map}
 use Rattle.std.specs.Fmt.{decimal}
 use Rattle.scenario_words.specs.declared.cause.Cause.{Cause}
 use Rattle.scenario_words.specs.declared.cause.Cause.TheVariants.{Missing, Token}
-use Rattle.scenario_words.specs.Reading.{◌>>=◌, word_by, ended}
+use Rattle.scenario_words.specs.Reading.{◌>>=◌, word_by, check_of_end}
 use Rattle.scenario_words.specs.Number.{number_of}
 use Rattle.scenario_words.specs.HexWord.{bytes_of, hex_word}
 use Rattle.scenario_words.specs.PathWord.{path_of}
@@ -80,7 +80,7 @@ format_of w = ok_or (find (λ f. bytes_eq w (format_word f)) formats) (name_faul
 
 -- the last word, read by this reader of a word
 abbrev pub last_by : {A : Type 0} → (List ℕ → Result A Cause) → List (List ℕ) → Result A Cause
-last_by read ws = word_by read ws >>= (λ x. ended x.1 >>= (λ e. Ok x.0))
+last_by read ws = word_by read ws >>= (λ x. check_of_end x.1 >>= (λ e. Ok x.0))
 
 -- at most 8 bytes
 abbrev pub short_token : List ℕ → Result (List ℕ) Cause
@@ -117,8 +117,8 @@ abbrev pub action_at : Verb → List (List ℕ) → Result Action Cause
 action_at verb.Read ws = last_by format_of ws >>= (λ f. Ok (act.Read f))
 action_at verb.Observe ws = last_by format_of ws >>= (λ f. Ok (act.Observe f))
 action_at verb.Cancel ws = last_by format_of ws >>= (λ f. Ok (act.Cancel f))
-action_at verb.Discover ws = ended ws >>= (λ e. Ok act.Discover)
-action_at verb.Delete ws = ended ws >>= (λ e. Ok act.Delete)
+action_at verb.Discover ws = check_of_end ws >>= (λ e. Ok act.Discover)
+action_at verb.Delete ws = check_of_end ws >>= (λ e. Ok act.Delete)
 action_at verb.Write ws = content_at ws >>= (λ c. Ok (act.Write c.0 c.1))
 action_at verb.Update ws = content_at ws >>= (λ c. Ok (act.Update c.0 c.1))
 action_at verb.Create ws = content_at ws >>= (λ c. Ok (act.Create c.0 c.1))
@@ -126,17 +126,17 @@ action_at verb.Attr ws = queries_at ws >>= (λ qs. Ok (act.Attr qs))
 action_at verb.Exec ws = last_by bytes_of ws >>= (λ b. Ok (act.Exec b))
 
 -- the server of a head, and its request
-abbrev pub said : Head → Action → ℕ × Mnemonic
-said h a =
+abbrev pub server_and_request : Head → Action → ℕ × Mnemonic
+server_and_request h a =
     (h.server, mnemonic.Request (record { kind = h.kind; mid = h.mid; token = h.token; path = h.path; action = a }))
 
 -- the words after a keyword: a server, and the mnemonic that it sends
 abbrev pub mnemonic_at : Keyword → List (List ℕ) → Result (ℕ × Mnemonic) Cause
-mnemonic_at (keyword.Request v) ws = head_at ws >>= (λ h. action_at v h.1 >>= (λ a. Ok (said h.0 a)))
+mnemonic_at (keyword.Request v) ws = head_at ws >>= (λ h. action_at v h.1 >>= (λ a. Ok (server_and_request h.0 a)))
 mnemonic_at keyword.Reset ws = do
   s ← word_by (number_of 1 65534) ws
   m ← word_by (number_of 0 65535) s.1
-  e ← ended m.1
+  e ← check_of_end m.1
   Ok (s.0, mnemonic.Reset m.0)
 
 -- the words after the path, as they are written
@@ -159,9 +159,9 @@ behind_keyword server (mnemonic.Request r) =
 behind_keyword server (mnemonic.Reset mid) = decimal server ∷ decimal mid ∷ []
 
 -- the words of a mnemonic that a server sends, as they are written
-abbrev pub spelled : ℕ → Mnemonic → List (List ℕ)
-spelled server m = keyword_word (keyword_of m) ∷ behind_keyword server m
+abbrev pub words_of_mnemonic : ℕ → Mnemonic → List (List ℕ)
+words_of_mnemonic server m = keyword_word (keyword_of m) ∷ behind_keyword server m
 
 -- words with a space before each
-abbrev pub spaced : List (List ℕ) → List ℕ
-spaced ws = flat_map (λ w. 32 ∷ w) ws
+abbrev pub spaced_words : List (List ℕ) → List ℕ
+spaced_words ws = flat_map (λ w. 32 ∷ w) ws

@@ -6,7 +6,7 @@ ghost use Rattle.scenario_mnemonics.specs.declared.verb.Keyword.{Keyword};
 ghost use Rattle.scenario_mnemonics.specs.Messages.{datagram_of, IsGood};
 ghost use Rattle.scenario_mnemonics.specs.Denoting.{mnemonic_of};
 ghost use Rattle.scenario_mnemonics.specs.MnemonicWords.{keyword_word, keyword_named, keyword_of, mnemonic_at};
-ghost use Rattle.scenario_mnemonics.specs.MnemonicWords.{behind_keyword, spelled};
+ghost use Rattle.scenario_mnemonics.specs.MnemonicWords.{behind_keyword, words_of_mnemonic};
 
 /// The law of mnemonics and datagrams: `mnemonic_for` finds the mnemonic of a datagram wherever there is one
 /// (`denotes`), of those that text can say and that fit, and there is at most one (`one`).
@@ -22,7 +22,8 @@ pub fn words_again()
     ensures keyword { (k : Keyword) → keyword_named (keyword_word k) ≡ Some k }
     ensures read { (server : ℕ) (m : Mnemonic) → 1 ≤ server → server ≤ 65534 → IsGood m
         → mnemonic_at (keyword_of m) (behind_keyword server m) ≡ Ok (server, m) }
-    ensures words { (server : ℕ) (m : Mnemonic) → server ≤ 65534 → IsGood m → AllByRecursion IsWord (spelled server m) }
+    ensures words { (server : ℕ) (m : Mnemonic) → server ≤ 65534 → IsGood m
+        → AllByRecursion IsWord (words_of_mnemonic server m) }
     ensures line { (server : ℕ) (m : Mnemonic) → server ≤ 65534 → IsGood m
-        → words (join_with_byte 32 (spelled server m)) ≡ spelled server m }
+        → words (join_with_byte 32 (words_of_mnemonic server m)) ≡ words_of_mnemonic server m }
 {}

@@ -5,7 +5,7 @@ ghost use Rattle.std.specs.Fmt.{decimal};
 ghost use Rattle.coap_codec.specs.OptionNumber.{observe_option, uri_path_option, content_format_option};
 ghost use Rattle.coap_codec.specs.OptionNumber.{uri_query_option};
 ghost use Rattle.coap_codec.specs.OptionNumber.{accept_option};
-ghost use Rattle.coap_codec.specs.Number.{shortest};
+ghost use Rattle.coap_codec.specs.Number.{shortest_big_endian};
 ghost use Rattle.scenario_words.specs.PathWord.{IsPath};
 ghost use Rattle.scenario_mnemonics.specs.Messages.{fields_of, options_with, format_values, segments, options_of};
 
@@ -24,7 +24,7 @@ fn put_number(
     option: u16,
     number: u32,
 ) -> Result<(), AllocError>
-    ensures { OnOk result (options.new ≡ options.old ++ options_with option (shortest number ∷ [])) }
+    ensures { OnOk result (options.new ≡ options.old ++ options_with option (shortest_big_endian number ∷ [])) }
 {
     let value = uint_bytes(alloc, number)?;
     options.push(Opt {

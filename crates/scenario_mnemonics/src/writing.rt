@@ -8,8 +8,8 @@ ghost use Rattle.std.specs.Fmt.{decimal};
 ghost use Rattle.std.specs.String.{string_bytes};
 ghost use Rattle.scenario_words.specs.HexWord.{hex_word};
 ghost use Rattle.object_defs.specs.Path.{path_text};
-ghost use Rattle.scenario_mnemonics.specs.MnemonicWords.{type_word, format_word, details, behind_keyword, spelled};
-ghost use Rattle.scenario_mnemonics.specs.MnemonicWords.{spaced};
+ghost use Rattle.scenario_mnemonics.specs.MnemonicWords.{type_word, format_word, details, behind_keyword};
+ghost use Rattle.scenario_mnemonics.specs.MnemonicWords.{words_of_mnemonic, spaced_words};
 
 use crate::action::Action;
 use crate::format::Format;
@@ -42,27 +42,27 @@ fn format_word(format: Format) -> &'static str
 
 /// Writes a space and a word.
 fn put_word(out: &mut String, word: &str) -> Result<(), AllocError>
-    ensures { OnOk result (string_bytes out.new ≡ string_bytes out.old ++ spaced (word.now ∷ [])) }
+    ensures { OnOk result (string_bytes out.new ≡ string_bytes out.old ++ spaced_words (word.now ∷ [])) }
 {
     out.push(' ')?;
     out.push_str(word)
 }
 
 fn put_number(out: &mut String, number: u16) -> Result<(), AllocError>
-    ensures { OnOk result (string_bytes out.new ≡ string_bytes out.old ++ spaced (decimal number ∷ [])) }
+    ensures { OnOk result (string_bytes out.new ≡ string_bytes out.old ++ spaced_words (decimal number ∷ [])) }
 {
     write!(out, " {number}")
 }
 
 fn put_hex(alloc: Global, out: &mut String, bytes: &Bytes) -> Result<(), AllocError>
-    ensures { OnOk result (string_bytes out.new ≡ string_bytes out.old ++ spaced (hex_word bytes.now ∷ [])) }
+    ensures { OnOk result (string_bytes out.new ≡ string_bytes out.old ++ spaced_words (hex_word bytes.now ∷ [])) }
 {
     let word = hex_word(alloc, bytes.as_slice())?;
     put_word(out, word.as_str())
 }
 
 fn put_path(alloc: Global, out: &mut String, path: Path) -> Result<(), AllocError>
-    ensures { OnOk result (string_bytes out.new ≡ string_bytes out.old ++ spaced (path_text path ∷ [])) }
+    ensures { OnOk result (string_bytes out.new ≡ string_bytes out.old ++ spaced_words (path_text path ∷ [])) }
 {
     let word = path_text(alloc, path)?;
     put_word(out, word.as_str())
@@ -71,7 +71,7 @@ fn put_path(alloc: Global, out: &mut String, path: Path) -> Result<(), AllocErro
 /// Writes a space and a query's bytes, which are ASCII.
 fn put_query(out: &mut String, query: &[u8]) -> Result<(), AllocError>
     requires { list_all is_ascii_graphic query.now ≡ true }
-    ensures { OnOk result (string_bytes out.new ≡ string_bytes out.old ++ spaced (query.now ∷ [])) }
+    ensures { OnOk result (string_bytes out.new ≡ string_bytes out.old ++ spaced_words (query.now ∷ [])) }
 {
     out.push(' ')?;
     for byte in query {
@@ -82,7 +82,7 @@ fn put_query(out: &mut String, query: &[u8]) -> Result<(), AllocError>
 
 fn put_queries(out: &mut String, queries: &[Bytes]) -> Result<(), AllocError>
     requires { list_all is_query queries.now ≡ true }
-    ensures { OnOk result (string_bytes out.new ≡ string_bytes out.old ++ spaced queries.now) }
+    ensures { OnOk result (string_bytes out.new ≡ string_bytes out.old ++ spaced_words queries.now) }
 {
     for query in queries {
         put_query(out, query.as_slice())?;
@@ -92,7 +92,7 @@ fn put_queries(out: &mut String, queries: &[Bytes]) -> Result<(), AllocError>
 
 /// Writes the words after the path.
 fn put_details(alloc: Global, out: &mut String, action: &Action) -> Result<(), AllocError>
-    ensures { OnOk result (string_bytes out.new ≡ string_bytes out.old ++ spaced (details action.now)) }
+    ensures { OnOk result (string_bytes out.new ≡ string_bytes out.old ++ spaced_words (details action.now)) }
 {
     match action {
         Action::Read(format) | Action::Observe(format) | Action::Cancel(format) => {
@@ -113,7 +113,7 @@ fn put_details(alloc: Global, out: &mut String, action: &Action) -> Result<(), A
 /// Writes the words between the server and the details.
 fn put_request(alloc: Global, out: &mut String, request: &Request) -> Result<(), AllocError>
     ensures { OnOk result (string_bytes out.new ≡ string_bytes out.old
-        ++ spaced (type_word request.now.kind ∷ decimal request.now.mid ∷ hex_word request.now.token ∷ path_text
+        ++ spaced_words (type_word request.now.kind ∷ decimal request.now.mid ∷ hex_word request.now.token ∷ path_text
         request.now.path ∷ details request.now.action)) }
 {
     put_word(out, type_word(request.kind))?;
@@ -130,7 +130,8 @@ fn put_words(
     server: u16,
     mnemonic: &Mnemonic,
 ) -> Result<(), AllocError>
-    ensures { OnOk result (string_bytes out.new ≡ string_bytes out.old ++ spaced (behind_keyword server mnemonic.now)) }
+    ensures { OnOk result (string_bytes out.new ≡ string_bytes out.old
+        ++ spaced_words (behind_keyword server mnemonic.now)) }
 {
     put_number(out, server)?;
     match mnemonic {
@@ -143,7 +144,7 @@ fn put_words(
 /// upper-case hex, `-` for none, and queries stand in their order.
 #[tactic(auto, using(crate::proofs::Spelling::joined))]
 pub fn spell(alloc: Global, server: u16, mnemonic: &Mnemonic) -> Result<String, AllocError>
-    ensures { IfOk result (λ s. string_bytes s ≡ join_with_byte 32 (spelled server mnemonic.now)) }
+    ensures { IfOk result (λ s. string_bytes s ≡ join_with_byte 32 (words_of_mnemonic server mnemonic.now)) }
 {
     let mut out = String::from_str(alloc, mnemonic.keyword().word())?;
     put_words(alloc, &mut out, server, mnemonic)?;

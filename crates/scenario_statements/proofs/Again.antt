@@ -13,7 +13,7 @@ use Rattle.object_defs.specs.declared.definition.ResourceDef.{ResourceDef}
 use Rattle.object_defs.specs.declared.path.Path.{Path}
 use Rattle.scenario_words.specs.declared.cause.Cause.{Cause}
 use Rattle.scenario_words.specs.Words.{words, IsLine}
-use Rattle.scenario_words.specs.Reading.{◌>>=◌, word_by, ended}
+use Rattle.scenario_words.specs.Reading.{◌>>=◌, word_by, check_of_end}
 use Rattle.scenario_words.specs.Number.{number_of}
 use Rattle.scenario_words.specs.HexWord.{hex_word}
 use Rattle.scenario_words.specs.PathWord.{IsPath}
@@ -27,7 +27,7 @@ use Rattle.scenario_mnemonics.proofs.Spelling.{line_again}
 use Rattle.scenario_statements.specs.declared.statement.Statement.{Statement}
 use Rattle.scenario_statements.specs.declared.statement.Statement.TheVariants as says
 use Rattle.scenario_statements.specs.Grammar.{ops_named, one_of, only_number, some, statement_of}
-use Rattle.scenario_statements.specs.Spelling.{ops_word, spelled, line_of, IsWithin, IsSayable}
+use Rattle.scenario_statements.specs.Spelling.{ops_word, words_of_statement, line_of, IsWithin, IsSayable}
 use Rattle.scenario_statements.proofs.Plain.{is_bare, is_shown, bare_words, bare_line, bare_shown, word_then}
 use Rattle.scenario_statements.proofs.Plain.{spaced_shown, decimal_bare, hex_bare, path_bare, kind_bare, value_shown}
 use Rattle.scenario_statements.proofs.Plain.{shown_line}
@@ -45,7 +45,7 @@ at_head : {A : Type 0} (read : List ℕ → Result A Cause) (w : List ℕ) (ws :
 at_head read w ws x e = ap (λ r. r >>= with_words ws) e
 
 abbrev alone : ℕ × List (List ℕ) → Result ℕ Cause
-alone x = ended x.1 >>= (λ e. Ok x.0)
+alone x = check_of_end x.1 >>= (λ e. Ok x.0)
 
 pub only_again : (low high n : ℕ) → high < 2 ^ 64 → IsWithin low high n → only_number low high (decimal n ∷ []) ≡ Ok n
 only_again low high n h k =
@@ -72,7 +72,8 @@ mandatory_again : (b : Bool)
 mandatory_again true = refl
 mandatory_again false = refl
 
-definition_again : (d : ResourceDef) → d.id < 65536 → statement_of (spelled (says.Def d)) ≡ Ok (Some (says.Def d))
+definition_again : (d : ResourceDef) → d.id < 65536
+    → statement_of (words_of_statement (says.Def d)) ≡ Ok (Some (says.Def d))
 definition_again d h =
     rw (
       number_again 0 65535 d.id (omega arith) (omega arith, omega arith),
@@ -82,7 +83,7 @@ definition_again d h =
       kind_again d.kind,
     ) refl
 
-pub statement_again : (s : Statement) → IsSayable s → statement_of (spelled s) ≡ Ok (Some s)
+pub statement_again : (s : Statement) → IsSayable s → statement_of (words_of_statement s) ≡ Ok (Some s)
 statement_again says.Scenario h = refl
 statement_again says.Class h = refl
 statement_again (says.Notify n) h =
@@ -140,7 +141,7 @@ two_bare : (keyword v w : List ℕ) → is_bare keyword ≡ true → is_bare v �
     → list_all is_bare (keyword ∷ v ∷ w ∷ []) ≡ true
 two_bare keyword v w h k m = and_from _ _ h (and_from _ _ k (and_from _ _ m refl))
 
-definition_bare : (d : ResourceDef) → d.id < 65536 → list_all is_bare (spelled (says.Def d)) ≡ true
+definition_bare : (d : ResourceDef) → d.id < 65536 → list_all is_bare (words_of_statement (says.Def d)) ≡ true
 definition_bare d h =
     and_from _ _ refl (and_from _ _ (small_bare 65535 d.id (omega arith) (omega arith)) (and_from _ _ (ops_bare d.ops)
     (and_from _ _ (choice_bare d.multiple (codes "multiple") (codes "single") refl refl)
@@ -149,10 +150,10 @@ definition_bare d h =
 
 -- a statement whose words are found again, and stand in one line
 abbrev Stands : Statement → Type 0
-Stands s = (words (line_of s) ≡ spelled s) × (is_shown (line_of s) ≡ true)
+Stands s = (words (line_of s) ≡ words_of_statement s) × (is_shown (line_of s) ≡ true)
 
-bare_stands : (s : Statement) → list_all is_bare (spelled s) ≡ true → Stands s
-bare_stands s h = (bare_words (spelled s) h, bare_line (spelled s) h)
+bare_stands : (s : Statement) → list_all is_bare (words_of_statement s) ≡ true → Stands s
+bare_stands s h = (bare_words (words_of_statement s) h, bare_line (words_of_statement s) h)
 
 valued_words : (keyword : List ℕ) (p : Path) (v : Value) → is_bare keyword ≡ true → IsPath p → IsValue v
     → words (keyword ++ 32 ∷ (path_text p ++ 32 ∷ (kind_word (kind_of v) ++ 32 ∷ value_word v)))
@@ -204,7 +205,7 @@ stands (says.Need g n) h =
     bare_stands (says.Need g n) (two_bare (codes "need") (decimal g) (decimal n) refl
     (small_bare 255 g (omega arith) (omega arith)) (small_bare 1000000 n (omega arith) h.1.1))
 
-pub words_of_line : (s : Statement) → IsSayable s → words (line_of s) ≡ spelled s
+pub words_of_line : (s : Statement) → IsSayable s → words (line_of s) ≡ words_of_statement s
 words_of_line s h = (stands s h).0
 
 pub line_alone : (s : Statement) → IsSayable s → IsLine (line_of s)

@@ -14,7 +14,7 @@ use Rattle.lwm2m_values.specs.declared.kind.ValueKind.{ValueKind}
 use Rattle.lwm2m_values.specs.declared.kind.ValueKind.TheVariants as kind
 use Rattle.scenario_words.specs.Words.{gap, plain, quoted, scan, words, IsLine}
 use Rattle.scenario_words.specs.HexWord.{digit_of, hex_byte, hex_word}
-use Rattle.scenario_words.specs.Quoted.{is_plain, escaped, quoted_word}
+use Rattle.scenario_words.specs.Quoted.{is_plain, escaped_byte, quoted_word}
 use Rattle.scenario_words.specs.PathWord.{IsPath, link_word}
 use Rattle.object_defs.specs.Path.{path_text}
 use Rattle.scenario_words.specs.ValueWords.{kind_word, value_word, IsValue}
@@ -126,7 +126,7 @@ plain_shown b h = grind (arith, nat_tests)
 hex_digit_shown : (v : ℕ) → ltb 31 (digit_of v) ≡ true
 hex_digit_shown v = above_shown_byte (digit_of v) (hex_digit_above v)
 
-escaped_shown : (b : ℕ) → is_shown (escaped b) ≡ true
+escaped_shown : (b : ℕ) → is_shown (escaped_byte b) ≡ true
 escaped_shown b = elim (cases_Bool (is_plain b)) [
   | inl itself ↦ ap (λ t. is_shown (cond t (b ∷ []) (92 ∷ hex_byte b))) itself
       ∙ and_from _ _ (plain_shown b itself) refl
@@ -135,14 +135,15 @@ escaped_shown b = elim (cases_Bool (is_plain b)) [
       ∙ and_from _ _ refl (and_from _ _ (hex_digit_shown (b / 16)) (and_from _ _ (hex_digit_shown (b % 16)) refl))
 ]
 
-texts_shown : (t : List ℕ) → is_shown (flat_map escaped t) ≡ true
+texts_shown : (t : List ℕ) → is_shown (flat_map escaped_byte t) ≡ true
 texts_shown [] = refl
 texts_shown (b ∷ t) =
-    list_all-append (λ x. ltb 31 x) (escaped b) (flat_map escaped t) ∙ and_from _ _ (escaped_shown b) (texts_shown t)
+    list_all-append (λ x. ltb 31 x) (escaped_byte b) (flat_map escaped_byte t)
+    ∙ and_from _ _ (escaped_shown b) (texts_shown t)
 
 quoted_shown : (t : List ℕ) → is_shown (quoted_word t) ≡ true
 quoted_shown t =
-    and_from _ _ refl (list_all-append (λ x. ltb 31 x) (flat_map escaped t) (34 ∷ [])
+    and_from _ _ refl (list_all-append (λ x. ltb 31 x) (flat_map escaped_byte t) (34 ∷ [])
     ∙ and_from _ _ (texts_shown t) refl)
 
 pub value_shown : (v : Value) → IsValue v → is_shown (value_word v) ≡ true

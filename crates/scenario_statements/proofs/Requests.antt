@@ -24,7 +24,8 @@ use Rattle.scenario_mnemonics.specs.declared.mnemonic.Mnemonic.TheVariants as mn
 use Rattle.scenario_mnemonics.specs.Queries.{is_query}
 use Rattle.scenario_mnemonics.specs.Messages.{fields_of, has_words, IsGood}
 use Rattle.scenario_mnemonics.specs.MnemonicWords.{verb_word, keyword_word, keyword_of, type_word, format_word}
-use Rattle.scenario_mnemonics.specs.MnemonicWords.{mnemonic_at, details, behind_keyword, spelled as mnemonic_words}
+use Rattle.scenario_mnemonics.specs.MnemonicWords.{mnemonic_at, details, behind_keyword}
+use Rattle.scenario_mnemonics.specs.MnemonicWords.{words_of_mnemonic as mnemonic_words}
 use Rattle.scenario_mnemonics.proofs.Spelling.{mnemonic_again}
 use Rattle.scenario_statements.specs.declared.statement.Statement.{Statement}
 use Rattle.scenario_statements.specs.declared.statement.Statement.TheVariants as says

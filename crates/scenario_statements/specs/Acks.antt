@@ -10,7 +10,7 @@ use Rattle.coap_codec.specs.declared.kind.Kind.TheVariants.{Ack as Acknowledgeme
 use Rattle.coap_codec.specs.Message.{Message, spelling}
 use Rattle.scenario_words.specs.declared.cause.Cause.{Cause}
 use Rattle.scenario_words.specs.Number.{number_of}
-use Rattle.scenario_words.specs.Reading.{◌>>=◌, ended, word_by}
+use Rattle.scenario_words.specs.Reading.{◌>>=◌, check_of_end, word_by}
 use Rattle.scenario_statements.specs.declared.acks.Ack.{Ack}
 
 -- the message that acknowledges the one of this message ID, and says no more (RFC 7252 section 4.2)
@@ -33,7 +33,7 @@ abbrev pub ack_from : List (List ℕ) → Result Ack Cause
 ack_from ws = do
   s ← word_by (number_of 1 65534) ws
   m ← word_by (number_of 0 65535) s.1
-  e ← ended m.1
+  e ← check_of_end m.1
   Ok (record { server = s.0; mid = m.0 })
 
 abbrev pub ack_if : Result Ack Cause → Option Ack
@@ -56,6 +56,6 @@ abbrev pub ack_of : Message → Option ℕ
 ack_of m = if is_ack m.kind && m.code == 0 then Some m.mid else None
 
 -- the same, of what bytes were read as
-abbrev pub acknowledged : Result Message CoapFault → Option ℕ
-acknowledged (Ok m) = ack_of m
-acknowledged (Err fault) = None
+abbrev pub acknowledged_id : Result Message CoapFault → Option ℕ
+acknowledged_id (Ok m) = ack_of m
+acknowledged_id (Err fault) = None

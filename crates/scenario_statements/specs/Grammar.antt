@@ -6,7 +6,7 @@ use Rattle.std.specs.Str.{bytes_eq}
 use Rattle.object_defs.specs.declared.definition.Ops.{Ops}
 use Rattle.object_defs.specs.declared.definition.Ops.TheVariants.{R, W, RW, E}
 use Rattle.scenario_words.specs.declared.cause.Cause.{Cause}
-use Rattle.scenario_words.specs.Reading.{◌>>=◌, word_by, ended}
+use Rattle.scenario_words.specs.Reading.{◌>>=◌, word_by, check_of_end}
 use Rattle.scenario_words.specs.Number.{number_of}
 use Rattle.scenario_words.specs.HexWord.{bytes_of}
 use Rattle.scenario_words.specs.PathWord.{path_of}
@@ -30,20 +30,20 @@ one_of first second w =
     if bytes_eq w first then Ok true else (if bytes_eq w second then Ok false else Err (name_fault w))
 
 -- this name and no other
-abbrev pub named : List ℕ → List ℕ → Result (Unit {0}) Cause
-named name w = if bytes_eq w name then Ok tt else Err (name_fault w)
+abbrev pub check_of_name : List ℕ → List ℕ → Result (Unit {0}) Cause
+check_of_name name w = if bytes_eq w name then Ok tt else Err (name_fault w)
 
 -- one number from low to high, and no word after it
 abbrev pub only_number : ℕ → ℕ → List (List ℕ) → Result ℕ Cause
 only_number low high ws = do
   n ← word_by (number_of low high) ws
-  e ← ended n.1
+  e ← check_of_end n.1
   Ok n.0
 
 -- notify con T
 abbrev pub notify : List (List ℕ) → Result Statement Cause
 notify ws = do
-  c ← word_by (named (codes "con")) ws
+  c ← word_by (check_of_name (codes "con")) ws
   n ← only_number 2 3 c.1
   Ok (says.Notify n)
 
@@ -55,7 +55,7 @@ definition ws = do
   multiple ← word_by (one_of (codes "multiple") (codes "single")) ops.1
   mandatory ← word_by (one_of (codes "mandatory") (codes "optional")) multiple.1
   kind ← word_by kind_named mandatory.1
-  e ← ended kind.1
+  e ← check_of_end kind.1
   Ok (says.Def (record { id = id.0; ops = ops.0; multiple = multiple.0; mandatory = mandatory.0; kind = kind.0 }))
 
 -- instance O I
@@ -63,7 +63,7 @@ abbrev pub instance : List (List ℕ) → Result Statement Cause
 instance ws = do
   o ← word_by (number_of 0 65535) ws
   i ← word_by (number_of 0 65534) o.1
-  e ← ended i.1
+  e ← check_of_end i.1
   Ok (says.Instance (record { object = o.0; instance = i.0 }))
 
 -- value PATH KIND VALUE
@@ -71,7 +71,7 @@ abbrev pub value : List (List ℕ) → Result Statement Cause
 value ws = do
   p ← word_by path_of ws
   v ← value_at p.1
-  e ← ended v.1
+  e ← check_of_end v.1
   Ok (says.Value p.0 v.0)
 
 -- recv S HEX
@@ -79,7 +79,7 @@ abbrev pub recv : List (List ℕ) → Result Statement Cause
 recv ws = do
   s ← word_by (number_of 1 65534) ws
   b ← word_by bytes_of s.1
-  e ← ended b.1
+  e ← check_of_end b.1
   Ok (says.Recv s.0 b.0)
 
 -- put PATH KIND VALUE
@@ -87,7 +87,7 @@ abbrev pub put : List (List ℕ) → Result Statement Cause
 put ws = do
   p ← word_by path_of ws
   v ← value_at p.1
-  e ← ended v.1
+  e ← check_of_end v.1
   Ok (says.Put p.0 v.0)
 
 -- need G N
@@ -95,7 +95,7 @@ abbrev pub need : List (List ℕ) → Result Statement Cause
 need ws = do
   g ← word_by (number_of 0 255) ws
   n ← word_by (number_of 1 1000000) g.1
-  e ← ended n.1
+  e ← check_of_end n.1
   Ok (says.Need g.0 n.0)
 
 -- what a line says whose keyword is a mnemonic's
@@ -118,7 +118,7 @@ of_device w ws =
 abbrev pub statement_by : List ℕ → List (List ℕ) → Result Statement Cause
 statement_by w ws =
     if bytes_eq w (codes "scenario") then (only_number 1 1 ws >>= (λ n. Ok says.Scenario))
-    else (if bytes_eq w (codes "class") then (ended ws >>= (λ e. Ok says.Class))
+    else (if bytes_eq w (codes "class") then (check_of_end ws >>= (λ e. Ok says.Class))
     else (if bytes_eq w (codes "notify") then notify ws
     else (if bytes_eq w (codes "account") then (only_number 1 65534 ws >>= (λ n. Ok (says.Account n)))
     else (if bytes_eq w (codes "object") then (only_number 10241 32768 ws >>= (λ n. Ok (says.Object n)))

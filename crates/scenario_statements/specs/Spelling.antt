@@ -13,7 +13,7 @@ use Rattle.scenario_words.specs.PathWord.{IsPath}
 use Rattle.object_defs.specs.Path.{path_text}
 use Rattle.scenario_words.specs.ValueWords.{IsValue, kind_word, value_word}
 use Rattle.scenario_mnemonics.specs.Messages.{IsGood}
-use Rattle.scenario_mnemonics.specs.MnemonicWords.{spelled as mnemonic_words}
+use Rattle.scenario_mnemonics.specs.MnemonicWords.{words_of_mnemonic as mnemonic_words}
 use Rattle.scenario_statements.specs.declared.statement.Statement.{Statement}
 use Rattle.scenario_statements.specs.declared.statement.Statement.TheVariants as says
 
@@ -29,29 +29,29 @@ abbrev pub value_words : List ℕ → Path → Value → List (List ℕ)
 value_words keyword p v = keyword ∷ path_text p ∷ kind_word (kind_of v) ∷ value_word v ∷ []
 
 -- the words of a statement
-abbrev pub spelled : Statement → List (List ℕ)
-spelled says.Scenario = codes "scenario" ∷ codes "1" ∷ []
-spelled says.Class = codes "class" ∷ []
-spelled (says.Notify n) = codes "notify" ∷ codes "con" ∷ decimal n ∷ []
-spelled (says.Account s) = codes "account" ∷ decimal s ∷ []
-spelled (says.Object o) = codes "object" ∷ decimal o ∷ []
-spelled (says.Def d) =
+abbrev pub words_of_statement : Statement → List (List ℕ)
+words_of_statement says.Scenario = codes "scenario" ∷ codes "1" ∷ []
+words_of_statement says.Class = codes "class" ∷ []
+words_of_statement (says.Notify n) = codes "notify" ∷ codes "con" ∷ decimal n ∷ []
+words_of_statement (says.Account s) = codes "account" ∷ decimal s ∷ []
+words_of_statement (says.Object o) = codes "object" ∷ decimal o ∷ []
+words_of_statement (says.Def d) =
     codes "def" ∷ decimal d.id ∷ ops_word d.ops ∷ (if d.multiple then codes "multiple" else codes "single")
     ∷ (if d.mandatory then codes "mandatory" else codes "optional") ∷ kind_word d.kind ∷ []
-spelled (says.Instance p) = codes "instance" ∷ decimal p.object ∷ decimal p.instance ∷ []
-spelled (says.Value p v) = value_words (codes "value") p v
-spelled (says.Device c) = codes "device" ∷ decimal c ∷ []
-spelled (says.Recv s b) = codes "recv" ∷ decimal s ∷ hex_word b ∷ []
-spelled (says.Request s m) = mnemonic_words s m
-spelled (says.Tick n) = codes "tick" ∷ decimal n ∷ []
-spelled (says.Put p v) = value_words (codes "put") p v
-spelled (says.Firmware n) = codes "firmware" ∷ decimal n ∷ []
-spelled (says.Post g) = codes "post" ∷ decimal g ∷ []
-spelled (says.Need g n) = codes "need" ∷ decimal g ∷ decimal n ∷ []
+words_of_statement (says.Instance p) = codes "instance" ∷ decimal p.object ∷ decimal p.instance ∷ []
+words_of_statement (says.Value p v) = value_words (codes "value") p v
+words_of_statement (says.Device c) = codes "device" ∷ decimal c ∷ []
+words_of_statement (says.Recv s b) = codes "recv" ∷ decimal s ∷ hex_word b ∷ []
+words_of_statement (says.Request s m) = mnemonic_words s m
+words_of_statement (says.Tick n) = codes "tick" ∷ decimal n ∷ []
+words_of_statement (says.Put p v) = value_words (codes "put") p v
+words_of_statement (says.Firmware n) = codes "firmware" ∷ decimal n ∷ []
+words_of_statement (says.Post g) = codes "post" ∷ decimal g ∷ []
+words_of_statement (says.Need g n) = codes "need" ∷ decimal g ∷ decimal n ∷ []
 
 -- a statement as its line has it
 abbrev pub line_of : Statement → List ℕ
-line_of s = join_with_byte 32 (spelled s)
+line_of s = join_with_byte 32 (words_of_statement s)
 
 -- a number from low to high
 abbrev pub IsWithin : ℕ → ℕ → ℕ → Type 0

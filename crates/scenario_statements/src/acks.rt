@@ -3,7 +3,7 @@ ghost use Rattle.std.specs.Prelude.{◌≡◌, IfOk};
 ghost use Rattle.coap_codec.specs.Reading.{reading_of};
 ghost use Rattle.scenario_words.specs.Reading.{Reads};
 ghost use Rattle.scenario_words.specs.Words.{words};
-ghost use Rattle.scenario_statements.specs.Acks.{ack_datagram, ack_from, ack_of, acknowledged, empty_ack, is_ack};
+ghost use Rattle.scenario_statements.specs.Acks.{ack_datagram, ack_from, ack_of, acknowledged_id, empty_ack, is_ack};
 ghost use Rattle.scenario_statements.specs.Acks.{said_ack};
 
 use coap_codec::{CoapFault, Kind, Message, Options, decode, encode};
@@ -65,7 +65,7 @@ fn mid_of(message: &Message) -> Option<u16>
 
 /// The message ID of bytes that are an Empty ACK; none of any others.
 pub fn acknowledged(alloc: Global, bytes: &[u8]) -> Result<Option<u16>, AllocError>
-    ensures { IfOk result (λ mid. mid ≡ acknowledged (reading_of bytes.now)) }
+    ensures { IfOk result (λ mid. mid ≡ acknowledged_id (reading_of bytes.now)) }
 {
     match decode(alloc, bytes) {
         Ok(message) => Ok(mid_of(&message)),

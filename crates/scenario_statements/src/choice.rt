@@ -3,7 +3,7 @@
 ghost use Rattle.std.specs.Prelude.{◌≡◌};
 ghost use Rattle.scenario_words.specs.Words.{words};
 ghost use Rattle.scenario_words.specs.Reading.{Gives, word_by};
-ghost use Rattle.scenario_statements.specs.Grammar.{named, one_of, ops_named};
+ghost use Rattle.scenario_statements.specs.Grammar.{check_of_name, one_of, ops_named};
 
 use object_defs::Ops;
 use scenario_words::{Cause, first_word, is_name, name_fault};
@@ -61,7 +61,7 @@ pub(crate) fn choice<'a>(
 }
 
 fn named(alloc: Global, name: &str, word: &[u8]) -> Result<(), Cause>
-    ensures { Gives (λ u. u) result (named name.now word.now) }
+    ensures { Gives (λ u. u) result (check_of_name name.now word.now) }
 {
     if is_name(word, name) {
         Ok(())
@@ -72,7 +72,7 @@ fn named(alloc: Global, name: &str, word: &[u8]) -> Result<(), Cause>
 
 /// The line after its first word, which has to be this name.
 pub(crate) fn after_name<'a>(alloc: Global, name: &str, line: &'a [u8]) -> Result<&'a [u8], Cause>
-    ensures { Gives (λ rest. (tt, words rest.now)) result (word_by (named name.now) (words line.now)) }
+    ensures { Gives (λ rest. (tt, words rest.now)) result (word_by (check_of_name name.now) (words line.now)) }
 {
     let (word, line) = first_word(line)?;
     named(alloc, name, word)?;

@@ -3,7 +3,7 @@
 ghost use Rattle.std.specs.Prelude.{◌≡◌, if◌then◌else◌, IfOk};
 ghost use Rattle.std.specs.String.{string_bytes};
 ghost use Rattle.std.specs.List.{join_with_byte};
-ghost use Rattle.scenario_statements.specs.Spelling.{line_of, ops_word, spelled, value_words};
+ghost use Rattle.scenario_statements.specs.Spelling.{line_of, ops_word, value_words, words_of_statement};
 ghost use Rattle.scenario_statements.specs.declared.statement.Statement.TheVariants.{Def, Recv};
 
 use crate::statement::Statement;

@@ -9,7 +9,7 @@ use Rattle.hex.specs.declared.error.FromHexError.{FromHexError}
 use Rattle.hex.specs.declared.error.FromHexError.TheVariants.{OutOfMemory}
 use Rattle.scenario_words.specs.declared.cause.Cause.{Cause}
 use Rattle.scenario_words.specs.declared.cause.Cause.TheVariants.{Token, Memory}
-use Rattle.scenario_words.specs.HexWord.{before, pair_before, pairs, or_token, bytes_of}
+use Rattle.scenario_words.specs.HexWord.{with_first_byte, pair_before, pairs, or_token, bytes_of}
 
 -- the same bytes, or none
 abbrev Agrees : Result (List ℕ) FromHexError → Option (List ℕ) → Type 0
@@ -21,8 +21,8 @@ one_pair : (a b i : ℕ) (x y : Option ℕ) (r : Result (List ℕ) FromHexError)
     (λ byte. r >>= (λ bytes. Ok (byte ∷ bytes)))) (pair_before x y o)
 one_pair a b i None y r o h = refl
 one_pair a b i (Some v) None r o h = refl
-one_pair a b i (Some v) (Some w) (Ok bs) o h = ap (before (v * 16 + w)) h
-one_pair a b i (Some v) (Some w) (Err e) o h = ap (before (v * 16 + w)) h
+one_pair a b i (Some v) (Some w) (Ok bs) o h = ap (with_first_byte (v * 16 + w)) h
+one_pair a b i (Some v) (Some w) (Err e) o h = ap (with_first_byte (v * 16 + w)) h
 
 decoded_pairs : (i : ℕ) (w : List ℕ) → Agrees (decode_pairs i w) (pairs w)
 unfolding decode_pairs

@@ -13,10 +13,10 @@ use Rattle.std.proofs.lemmas.Slice.Eq.{bytes_eq-Decides}
 use Rattle.std.proofs.lemmas.Str.{IsUtf8-from_is_utf8, is_utf8-from_IsUtf8}
 use Rattle.hex.specs.Hex.{hex_digit_value}
 use Rattle.scenario_words.specs.declared.cause.Cause.TheVariants.{Token}
-use Rattle.scenario_words.specs.HexWord.{before, pair_before, pairs, or_token, bytes_of, IsByte, ArePairs, IsHex}
-use Rattle.scenario_words.specs.HexWord.{digit_of, hex_byte, hex_word}
-use Rattle.scenario_words.specs.Quoted.{is_plain, unquoted, utf8_or_token, text_of, Spells, IsQuoted, escaped}
-use Rattle.scenario_words.specs.Quoted.{quoted_word}
+use Rattle.scenario_words.specs.HexWord.{with_first_byte, pair_before, pairs, or_token, bytes_of, IsByte, ArePairs}
+use Rattle.scenario_words.specs.HexWord.{IsHex, digit_of, hex_byte, hex_word}
+use Rattle.scenario_words.specs.Quoted.{is_plain, unquoted_bytes, utf8_or_token, text_of, Spells, IsQuoted}
+use Rattle.scenario_words.specs.Quoted.{escaped_byte, quoted_word}
 
 pub digit_small : (c v : ℕ) → hex_digit_value c ≡ Some v → v < 16
 digit_small c v h = grind (arith)
@@ -128,22 +128,22 @@ closing b t e = elim (cases_eq b 34) [
   | inr other ↦ let h : None ≡ Some t = sym (ap (λ x. cond x (Some []) None) (ne_eqb b 34 other)) ∙ e in cc
 ]
 
-before_read : (b : ℕ) (o : Option (List ℕ)) (t : List ℕ) → before b o ≡ Some t → (u : List ℕ) × (t ≡ b ∷ u)
+before_read : (b : ℕ) (o : Option (List ℕ)) (t : List ℕ) → with_first_byte b o ≡ Some t → (u : List ℕ) × (t ≡ b ∷ u)
     × (o ≡ Some u)
 before_read b None t e = cc
 before_read b (Some u) t e = (u, cc, refl)
 
-plain_here : (b : ℕ) (bs t : List ℕ) → is_plain b ≡ true → before b (unquoted bs) ≡ Some t
-    → ((u : List ℕ) → unquoted bs ≡ Some u → Spells u bs) → Spells t (b ∷ bs)
+plain_here : (b : ℕ) (bs t : List ℕ) → is_plain b ≡ true → with_first_byte b (unquoted_bytes bs) ≡ Some t
+    → ((u : List ℕ) → unquoted_bytes bs ≡ Some u → Spells u bs) → Spells t (b ∷ bs)
 plain_here b bs t plain e rest =
-    let p = before_read b (unquoted bs) t e in
+    let p = before_read b (unquoted_bytes bs) t e in
     subst (λ u. Spells u (b ∷ bs)) (sym p.1) (inl (bs, refl, plain, rest p.0 p.2))
 
 escape_here : (b h l : ℕ) (bs t : List ℕ) → b ≡ 92
-    → pair_before (hex_digit_value h) (hex_digit_value l) (unquoted bs) ≡ Some t
-    → ((u : List ℕ) → unquoted bs ≡ Some u → Spells u bs) → Spells t (b ∷ h ∷ l ∷ bs)
+    → pair_before (hex_digit_value h) (hex_digit_value l) (unquoted_bytes bs) ≡ Some t
+    → ((u : List ℕ) → unquoted_bytes bs ≡ Some u → Spells u bs) → Spells t (b ∷ h ∷ l ∷ bs)
 escape_here b h l bs t slash e rest =
-    let p = pair_read (hex_digit_value h) (hex_digit_value l) (unquoted bs) t e in
+    let p = pair_read (hex_digit_value h) (hex_digit_value l) (unquoted_bytes bs) t e in
     let byte = byte_read (p.high * 16 + p.low) h l p.high p.low p.is_high p.is_low refl in
     subst (λ u. Spells u (b ∷ h ∷ l ∷ bs)) p.all
     (inr (h, l, bs, ap (λ c. c ∷ h ∷ l ∷ bs) slash, byte, rest p.rest p.is_rest))
@@ -158,17 +158,17 @@ plain_only : (x : Bool) (p : Option (List ℕ)) (t : List ℕ) → cond x p None
 plain_only true p t e = (refl, e)
 plain_only false p t e = cc
 
-spells_read : (bs t : List ℕ) → unquoted bs ≡ Some t → Spells t bs
+spells_read : (bs t : List ℕ) → unquoted_bytes bs ≡ Some t → Spells t bs
 spells_read [] t e = cc
 spells_read (b ∷ []) t e =
     let p = closing b t e in
     subst (λ u. Spells u (b ∷ [])) (sym p.1) (ap (λ c. c ∷ []) p.0)
 spells_read (b ∷ h ∷ []) t e =
-    let p = plain_only (is_plain b) (before b (unquoted (h ∷ []))) t e in
+    let p = plain_only (is_plain b) (with_first_byte b (unquoted_bytes (h ∷ []))) t e in
     plain_here b (h ∷ []) t p.0 p.1 (λ u f. spells_read (h ∷ []) u f)
 spells_read (b ∷ h ∷ l ∷ bs) t e =
-    elim (plain_or (is_plain b) (eqb b 92) (before b (unquoted (h ∷ l ∷ bs)))
-    (pair_before (hex_digit_value h) (hex_digit_value l) (unquoted bs)) t e) [
+    elim (plain_or (is_plain b) (eqb b 92) (with_first_byte b (unquoted_bytes (h ∷ l ∷ bs)))
+    (pair_before (hex_digit_value h) (hex_digit_value l) (unquoted_bytes bs)) t e) [
       | inl p ↦ plain_here b (h ∷ l ∷ bs) t p.0 p.1 (λ u f. spells_read (h ∷ l ∷ bs) u f)
       | inr p ↦ escape_here b h l bs t (eqb-true b 92 p.0) p.1 (λ u f. spells_read bs u f)
     ]
@@ -176,17 +176,19 @@ spells_read (b ∷ h ∷ l ∷ bs) t e =
 pub plain_no_quote : (b : ℕ) → is_plain b ≡ true → eqb b 34 ≡ false
 plain_no_quote b h = not-true (eqb b 34) (and_parts _ _ (and_parts _ _ h).1).0
 
-plain_step : (b : ℕ) (bs : List ℕ) → is_plain b ≡ true → unquoted (b ∷ bs) ≡ before b (unquoted bs)
+plain_step : (b : ℕ) (bs : List ℕ) → is_plain b ≡ true → unquoted_bytes (b ∷ bs) ≡ with_first_byte b (unquoted_bytes bs)
 plain_step b [] h = ap (λ x. cond x (Some []) None) (plain_no_quote b h)
-plain_step b (x ∷ []) h = ap (λ p. cond p (before b (unquoted (x ∷ []))) None) h
+plain_step b (x ∷ []) h = ap (λ p. cond p (with_first_byte b (unquoted_bytes (x ∷ []))) None) h
 plain_step b (x ∷ y ∷ bs) h =
-    ap (λ p. cond p (before b (unquoted (x ∷ y ∷ bs)))
-    (cond (eqb b 92) (pair_before (hex_digit_value x) (hex_digit_value y) (unquoted bs)) None)) h
+    ap (λ p. cond p (with_first_byte b (unquoted_bytes (x ∷ y ∷ bs)))
+    (cond (eqb b 92) (pair_before (hex_digit_value x) (hex_digit_value y) (unquoted_bytes bs)) None)) h
 
-spells_again : (t bs : List ℕ) → Spells t bs → unquoted bs ≡ Some t
-spells_again [] bs e = ap unquoted e
-spells_again (b ∷ t) bs (inl p) = ap unquoted p.1 ∙ plain_step b p.0 p.2 ∙ ap (before b) (spells_again t p.0 p.3)
-spells_again (b ∷ t) bs (inr p) = ap unquoted p.3 ∙ byte_from b p.0 p.1 (unquoted p.2) t p.4 (spells_again t p.2 p.5)
+spells_again : (t bs : List ℕ) → Spells t bs → unquoted_bytes bs ≡ Some t
+spells_again [] bs e = ap unquoted_bytes e
+spells_again (b ∷ t) bs (inl p) =
+    ap unquoted_bytes p.1 ∙ plain_step b p.0 p.2 ∙ ap (with_first_byte b) (spells_again t p.0 p.3)
+spells_again (b ∷ t) bs (inr p) =
+    ap unquoted_bytes p.3 ∙ byte_from b p.0 p.1 (unquoted_bytes p.2) t p.4 (spells_again t p.2 p.5)
 
 utf8_ok : (o : Option (List ℕ)) (t : List ℕ) → utf8_or_token o ≡ Ok t → (o ≡ Some t) × IsUtf8 t
 utf8_ok None t e = cc
@@ -202,11 +204,11 @@ quoted_read : (w t : List ℕ) → text_of w ≡ Ok t → IsQuoted w t
 quoted_read [] t e = cc
 quoted_read (b ∷ bs) t e = elim (cases_eq b 34) [
   | inl quote ↦
-      let p = utf8_ok (unquoted bs) t (sym (ap (λ x. cond x (utf8_or_token (unquoted bs)) (Err Token))
+      let p = utf8_ok (unquoted_bytes bs) t (sym (ap (λ x. cond x (utf8_or_token (unquoted_bytes bs)) (Err Token))
       (eq-eqb b 34 quote)) ∙ e) in
       (bs, ap (λ c. c ∷ bs) quote, spells_read bs t p.0, p.1)
   | inr other ↦ let h : Err Token ≡ Ok t =
-      sym (ap (λ x. cond x (utf8_or_token (unquoted bs)) (Err Token)) (ne_eqb b 34 other)) ∙ e in cc (h)
+      sym (ap (λ x. cond x (utf8_or_token (unquoted_bytes bs)) (Err Token)) (ne_eqb b 34 other)) ∙ e in cc (h)
 ]
 
 quoted_again : (w t : List ℕ) → IsQuoted w t → text_of w ≡ Ok t
@@ -217,7 +219,7 @@ quoted_again w t p =
 pub quoted_law : (w t : List ℕ) → (text_of w ≡ Ok t) ↔ IsQuoted w t
 quoted_law w t = (quoted_read w t, quoted_again w t)
 
-escaped_again : (b : ℕ) (t bs : List ℕ) → b < 256 → Spells t bs → Spells (b ∷ t) (escaped b ++ bs)
+escaped_again : (b : ℕ) (t bs : List ℕ) → b < 256 → Spells t bs → Spells (b ∷ t) (escaped_byte b ++ bs)
 escaped_again b t bs small h = elim (cases_Bool (is_plain b)) [
   | inl plain ↦ inl (bs, ap (λ x. cond x (b ∷ []) (92 ∷ hex_byte b) ++ bs) plain, plain, h)
   | inr other ↦ inr (
@@ -230,11 +232,11 @@ escaped_again b t bs small h = elim (cases_Bool (is_plain b)) [
   )
 ]
 
-spells_written : (t : List ℕ) → AllBelowBase 256 t → Spells t (flat_map escaped t ++ 34 ∷ [])
+spells_written : (t : List ℕ) → AllBelowBase 256 t → Spells t (flat_map escaped_byte t ++ 34 ∷ [])
 spells_written [] h = refl
 spells_written (b ∷ t) h =
-    subst (Spells (b ∷ t)) (sym (append_assoc (escaped b) (flat_map escaped t) (34 ∷ [])))
-    (escaped_again b t (flat_map escaped t ++ 34 ∷ []) h.0 (spells_written t h.1))
+    subst (Spells (b ∷ t)) (sym (append_assoc (escaped_byte b) (flat_map escaped_byte t) (34 ∷ [])))
+    (escaped_again b t (flat_map escaped_byte t ++ 34 ∷ []) h.0 (spells_written t h.1))
 
 pub quoted_written : (t : List ℕ) → IsUtf8 t → AllBelowBase 256 t → IsQuoted (quoted_word t) t
-quoted_written t utf8 small = (flat_map escaped t ++ 34 ∷ [], refl, spells_written t small, utf8)
+quoted_written t utf8 small = (flat_map escaped_byte t ++ 34 ∷ [], refl, spells_written t small, utf8)

@@ -4,7 +4,7 @@ use Rattle.std.specs.Option.{MatchOption}
 use Rattle.std.specs.Str.{IsUtf8, is_utf8}
 use Rattle.std.proofs.lemmas.Str.{IsUtf8-from_is_utf8, is_utf8-from_IsUtf8}
 use Rattle.std.proofs.lemmas.Bool.{false_from_ne_true}
-use Rattle.scenario_words.specs.HexWord.{before}
+use Rattle.scenario_words.specs.HexWord.{with_first_byte}
 
 -- the test of UTF-8, where text was looked for
 pub checked_utf8 : (bs : List ℕ) (o : Option (Bor (List ℕ)))
@@ -19,6 +19,6 @@ all_before front None = None
 all_before front (Some bs) = Some (front ++ bs)
 
 pub one_before : (front : List ℕ) (b : ℕ) (o : Option (List ℕ))
-    → all_before (front ++ b ∷ []) o ≡ all_before front (before b o)
+    → all_before (front ++ b ∷ []) o ≡ all_before front (with_first_byte b o)
 one_before front b None = refl
 one_before front b (Some bs) = ap Some (append_assoc front (b ∷ []) bs)

@@ -17,9 +17,10 @@ use Rattle.scenario_words.specs.declared.cause.Cause.{Cause}
 use Rattle.scenario_words.specs.Words.{plain, quoted, scan, words, IsWord}
 use Rattle.scenario_words.specs.Reading.{◌>>=◌, word_by}
 use Rattle.scenario_words.specs.HexWord.{digit_of, hex_byte, hex_word}
-use Rattle.scenario_words.specs.Quoted.{is_plain, escaped, quoted_word}
+use Rattle.scenario_words.specs.Quoted.{is_plain, escaped_byte, quoted_word}
 use Rattle.scenario_words.specs.PathWord.{link_word}
-use Rattle.scenario_words.specs.ValueWords.{kind_word, kind_named, value_of, value_at, IsValue, value_word, spelled}
+use Rattle.scenario_words.specs.ValueWords.{kind_word, kind_named, value_of, value_at, IsValue, value_word}
+use Rattle.scenario_words.specs.ValueWords.{spelling_of_value}
 use Rattle.scenario_words.proofs.NumberLaws.{integer_of-law}
 use Rattle.scenario_words.proofs.Pairs.{hex_law, hex_written, quoted_law, quoted_written, plain_no_quote}
 use Rattle.scenario_words.proofs.PathLaws.{link_again}
@@ -84,7 +85,7 @@ quoted_end (b ∷ w) h =
 hex_digit_no_quote : (v : ℕ) → not (eqb (digit_of v) 34) ≡ true
 hex_digit_no_quote v = grind (arith, nat_tests)
 
-escaped_no_quote : (b : ℕ) → no_quote (escaped b) ≡ true
+escaped_no_quote : (b : ℕ) → no_quote (escaped_byte b) ≡ true
 escaped_no_quote b = elim (cases_Bool (is_plain b)) [
   | inl itself ↦ ap (λ t. no_quote (cond t (b ∷ []) (92 ∷ hex_byte b))) itself
       ∙ and_from _ _ (not_from_false (eqb b 34) (plain_no_quote b itself)) refl
@@ -93,16 +94,16 @@ escaped_no_quote b = elim (cases_Bool (is_plain b)) [
       ∙ and_from _ _ refl (and_from _ _ (hex_digit_no_quote (b / 16)) (and_from _ _ (hex_digit_no_quote (b % 16)) refl))
 ]
 
-text_no_quote : (t : List ℕ) → no_quote (flat_map escaped t) ≡ true
+text_no_quote : (t : List ℕ) → no_quote (flat_map escaped_byte t) ≡ true
 text_no_quote [] = refl
 text_no_quote (b ∷ t) =
-    list_all-append (λ x. not (eqb x 34)) (escaped b) (flat_map escaped t)
+    list_all-append (λ x. not (eqb x 34)) (escaped_byte b) (flat_map escaped_byte t)
     ∙ and_from _ _ (escaped_no_quote b) (text_no_quote t)
 
 text_word : (t : List ℕ) → IsWord (quoted_word t)
 text_word t =
-    ap (λ bs. onto_first 34 (scan quoted bs)) (append_assoc (flat_map escaped t) (34 ∷ []) (32 ∷ []))
-    ∙ ap (onto_first 34) (quoted_end (flat_map escaped t) (text_no_quote t))
+    ap (λ bs. onto_first 34 (scan quoted bs)) (append_assoc (flat_map escaped_byte t) (34 ∷ []) (32 ∷ []))
+    ∙ ap (onto_first 34) (quoted_end (flat_map escaped_byte t) (text_no_quote t))
 
 kinds_word : (k : ValueKind) → IsWord (kind_word k)
 kinds_word kind.Text = refl
@@ -121,15 +122,16 @@ values_word (value.Opaque b) h = bytes_word b
 values_word (value.Moment z) h = integer_word z h
 values_word (value.Link o i) h = links_word o i h.0 h.1
 
-pub value_words : (v : Value) → IsValue v → words (spelled v) ≡ kind_word (kind_of v) ∷ value_word v ∷ []
+pub value_words : (v : Value) → IsValue v → words (spelling_of_value v) ≡ kind_word (kind_of v) ∷ value_word v ∷ []
 value_words v h =
     words_again (kind_word (kind_of v) ∷ value_word v ∷ []) (kinds_word (kind_of v), (values_word v h, tt))
 
-spelled_again : (v : Value) → IsValue v → value_at (words (spelled v)) ≡ Ok (v, [])
+spelled_again : (v : Value) → IsValue v → value_at (words (spelling_of_value v)) ≡ Ok (v, [])
 spelled_again v h = ap value_at (value_words v h) ∙ value_at_again v [] h
 
 -- what was written, where it was, is read again
-pub read_again : {S E : Type 0} (bytes : S → List ℕ) (r : Result S E) (v : Value) → IfOk r (λ s. bytes s ≡ spelled v)
+pub read_again : {S E : Type 0} (bytes : S → List ℕ) (r : Result S E) (v : Value)
+    → IfOk r (λ s. bytes s ≡ spelling_of_value v)
     → IsValue v → IfOk r (λ s. value_at (words (bytes s)) ≡ Ok (v, []))
 read_again bytes (Ok s) v e h = ap (λ bs. value_at (words bs)) e ∙ spelled_again v h
 read_again bytes (Err f) v e h = tt

@@ -8,13 +8,13 @@ use Rattle.scenario_words.specs.declared.cause.Cause.{Cause}
 use Rattle.scenario_words.specs.declared.cause.Cause.TheVariants.{Token}
 
 -- a byte before others, where there are others
-abbrev pub before : ℕ → Option (List ℕ) → Option (List ℕ)
-before b None = None
-before b (Some bs) = Some (b ∷ bs)
+abbrev pub with_first_byte : ℕ → Option (List ℕ) → Option (List ℕ)
+with_first_byte b None = None
+with_first_byte b (Some bs) = Some (b ∷ bs)
 
 -- the byte of two digits before others
 abbrev pub pair_before : Option ℕ → Option ℕ → Option (List ℕ) → Option (List ℕ)
-pair_before (Some high) (Some low) bs = before (high * 16 + low) bs
+pair_before (Some high) (Some low) bs = with_first_byte (high * 16 + low) bs
 pair_before (Some high) None bs = None
 pair_before None low bs = None
 

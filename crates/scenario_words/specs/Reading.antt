@@ -25,9 +25,9 @@ first_of [] = Err Missing
 first_of (w ∷ ws) = Ok (w, ws)
 
 -- no further word may stand there
-abbrev pub ended : List (List ℕ) → Result (Unit {0}) Cause
-ended [] = Ok tt
-ended (w ∷ ws) = Err Token
+abbrev pub check_of_end : List (List ℕ) → Result (Unit {0}) Cause
+check_of_end [] = Ok tt
+check_of_end (w ∷ ws) = Err Token
 
 -- the first word, read by this reader of a word, and the words after it
 abbrev pub word_by : {A : Type 0} → (List ℕ → Result A Cause) → List (List ℕ) → Result (A × List (List ℕ)) Cause

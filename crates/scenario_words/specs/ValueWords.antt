@@ -89,5 +89,5 @@ value_word (value.Moment z) = signed_decimal z
 value_word (value.Link o i) = link_word o i
 
 -- a value as it is written
-abbrev pub spelled : Value → List ℕ
-spelled v = kind_word (kind_of v) ++ 32 ∷ value_word v
+abbrev pub spelling_of_value : Value → List ℕ
+spelling_of_value v = kind_word (kind_of v) ++ 32 ∷ value_word v

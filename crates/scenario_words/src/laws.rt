@@ -12,7 +12,7 @@ ghost use Rattle.lwm2m_values.specs.declared.value.Value.{Value};
 ghost use Rattle.lwm2m_values.specs.Value.{kind_of};
 ghost use Rattle.scenario_words.specs.PathWord.{path_of, IsPath, link_of, link_word};
 ghost use Rattle.object_defs.specs.Path.{path_text};
-ghost use Rattle.scenario_words.specs.ValueWords.{kind_word, value_at, value_word, spelled, IsValue};
+ghost use Rattle.scenario_words.specs.ValueWords.{kind_word, value_at, value_word, spelling_of_value, IsValue};
 ghost use Rattle.scenario_words.specs.Number.{number_of, integer_of};
 
 /// The law of numbers: a word is read as a number exactly if it is the number's decimal spelling and the number is in
@@ -47,7 +47,7 @@ pub fn paths_and_links()
 /// The law of values: the two words of a value that is written are found again, and are read as this value; so
 /// values that are written alike are one.
 pub fn values_read_again()
-    ensures words { (v : Value) → IsValue v → words (spelled v) ≡ kind_word (kind_of v) ∷ value_word v ∷ [] }
+    ensures words { (v : Value) → IsValue v → words (spelling_of_value v) ≡ kind_word (kind_of v) ∷ value_word v ∷ [] }
     ensures value { (v : Value) (ws : List (List ℕ)) → IsValue v
         → value_at (kind_word (kind_of v) ∷ value_word v ∷ ws) ≡ Ok (v, ws) }
 {}

@@ -2,7 +2,7 @@ ghost use Rattle.std.specs.Prelude.{◌≡◌, ◌==◌, not, ◌&&◌, ◌||◌
 ghost use Rattle.std.specs.Prelude.{drop, MatchOption};
 ghost use Rattle.std.specs.Str.{bytes_eq};
 ghost use Rattle.scenario_words.specs.Words.{words};
-ghost use Rattle.scenario_words.specs.Reading.{Reads, first_of, ended};
+ghost use Rattle.scenario_words.specs.Reading.{Reads, first_of, check_of_end};
 
 use crate::cause::Cause;
 
@@ -78,7 +78,7 @@ pub fn is_name(word: &[u8], name: &str) -> bool
 
 /// Refuses a line that has a further word.
 pub fn end(line: &[u8]) -> Result<(), Cause>
-    ensures { Reads (λ x. x) result (ended (words line.now)) }
+    ensures { Reads (λ x. x) result (check_of_end (words line.now)) }
 {
     match next_word(line) {
         Some(_) => Err(Cause::Token),

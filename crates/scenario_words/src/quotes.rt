@@ -6,8 +6,8 @@ ghost use Rattle.hex.specs.Hex.{hex_digit_value};
 ghost use Rattle.scenario_words.specs.declared.cause.Cause.TheVariants.{Token, Missing};
 ghost use Rattle.scenario_words.specs.Words.{words};
 ghost use Rattle.scenario_words.specs.Reading.{Gives, word_by};
-ghost use Rattle.scenario_words.specs.HexWord.{before, or_token};
-ghost use Rattle.scenario_words.specs.Quoted.{is_plain, unquoted, text_of, escaped, quoted_word};
+ghost use Rattle.scenario_words.specs.HexWord.{or_token, with_first_byte};
+ghost use Rattle.scenario_words.specs.Quoted.{is_plain, unquoted_bytes, text_of, escaped_byte, quoted_word};
 
 use crate::cause::Cause;
 use crate::hex_words::put_byte;
@@ -39,8 +39,8 @@ pub fn hex_digit_value(digit: u8) -> Option<u8>
 /// The byte that stands in quotes at the front, by itself or as an escape, and what stands after it.
 fn byte_at(bytes: &[u8]) -> Option<(u8, &[u8])>
     ensures byte { MatchOption result
-        (unquoted bytes.now ≡ (if bytes_eq bytes.now (34 ∷ []) then Some [] else None))
-        (λ x. unquoted bytes.now ≡ before x.0 (unquoted x.1.now)) }
+        (unquoted_bytes bytes.now ≡ (if bytes_eq bytes.now (34 ∷ []) then Some [] else None))
+        (λ x. unquoted_bytes bytes.now ≡ with_first_byte x.0 (unquoted_bytes x.1.now)) }
     ensures shorter { MatchOption result (Unit {0}) (λ x. length x.1.now < length bytes.now) }
 {
     match bytes {
@@ -56,7 +56,7 @@ fn byte_at(bytes: &[u8]) -> Option<(u8, &[u8])>
 
 /// The bytes that stand in quotes, up to the closing one.
 fn unquoted(alloc: Global, body: &[u8]) -> Result<Vec<u8>, Cause>
-    ensures { Gives (λ t. t.items) result (or_token (unquoted body.now)) }
+    ensures { Gives (λ t. t.items) result (or_token (unquoted_bytes body.now)) }
 {
     let mut text = Vec::new(alloc);
     let mut rest = body;
@@ -107,7 +107,7 @@ pub fn quoted(alloc: Global, line: &[u8]) -> Result<(Text, &[u8]), Cause>
 
 /// Writes a byte as it stands in quotes.
 fn put_escaped(out: &mut String, byte: u8) -> Result<(), AllocError>
-    ensures { OnOk result (string_bytes out.new ≡ string_bytes out.old ++ escaped byte) }
+    ensures { OnOk result (string_bytes out.new ≡ string_bytes out.old ++ escaped_byte byte) }
 {
     if is_plain(byte) {
         return out.push(char::from(byte));

@@ -9,7 +9,7 @@ ghost use Rattle.scenario_words.specs.declared.cause.Cause.TheVariants.{Missing,
 ghost use Rattle.scenario_words.specs.Words.{words};
 ghost use Rattle.scenario_words.specs.Reading.{Gives, Reads, word_by};
 ghost use Rattle.scenario_words.specs.ValueWords.{name_fault, kind_word, kind_named, value_of, value_at, IsTooLong};
-ghost use Rattle.scenario_words.specs.ValueWords.{IsValue, value_word, spelled};
+ghost use Rattle.scenario_words.specs.ValueWords.{IsValue, value_word, spelling_of_value};
 
 use crate::cause::Cause;
 use crate::hex_words::{bytes_of, hex_word};
@@ -154,7 +154,7 @@ fn value_word(alloc: Global, value: &Value) -> Result<String, AllocError>
 }
 
 fn spelling(alloc: Global, value: &Value) -> Result<String, AllocError>
-    ensures { IfOk result (λ s. string_bytes s ≡ spelled value.now) }
+    ensures { IfOk result (λ s. string_bytes s ≡ spelling_of_value value.now) }
 {
     let name = kind_word(value.kind());
     let word = value_word(alloc, value)?;
@@ -163,7 +163,7 @@ fn spelling(alloc: Global, value: &Value) -> Result<String, AllocError>
 
 /// A value as scenario text has it: its kind and its word, such as `integer 7`. It is read again.
 pub fn spell(alloc: Global, value: &Value) -> Result<String, AllocError>
-    ensures spelled { IfOk result (λ s. string_bytes s ≡ spelled value.now) }
+    ensures spelled { IfOk result (λ s. string_bytes s ≡ spelling_of_value value.now) }
     ensures again { IsValue value.now → IfOk result (λ s. value_at (words (string_bytes s)) ≡ Ok (value.now, [])) }
 {
     spelling(alloc, value)

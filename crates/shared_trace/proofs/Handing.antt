@@ -17,7 +17,7 @@ use Rattle.shared_trace.specs.declared.station.Place.TheVariants.{Parked, Out}
 use Rattle.shared_trace.specs.declared.station.Station.{Station}
 use Rattle.shared_trace.specs.declared.stops.Stops.{Stops}
 use Rattle.shared_trace.specs.Stops.{numbers_in}
-use Rattle.shared_trace.specs.Trace.{Traced, IsPlaced, IsReady, with_out, has_stopped, open_by, trace_log}
+use Rattle.shared_trace.specs.Trace.{TraceModel, IsPlaced, IsReady, with_out, has_stopped, open_by, trace_log}
 use Rattle.shared_trace.specs.Kept.{IsTrace, IsStation, AreEnded, IsOnWay, IsJob, is_parked, places_of}
 use Rattle.shared_trace.specs.Kept.{table_length}
 use Rattle.shared_trace.proofs.Lists.{from_map, map-set, same_some}
@@ -33,7 +33,8 @@ pub record IsHanded (s : Scenario) (es : List Entry) (stations : List Station) (
   pub parked : x.place ≡ Parked shown
   pub enabled : is_enabled s es d ≡ true
 
-pub handed : (v : Traced) (s : Scenario) (es : List Entry) (stations : List Station) (counts : List ℕ) (stops : Stops)
+pub handed : (v : TraceModel) (s : Scenario) (es : List Entry) (stations : List Station) (counts : List ℕ)
+    (stops : Stops)
     (d i : ℕ) (x : Station) → traced s es stations stops ≡ v
     → IsTrace s es stations counts → (r : IsReady v d) → i ≡ d → x ≡ get_or stations i x
     → IsHanded s es stations counts d x r.held
@@ -93,7 +94,7 @@ pub out_ended : (s : Scenario) (es : List Entry) (stations : List Station) (coun
 out_ended s es stations counts low d i x y shown h from ended =
     ended_set s es stations counts low d i x y h.trace h.at (goes_waits s es d h.enabled) from ended
 
-pub out_view : (v : Traced) (s : Scenario) (es : List Entry) (stations : List Station) (stops : Stops) (d w i : ℕ)
+pub out_view : (v : TraceModel) (s : Scenario) (es : List Entry) (stations : List Station) (stops : Stops) (d w i : ℕ)
     (y : Station) → traced s es stations stops ≡ v
     → i ≡ d → y.place ≡ Out w → traced s es (set stations i y) stops ≡ with_out v d w
 out_view v s es stations stops d w i y view from out =
@@ -102,7 +103,7 @@ out_view v s es stations stops d w i y view from out =
     ∙ ap (λ p. set (places_of stations) d p) out))
     ∙ ap (λ u. with_out u d w) view
 
-pub out_adds : (v new : Traced) (d w : ℕ) (x : Holding) → slice_get v.places d ≡ Some (Parked x)
+pub out_adds : (v new : TraceModel) (d w : ℕ) (x : Holding) → slice_get v.places d ≡ Some (Parked x)
     → new ≡ with_out v d w
     → Adds trace_log w v new
 out_adds v new d w x at is =
@@ -116,7 +117,7 @@ out_adds v new d w x at is =
           (ne_eqb w n (λ e. ne (sym e))) (λ j h. refl));
     })
 
-pub out_stands : (v new claimed : Traced) (d w : ℕ) (x : Holding) → slice_get v.places d ≡ Some (Parked x)
+pub out_stands : (v new claimed : TraceModel) (d w : ℕ) (x : Holding) → slice_get v.places d ≡ Some (Parked x)
     → new ≡ with_out v d w → claimed ≡ v
     → Contains (open_by new w) (d, made_by d claimed.entries)
 out_stands v new claimed d w x at is same =
@@ -158,7 +159,7 @@ fresh_here s es stations counts known posted d w x shown machine h device table 
       (fresh_way s es stations counts known posted d x shown machine h device table none);
 }
 
-pub fresh_job : (v claimed : Traced) (s : Scenario) (es entries : List Entry) (stations : List Station)
+pub fresh_job : (v claimed : TraceModel) (s : Scenario) (es entries : List Entry) (stations : List Station)
     (counts known posted : List ℕ) (stops : Stops) (d w : ℕ) (x : Station) (shown machine : Holding)
     → traced s es stations stops ≡ v → claimed ≡ v → IsHanded s es stations counts d x shown
     → x.place ≡ Parked machine → known ≡ counts → posted ≡ [] → entries ≡ []
@@ -169,7 +170,7 @@ fresh_job v claimed s es entries stations counts known posted stops d w x shown 
     (subst (λ l. IsJob s w d es l machine false known posted x.made x.next) (sym empty)
     (fresh_here s es stations counts known posted d w x shown machine h device table none))
 
-pub parked_now : (v : Traced) (s : Scenario) (es : List Entry) (stations : List Station) (counts : List ℕ)
+pub parked_now : (v : TraceModel) (s : Scenario) (es : List Entry) (stations : List Station) (counts : List ℕ)
     (stops : Stops) (d : ℕ) (x : Station) (shown machine : Holding)
     → traced s es stations stops ≡ v → IsHanded s es stations counts d x shown → x.place ≡ Parked machine
     → slice_get v.places d ≡ Some (Parked machine)
@@ -177,7 +178,7 @@ parked_now v s es stations counts stops d x shown machine view h device =
     subst (λ u. slice_get u.places d ≡ Some (Parked machine)) view
     (item_mapped (λ y. y.place) stations d x h.at ∙ ap Some device)
 
-pub shows_now : (v : Traced) (s : Scenario) (es : List Entry) (stations : List Station) (counts : List ℕ)
+pub shows_now : (v : TraceModel) (s : Scenario) (es : List Entry) (stations : List Station) (counts : List ℕ)
     (stops : Stops) (d : ℕ) (x : Station) (shown machine : Holding)
     → traced s es stations stops ≡ v → IsHanded s es stations counts d x shown → x.place ≡ Parked machine
     → ShowsAfter v.subject d (made_by d v.entries) machine.shown

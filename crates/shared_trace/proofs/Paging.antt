@@ -9,14 +9,14 @@ use Rattle.std.specs.List.{AllByRecursion}
 use Rattle.std.proofs.lemmas.List.{flat_map_more}
 use Rattle.lemmas.proofs.Lists.{each_pushed}
 use Rattle.trace_file.specs.declared.entry.Entry.{Entry}
-use Rattle.shared_trace.specs.Pages.{Paged, entries_in, IsFullPage, IsSparePage, ArePages}
+use Rattle.shared_trace.specs.Pages.{PagesModel, entries_in, IsFullPage, IsSparePage, ArePages}
 
 all-last : {X : Type 0} (P : X → Type 0) (xs : List X) (x : X) → AllByRecursion P (xs ++ x ∷ [])
     → AllByRecursion P xs × P x
 all-last P [] x h = (tt, h.0)
 all-last P (y ∷ ys) x h = let rest = all-last P ys x h.1 in ((h.0, rest.0), rest.1)
 
-abbrev pub paged : List (Vec Entry) → Vec Entry → List (Vec Entry) → Paged
+abbrev pub paged : List (Vec Entry) → Vec Entry → List (Vec Entry) → PagesModel
 paged full last spare = record {
   held = entries_in full ++ last.items;
   room = (256 - length last.items) + 256 * length spare;
@@ -46,14 +46,14 @@ pages_here full spare places last new e pages less items memory = record {
   fits = pages.fits;
 }
 
-pub held_here : (v : Paged) (full spare : List (Vec Entry)) (last new : Vec Entry) (e : Entry)
+pub held_here : (v : PagesModel) (full spare : List (Vec Entry)) (last new : Vec Entry) (e : Entry)
     → paged full last spare ≡ v → new.items ≡ last.items ++ e ∷ []
     → entries_in full ++ new.items ≡ v.held ++ e ∷ []
 held_here v full spare last new e view items =
     ap (λ l. entries_in full ++ l) items
     ∙ (sym (append_assoc (entries_in full) last.items (e ∷ [])) ∙ ap (λ w. w.held ++ e ∷ []) view)
 
-pub room_here : (v : Paged) (full spare : List (Vec Entry)) (last new : Vec Entry) (e : Entry)
+pub room_here : (v : PagesModel) (full spare : List (Vec Entry)) (last new : Vec Entry) (e : Entry)
     → paged full last spare ≡ v → length last.items < 256 → new.items ≡ last.items ++ e ∷ []
     → ((256 - length new.items) + 256 * length spare) + 1 ≡ v.room
 room_here v full spare last new e view less items =
@@ -90,7 +90,7 @@ module _ (full spare left : List (Vec Entry)) (places : ℕ) (last page new : Ve
     );
   }
 
-  pub held_there : (v : Paged) (more : List (Vec Entry)) → paged full last spare ≡ v → more ≡ full ++ last ∷ []
+  pub held_there : (v : PagesModel) (more : List (Vec Entry)) → paged full last spare ≡ v → more ≡ full ++ last ∷ []
       → entries_in more ++ new.items ≡ v.held ++ e ∷ []
   held_there v more view is =
       ap (λ l. entries_in l ++ new.items) is
@@ -98,13 +98,13 @@ module _ (full spare left : List (Vec Entry)) (places : ℕ) (last page new : Ve
       ∙ (ap (λ l. (entries_in full ++ last.items) ++ l) (items ∙ ap (λ l. l ++ e ∷ []) spares.1.0)
       ∙ ap (λ w. w.held ++ e ∷ []) view))
 
-  pub room_there : (v : Paged) → paged full last spare ≡ v
+  pub room_there : (v : PagesModel) → paged full last spare ≡ v
       → ((256 - length new.items) + 256 * length left) + 1 ≡ v.room
   room_there v view =
       omega (arith, ap (λ w. w.room) view, one, past, ap length taken, length-append left (page ∷ []))
 
 -- where there is room for an entry, the last page is not full or there is a spare one
-pub some_spare : (v : Paged) (full spare : List (Vec Entry)) (last : Vec Entry) → paged full last spare ≡ v
+pub some_spare : (v : PagesModel) (full spare : List (Vec Entry)) (last : Vec Entry) → paged full last spare ≡ v
     → 256 ≤ length last.items → 0 < v.room → 0 < length spare
 some_spare v full spare last view past room = omega (arith, ap (λ w. w.room) view, past, room)
 

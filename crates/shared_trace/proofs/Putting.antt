@@ -23,7 +23,7 @@ use Rattle.shared_trace.specs.declared.station.Station.{Station}
 use Rattle.fleet_core.specs.Next.{next_of}
 use Rattle.shared_trace.specs.declared.stops.Stops.{Stops}
 use Rattle.shared_trace.specs.Stops.{numbers_in, is_among}
-use Rattle.shared_trace.specs.Trace.{Traced, IsPlaced, with_block, trace_log}
+use Rattle.shared_trace.specs.Trace.{TraceModel, IsPlaced, with_block, trace_log}
 use Rattle.shared_trace.specs.Job.{Task, IsOf, MayPut}
 use Rattle.shared_trace.specs.Kept.{IsTrace, IsStation, AreEnded, IsTask, IsOnWay, IsJob, places_of}
 use Rattle.shared_trace.proofs.Lists.{from_map, map-set, all_weaker}
@@ -42,7 +42,7 @@ pub record IsFitting (s : Scenario) (es : List Entry) (stations : List Station) 
   pub count : made_by d front ≡ made_by d es
   pub posts : (g : ℕ) → posts_of s g front ≤ posts_of s g es
 
-fits_here : (v : Traced) (job : Task) (es : List Entry) (stations : List Station) (counts : List ℕ) (stops : Stops)
+fits_here : (v : TraceModel) (job : Task) (es : List Entry) (stations : List Station) (counts : List ℕ) (stops : Stops)
     (s : Scenario) (w d : ℕ) (front block : List Entry) (x : Holding)
     (known groups : List ℕ) (k : ℕ) (n : Next) → traced s es stations stops ≡ v
     → tasked s w d front block x false ≡ job → IsTrace s es stations counts
@@ -63,7 +63,7 @@ fits_here v job es stations counts stops s w d front block x known groups k n vi
       posts = plain.posts;
     }
 
-pub fitting : (v : Traced) (job : Task) (t : Scenario) (es : List Entry) (stations : List Station) (counts : List ℕ)
+pub fitting : (v : TraceModel) (job : Task) (t : Scenario) (es : List Entry) (stations : List Station) (counts : List ℕ)
     (stops : Stops) (s : Scenario) (u w d : ℕ) (front block : List Entry) (x : Holding)
     (spent : Bool) (known groups : List ℕ) (k : ℕ) (n : Next) → traced t es stations stops ≡ v
     → tasked s u d front block x spent ≡ job → IsTrace t es stations counts
@@ -158,7 +158,7 @@ module _ {s : Scenario} {es : List Entry} {stations : List Station} {counts : Li
       ended_set s es stations counts low d i found.0 y f.trace found.1
       (subst (IsPlaced s es d) found.2 (f.trace.each d found.0 found.1).placed) from ended
 
-  pub put_view : (v : Traced) (stops : Stops) (y : Station) (i : ℕ) (all : List Entry)
+  pub put_view : (v : TraceModel) (stops : Stops) (y : Station) (i : ℕ) (all : List Entry)
       → traced s es stations stops ≡ v → i ≡ d → all ≡ es ++ block → y.place ≡ Parked x
       → traced s all (set stations i y) stops ≡ with_block v d x block
   put_view v stops y i all view from more place =
@@ -168,7 +168,7 @@ module _ {s : Scenario} {es : List Entry} {stations : List Station} {counts : Li
       ∙ ap (λ p. set (places_of stations) d p) place))
       ∙ ap (λ u. with_block u d x block) view)
 
-  pub put_adds : (v new : Traced) (stops : Stops) → traced s es stations stops ≡ v → new ≡ with_block v d x block
+  pub put_adds : (v new : TraceModel) (stops : Stops) → traced s es stations stops ≡ v → new ≡ with_block v d x block
       → Adds trace_log w v new
   put_adds v new stops view is =
       subst (Adds trace_log w v) (sym is)

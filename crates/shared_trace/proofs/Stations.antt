@@ -19,13 +19,13 @@ use Rattle.shared_trace.specs.declared.station.Station.{Station}
 use Rattle.fleet_core.specs.Next.{may_pass}
 use Rattle.shared_trace.specs.declared.stops.Stops.{Stops}
 use Rattle.shared_trace.specs.Stops.{numbers_in}
-use Rattle.shared_trace.specs.Trace.{Traced, IsPlaced, IsShared, IsReady, is_stopped}
+use Rattle.shared_trace.specs.Trace.{TraceModel, IsPlaced, IsShared, IsReady, is_stopped}
 use Rattle.shared_trace.specs.Claims.{IsAnyOut, IsAnyLeft, AreAllAtEnd, IsIdle}
 use Rattle.shared_trace.specs.Kept.{IsTrace, is_end, is_parked, is_ready, is_ready_in, places_of}
 use Rattle.shared_trace.proofs.Lists.{from_map}
 use Rattle.shared_trace.proofs.Nexts.{pass_enabled, waiting_is, past_waiting}
 
-abbrev pub traced : Scenario → List Entry → List Station → Stops → Traced
+abbrev pub traced : Scenario → List Entry → List Station → Stops → TraceModel
 traced s es stations stops = record {
   subject = s;
   entries = es;
@@ -44,7 +44,7 @@ shared_is s es stations counts stops t = record {
       subst (IsPlaced s es d) found.2 (t.each d found.0 found.1).placed;
 }
 
-pub shared_of : (v : Traced) (s : Scenario) (es : List Entry) (stations : List Station) (counts : List ℕ)
+pub shared_of : (v : TraceModel) (s : Scenario) (es : List Entry) (stations : List Station) (counts : List ℕ)
     (stops : Stops) → traced s es stations stops ≡ v
     → IsTrace s es stations counts → IsShared v
 shared_of v s es stations counts stops view t = subst IsShared view (shared_is s es stations counts stops t)
@@ -92,7 +92,7 @@ lowest_by s es stations counts stops d i t lower r (inl less) =
 lowest_by s es stations counts stops d i t lower r (inr more) = more
 
 -- the lowest station that is ready is that of the lowest device that is
-pub lowest_is : (v : Traced) (s : Scenario) (es : List Entry) (stations : List Station) (counts : List ℕ)
+pub lowest_is : (v : TraceModel) (s : Scenario) (es : List Entry) (stations : List Station) (counts : List ℕ)
     (stops : Stops) (d : ℕ) → traced s es stations stops ≡ v
     → IsTrace s es stations counts
     → ((x : Station) × (slice_get stations d ≡ Some x) × (is_ready (λ g. slice_index counts g) x ≡ true))
@@ -104,7 +104,8 @@ lowest_is v s es stations counts stops d view t ready lower =
       λ i r. lowest_by s es stations counts stops d i t lower r (cases_lt i d),
     )
 
-pub none_is : (v : Traced) (s : Scenario) (es : List Entry) (stations : List Station) (counts : List ℕ) (stops : Stops)
+pub none_is : (v : TraceModel) (s : Scenario) (es : List Entry) (stations : List Station) (counts : List ℕ)
+    (stops : Stops)
     → traced s es stations stops ≡ v
     → IsTrace s es stations counts
     → ((i : ℕ) (x : Station) → slice_get stations i ≡ Some x → is_ready (λ g. slice_index counts g) x ≡ false)
@@ -120,11 +121,11 @@ trace_at : (s : Scenario) (es : List Entry) (stations l : List Station) (counts 
 trace_at s es stations l counts m el em t =
     subst (λ k. IsTrace s es k m) (sym el) (subst (IsTrace s es stations) (sym em) t)
 
-view_at : (v : Traced) (s : Scenario) (es : List Entry) (stations l : List Station) (stops : Stops) → l ≡ stations
+view_at : (v : TraceModel) (s : Scenario) (es : List Entry) (stations l : List Station) (stops : Stops) → l ≡ stations
     → traced s es stations stops ≡ v → traced s es l stops ≡ v
 view_at v s es stations l stops el view = ap (λ k. traced s es k stops) el ∙ view
 
-pub lowest_from : (v : Traced) (s : Scenario) (es : List Entry) (stations : List Station) (counts : List ℕ)
+pub lowest_from : (v : TraceModel) (s : Scenario) (es : List Entry) (stations : List Station) (counts : List ℕ)
     (stops : Stops) (d : ℕ) (l : List Station) (m : List ℕ)
     → l ≡ stations → m ≡ counts → traced s es stations stops ≡ v
     → IsTrace s es stations counts
@@ -135,7 +136,7 @@ lowest_from v s es stations counts stops d l m el em view t ready lower =
     lowest_is v s es l m stops d (view_at v s es stations l stops el view)
     (trace_at s es stations l counts m el em t) ready lower
 
-pub none_from : (v : Traced) (s : Scenario) (es : List Entry) (stations : List Station) (counts : List ℕ)
+pub none_from : (v : TraceModel) (s : Scenario) (es : List Entry) (stations : List Station) (counts : List ℕ)
     (stops : Stops) (l : List Station) (m : List ℕ)
     → l ≡ stations → m ≡ counts → traced s es stations stops ≡ v
     → IsTrace s es stations counts
@@ -147,14 +148,14 @@ none_from v s es stations counts stops l m el em view t none =
 
 -- ---- where no device is ready
 
-blocked_at : (v : Traced) (d : ℕ) (p : Place) → slice_get v.places d ≡ Some p → is_parked p ≡ true
+blocked_at : (v : TraceModel) (d : ℕ) (p : Place) → slice_get v.places d ≡ Some p → is_parked p ≡ true
     → ((i : ℕ) → IsReady v i → ⊥) → is_enabled v.subject v.entries d ≡ false
 blocked_at v d (Parked x) at parked none =
     false_from_ne_true (is_enabled v.subject v.entries d)
     (λ go. none d (record { held = x; parked = at; enabled = go }))
 blocked_at v d (Out w) at parked none = absurd (false≢true parked)
 
-blocked_by : (v : Traced) (d : ℕ) → IsShared v → ((i : ℕ) → IsReady v i → ⊥)
+blocked_by : (v : TraceModel) (d : ℕ) → IsShared v → ((i : ℕ) → IsReady v i → ⊥)
     → ((i : ℕ) (p : Place) → slice_get v.places i ≡ Some p → is_parked p ≡ true)
     → (d < length v.subject.rows) ⊎ (length v.subject.rows ≤ d) → is_enabled v.subject v.entries d ≡ false
 blocked_by v d shared none parked (inl less) =
@@ -163,13 +164,13 @@ blocked_by v d shared none parked (inl less) =
 blocked_by v d shared none parked (inr past) = past_rows v.subject v.entries d past
 
 -- the run is complete where no device is out and none is ready
-complete_of : (v : Traced) → IsShared v → ((i : ℕ) → IsReady v i → ⊥)
+complete_of : (v : TraceModel) → IsShared v → ((i : ℕ) → IsReady v i → ⊥)
     → ((i : ℕ) (p : Place) → slice_get v.places i ≡ Some p → is_parked p ≡ true)
     → IsComplete v.subject v.entries
 complete_of v shared none parked =
     no_more v.subject v.entries shared.run (λ d. blocked_by v d shared none parked (cases_lt d (length v.subject.rows)))
 
-pub complete_is : (v : Traced) (s : Scenario) (es : List Entry) (stations : List Station) (counts : List ℕ)
+pub complete_is : (v : TraceModel) (s : Scenario) (es : List Entry) (stations : List Station) (counts : List ℕ)
     (stops : Stops) (l : List Station) → l ≡ stations → traced s es stations stops ≡ v
     → IsTrace s es stations counts → ((i : ℕ) → IsReady v i → ⊥)
     → ((i : ℕ) (x : Station) → slice_get l i ≡ Some x → is_parked x.place ≡ true)
@@ -196,7 +197,7 @@ ended_by s es stations counts d t ends (inl less) =
     left_is s es stations counts d found.0 t found.1 ∙ ap not (ends d found.0 found.1)
 ended_by s es stations counts d t ends (inr past) = past_waiting s es d past
 
-pub all_ended : (v : Traced) (s : Scenario) (es : List Entry) (stations : List Station) (counts : List ℕ)
+pub all_ended : (v : TraceModel) (s : Scenario) (es : List Entry) (stations : List Station) (counts : List ℕ)
     (stops : Stops) (l : List Station) → l ≡ stations → traced s es stations stops ≡ v
     → IsTrace s es stations counts → ((i : ℕ) (x : Station) → slice_get l i ≡ Some x → is_end x.next ≡ true)
     → AreAllAtEnd v
@@ -204,7 +205,7 @@ all_ended v s es stations counts stops l el view t ends =
     subst AreAllAtEnd (view_at v s es stations l stops el view)
     (λ d. ended_by s es l counts d (trace_at s es stations l counts counts el refl t) ends (cases_lt d (length s.rows)))
 
-pub any_left : (v : Traced) (s : Scenario) (es : List Entry) (stations : List Station) (counts : List ℕ)
+pub any_left : (v : TraceModel) (s : Scenario) (es : List Entry) (stations : List Station) (counts : List ℕ)
     (stops : Stops) (d : ℕ) (l : List Station) → l ≡ stations → traced s es stations stops ≡ v
     → IsTrace s es stations counts → ((x : Station) × (slice_get l d ≡ Some x) × (is_end x.next ≡ false)) → IsAnyLeft v
 any_left v s es stations counts stops d l el view t found =
@@ -215,7 +216,8 @@ any_left v s es stations counts stops d l el view t found =
           left_is s es l counts d found.0 (trace_at s es stations l counts counts el refl t) found.1 ∙ ap not found.2;
     })
 
-pub any_out : (v : Traced) (s : Scenario) (es : List Entry) (stations : List Station) (counts : List ℕ) (stops : Stops)
+pub any_out : (v : TraceModel) (s : Scenario) (es : List Entry) (stations : List Station) (counts : List ℕ)
+    (stops : Stops)
     (d : ℕ) (l : List Station) → l ≡ stations → traced s es stations stops ≡ v
     → IsTrace s es stations counts → ((x : Station) × (w : ℕ) × (slice_get l d ≡ Some x) × (x.place ≡ Out w))
     → IsAnyOut v
@@ -228,10 +230,10 @@ any_out v s es stations counts stops d l el view t found =
           found.2).placed;
     })
 
-pub idle_now : (v : Traced) → is_stopped v ≡ false → ((d : ℕ) → IsReady v d → ⊥) → IsIdle v v
+pub idle_now : (v : TraceModel) → is_stopped v ≡ false → ((d : ℕ) → IsReady v d → ⊥) → IsIdle v v
 idle_now v going none = record { going = going; same = refl; none = none }
 
-pub unfinished_is : (v : Traced) (s : Scenario) (es : List Entry) (stations : List Station) (counts : List ℕ)
+pub unfinished_is : (v : TraceModel) (s : Scenario) (es : List Entry) (stations : List Station) (counts : List ℕ)
     (stops : Stops) (d i : ℕ) (l : List Station) (x : Station) (b : Bool) → l ≡ stations
     → traced s es stations stops ≡ v → IsTrace s es stations counts → i ≡ d → i < length l → x ≡ get_or l i x
     → b ≡ is_end x.next → not b ≡ is_waiting v.subject v.entries d

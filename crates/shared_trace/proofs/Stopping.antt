@@ -4,10 +4,10 @@ use Rattle.std.specs.Prelude.{◌||◌}
 use Rattle.std.proofs.lemmas.Bool.{ne_eqb}
 use Rattle.ticket_lock.specs.Log.{Adds}
 use Rattle.shared_trace.specs.Stops.{is_among}
-use Rattle.shared_trace.specs.Trace.{Traced, IsShared, stopped_under, open_by, trace_log}
+use Rattle.shared_trace.specs.Trace.{TraceModel, IsShared, stopped_under, open_by, trace_log}
 
 -- another's open work stays, and whether it has stopped the trace
-pub stop_adds : (v new : Traced) (w : ℕ) → new ≡ stopped_under v w → Adds trace_log w v new
+pub stop_adds : (v new : TraceModel) (w : ℕ) → new ≡ stopped_under v w → Adds trace_log w v new
 stop_adds v new w is =
     subst (Adds trace_log w v) (sym is) (record {
       added = [];
@@ -18,7 +18,7 @@ stop_adds v new w is =
           (ne_eqb w n (λ e. ne (sym e)));
     })
 
-pub stop_shared : (v new : Traced) (w : ℕ) → new ≡ stopped_under v w → IsShared v → IsShared new
+pub stop_shared : (v new : TraceModel) (w : ℕ) → new ≡ stopped_under v w → IsShared v → IsShared new
 stop_shared v new w is shared =
     subst IsShared (sym is)
     (record { valid = shared.valid; run = shared.run; count = shared.count; placed = shared.placed })

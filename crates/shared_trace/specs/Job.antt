@@ -4,7 +4,7 @@ use Rattle.scenario_image.specs.Scenario.{Scenario}
 use Rattle.trace_file.specs.declared.entry.Entry.{Entry}
 use Rattle.fleet_core.specs.Run.{made_by, posts_of, is_enabled, entry_of}
 use Rattle.fleet_core.specs.Board.{Holding}
-use Rattle.shared_trace.specs.Trace.{Traced, open_by}
+use Rattle.shared_trace.specs.Trace.{TraceModel, open_by}
 
 -- what contracts see of a job: the scenario, the worker, the device, the trace's entries at the claim, the entries made
 -- since, what is held of the device, and whether memory ran out in a step
@@ -39,7 +39,7 @@ StandsIn work job = Contains work (job.device, made_by job.device job.front)
 
 -- what a put asks of the trace: the scenario is the trace's; the device is out under the worker, with as many entries
 -- as at the claim; and the trace has at least the posts that the job saw at its claim
-pub record MayPut (t : Traced) (w : ℕ) (job : Task) : Type 0 where
+pub record MayPut (t : TraceModel) (w : ℕ) (job : Task) : Type 0 where
   pub subject : job.subject ≡ t.subject
   pub worker : job.worker ≡ w
   pub stands : StandsIn (open_by t w) job

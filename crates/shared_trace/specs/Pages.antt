@@ -5,7 +5,7 @@ use Rattle.std.specs.List.{AllByRecursion, flat_map}
 use Rattle.trace_file.specs.declared.entry.Entry.{Entry}
 
 -- what contracts see of pages: the entries, in order, and how many more there is room for
-pub record Paged : Type 0 where
+pub record PagesModel : Type 0 where
   pub held : List Entry
   pub room : ℕ
 

@@ -14,7 +14,7 @@ use Rattle.shared_trace.specs.Stops.{is_any, is_among}
 
 -- what contracts see of a trace: its scenario, its entries, where each device is, and the numbers of the workers that
 -- have stopped it, from the last one on
-pub record Traced : Type 0 where
+pub record TraceModel : Type 0 where
   pub subject : Scenario
   pub entries : List Entry
   pub places : List Place
@@ -27,14 +27,14 @@ IsPlaced s es d (Parked x) = HoldsAfter s d (made_by d es) x
 IsPlaced s es d (Out worker) = is_waiting s es d ≡ true
 
 -- the entries are a run of the scenario, and each device has its place
-pub record IsShared (t : Traced) : Type 0 where
+pub record IsShared (t : TraceModel) : Type 0 where
   pub valid : IsValid t.subject
   pub run : IsRun t.subject t.entries
   pub count : length t.places ≡ length t.subject.rows
   pub placed : (d : ℕ) (p : Place) → slice_get t.places d ≡ Some p → IsPlaced t.subject t.entries d p
 
 -- the device is parked, and an entry of it may come next
-pub record IsReady (t : Traced) (d : ℕ) : Type 0 where
+pub record IsReady (t : TraceModel) (d : ℕ) : Type 0 where
   pub held : Holding
   pub parked : slice_get t.places d ≡ Some (Parked held)
   pub enabled : is_enabled t.subject t.entries d ≡ true
@@ -42,15 +42,15 @@ pub record IsReady (t : Traced) (d : ℕ) : Type 0 where
 -- ---- changes
 
 -- the device is out under the worker
-abbrev pub with_out : Traced → ℕ → ℕ → Traced
+abbrev pub with_out : TraceModel → ℕ → ℕ → TraceModel
 with_out t d worker = record t { places = slice_set t.places d (Out worker) }
 
 -- the device is parked, after these entries more
-abbrev pub with_block : Traced → ℕ → Holding → List Entry → Traced
+abbrev pub with_block : TraceModel → ℕ → Holding → List Entry → TraceModel
 with_block t d x block = record t { entries = t.entries ++ block; places = slice_set t.places d (Parked x) }
 
 -- the worker has stopped it
-abbrev pub stopped_under : Traced → ℕ → Traced
+abbrev pub stopped_under : TraceModel → ℕ → TraceModel
 stopped_under t worker = record t { stopped_by = worker ∷ t.stopped_by }
 
 -- ---- the open work
@@ -66,24 +66,24 @@ open_from worker (p ∷ ps) es i =
     if is_out worker p then (i, made_by i es) ∷ open_from worker ps es (i + 1) else open_from worker ps es (i + 1)
 
 -- the worker's open work: the devices that are out under it, in ascending order, each with the count of its entries
-abbrev pub open_by : Traced → ℕ → List (ℕ × ℕ)
+abbrev pub open_by : TraceModel → ℕ → List (ℕ × ℕ)
 open_by t worker = open_from worker t.places t.entries 0
 
 -- whether a worker has stopped the trace
-abbrev pub is_stopped : Traced → Bool
+abbrev pub is_stopped : TraceModel → Bool
 is_stopped t = is_any t.stopped_by
 
 -- whether this worker has stopped it
-abbrev pub has_stopped : Traced → ℕ → Bool
+abbrev pub has_stopped : TraceModel → ℕ → Bool
 has_stopped t worker = is_among worker t.stopped_by
 
 -- what the lock's rule reads for a worker: its open work, and whether it has stopped the trace
-abbrev pub work_by : Traced → ℕ → OpenWork
+abbrev pub work_by : TraceModel → ℕ → OpenWork
 work_by t worker = record { out = open_by t worker; stopped = has_stopped t worker }
 
 abbrev pub no_work : OpenWork
 no_work = record { out = []; stopped = false }
 
 -- how a lock reads a trace
-abbrev pub trace_log : Reading Traced Entry Scenario OpenWork
+abbrev pub trace_log : Reading TraceModel Entry Scenario OpenWork
 trace_log = record { entries = λ t. t.entries; worker = λ e. e.worker; subject = λ t. t.subject; work = work_by }

@@ -31,9 +31,9 @@ pub(crate) struct Pages {
 impl Model for Pages {
     ghost use Rattle.std.specs.Prelude.{◌+◌, ◌-◌, ◌*◌, ◌++◌, length, vec_capacity};
     ghost use Rattle.std.specs.List.{AllByRecursion};
-    ghost use Rattle.shared_trace.specs.Pages.{Paged, ArePages, IsSparePage, entries_in};
+    ghost use Rattle.shared_trace.specs.Pages.{PagesModel, ArePages, IsSparePage, entries_in};
 
-    ghost Value = { Paged };
+    ghost Value = { PagesModel };
 
     ghost view = { λ p. record {
       held = entries_in p.full.items ++ p.last.items;

@@ -6,8 +6,8 @@ ghost use Rattle.fleet_core.specs.Run.{IsRun, made_by, is_enabled};
 ghost use Rattle.fleet_core.specs.Waiting.{is_waiting};
 ghost use Rattle.ticket_lock.specs.Log.{Adds};
 ghost use Rattle.shared_trace.specs.declared.station.Place.TheVariants.{Parked, Out};
-ghost use Rattle.shared_trace.specs.Trace.{Traced, IsShared, IsReady, with_out, with_block, stopped_under, is_stopped};
-ghost use Rattle.shared_trace.specs.Trace.{open_by, trace_log};
+ghost use Rattle.shared_trace.specs.Trace.{TraceModel, IsShared, IsReady, with_out, with_block, stopped_under};
+ghost use Rattle.shared_trace.specs.Trace.{is_stopped, open_by, trace_log};
 ghost use Rattle.shared_trace.specs.Job.{Task, MayPut, StandsIn};
 ghost use Rattle.shared_trace.specs.Claims.{IsTaken, IsAnyOut, IsAnyLeft, AreAllAtEnd, Claims, ClaimStands};
 ghost use Rattle.shared_trace.specs.Kept.{IsTrace, IsStation, table_length, is_parked};
@@ -51,12 +51,12 @@ impl Model for Trace {
     ghost use Rattle.std.specs.Coded.{codes};
     ghost use Rattle.instance_store.specs.Stored.{stored_code};
     ghost use Rattle.device_requests.specs.Client.{attributes_code};
-    ghost use Rattle.shared_trace.specs.Trace.{Traced};
+    ghost use Rattle.shared_trace.specs.Trace.{TraceModel};
     ghost use Rattle.shared_trace.specs.Stops.{numbers_in};
     ghost use Rattle.std.specs.Prelude.{slice_index};
     ghost use Rattle.shared_trace.specs.Kept.{IsTrace, AreEnded, AreIdle, places_of};
 
-    ghost Value = { Traced };
+    ghost Value = { TraceModel };
 
     ghost coded = { Prim.hlevel (codes, stored_code, attributes_code) };
 

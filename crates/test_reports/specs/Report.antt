@@ -18,8 +18,8 @@ heading true path title = path ++ codes ": " ++ title
 heading false path title = title
 
 -- `, line N` behind a title, and this line of the file
-abbrev pub placed : ℕ → List ℕ → List ℕ
-placed number line = ended_line (codes ", line " ++ decimal number) ++ ended_line line
+abbrev pub line_with_number : ℕ → List ℕ → List ℕ
+line_with_number number line = ended_line (codes ", line " ++ decimal number) ++ ended_line line
 
 -- `C cases, D differ`
 abbrev pub count_line : ℕ → ℕ → List ℕ

@@ -1,7 +1,7 @@
 //! Reports of cases as text.
 ghost use Rattle.std.specs.Prelude.{◌≡◌, ◌++◌, OnOk};
 ghost use Rattle.std.specs.String.{string_bytes};
-ghost use Rattle.test_reports.specs.Report.{count_line, heading, placed};
+ghost use Rattle.test_reports.specs.Report.{count_line, heading, line_with_number};
 
 use std::alloc::AllocError;
 
@@ -24,7 +24,7 @@ pub fn put_heading(
 
 /// Writes `, line N` behind a title, and this line of the file.
 pub fn put_placed(out: &mut String, number: usize, line: &str) -> Result<(), AllocError>
-    ensures { OnOk result (string_bytes out.new ≡ string_bytes out.old ++ placed number line.now) }
+    ensures { OnOk result (string_bytes out.new ≡ string_bytes out.old ++ line_with_number number line.now) }
 {
     write!(out, ", line {number}\n{line}\n")
 }

@@ -9,10 +9,10 @@ use mathlib.Core.Logic.{dite}
 use native.Mathlib.Decide.{dec_lt}
 use Rattle.ticket_lock.specs.declared.rule.TheConstants.{NUMBERS}
 use Rattle.ticket_lock.specs.declared.rule.View.{View}
-use Rattle.ticket_lock.specs.Log.{Reading, own, share, shares, Adds}
+use Rattle.ticket_lock.specs.Log.{Reading, entries_of_worker, share, shares, Adds}
 use Rattle.ticket_lock.specs.declared.logged.Share.{Share}
 use Rattle.ticket_lock.specs.Lock.{HasNumber, AreNeighbours, IsOther, IsAware}
-use Rattle.ticket_lock.specs.Changes.{joined, lower, upper, arrived, given, whole}
+use Rattle.ticket_lock.specs.Changes.{joined_view, lower_part, upper_part, view_inside, view_after_give, opening_view}
 use Rattle.ticket_lock.proofs.Neighbours.{in_one, shares_below, shares_above}
 use Rattle.ticket_lock.proofs.Logs.{every-append, every-right, every_one, every_two, every_none, between, longer_first}
 use Rattle.ticket_lock.proofs.Logs.{longer_second, each_same, each-append, each_first, each_rest}
@@ -20,37 +20,40 @@ use Rattle.ticket_lock.proofs.Logs.{longer_second, each_same, each-append, each_
 module _ {T E S O : Type 0} (R : Reading T E S O) where
   -- what carries no number w has no entry of w
   pub own_none : (P : E → Type 0) (w : ℕ) → ((e : E) → P e → R.worker e ≡ w → ⊥) → (log : List E) → AllByRecursion P log
-      → own R w log ≡ []
+      → entries_of_worker R w log ≡ []
   own_none P w never [] h = refl
   own_none P w never (e ∷ log) h =
-      ap (λ t. cond t (e ∷ own R w log) (own R w log)) (ne_eqb (R.worker e) w (never e h.0))
+      ap (λ t. cond t (e ∷ entries_of_worker R w log) (entries_of_worker R w log)) (ne_eqb (R.worker e) w (never e h.0))
       ∙ own_none P w never log h.1
 
-  own-append : (w : ℕ) (a b : List E) → own R w (a ++ b) ≡ own R w a ++ own R w b
-  own-append w a b = filter-append (λ e. eqb (R.worker e) w) a b
+  entries_of_worker-append : (w : ℕ) (a b : List E)
+      → entries_of_worker R w (a ++ b) ≡ entries_of_worker R w a ++ entries_of_worker R w b
+  entries_of_worker-append w a b = filter-append (λ e. eqb (R.worker e) w) a b
 
   -- after a front, entries of others do not count
   pub own_stays : (front after : List E) (low count w : ℕ) → AllByRecursion (IsOther R low count) after → low ≤ w
-      → w < low + count → own R w (front ++ after) ≡ own R w front
+      → w < low + count → entries_of_worker R w (front ++ after) ≡ entries_of_worker R w front
   own_stays front after low count w others a b =
-      own-append w front after
-      ∙ (ap (λ l. own R w front ++ l) (own_none (IsOther R low count) w
-      (λ e h is. h.2 (omega arith) (omega arith)) after others) ∙ append-nil (own R w front))
+      entries_of_worker-append w front after
+      ∙ (ap (λ l. entries_of_worker R w front ++ l) (own_none (IsOther R low count) w
+      (λ e h is. h.2 (omega arith) (omega arith)) after others) ∙ append-nil (entries_of_worker R w front))
 
   -- entries of one worker do not count for another
-  pub own_added : (x y : T) (w n : ℕ) → Adds R w x y → (n ≡ w → ⊥) → own R n (R.entries y) ≡ own R n (R.entries x)
+  pub own_added : (x y : T) (w n : ℕ) → Adds R w x y → (n ≡ w → ⊥)
+      → entries_of_worker R n (R.entries y) ≡ entries_of_worker R n (R.entries x)
   own_added x y w n adds ne =
-      ap (own R n) adds.entries
-      ∙ (own-append n (R.entries x) adds.added
-      ∙ (ap (λ l. own R n (R.entries x) ++ l) (own_none (λ e. R.worker e ≡ w) n
-      (λ e h is. ne (sym is ∙ h)) adds.added adds.by_worker) ∙ append-nil (own R n (R.entries x))))
+      ap (entries_of_worker R n) adds.entries
+      ∙ (entries_of_worker-append n (R.entries x) adds.added
+      ∙ (ap (λ l. entries_of_worker R n (R.entries x) ++ l) (own_none (λ e. R.worker e ≡ w) n
+      (λ e h is. ne (sym is ∙ h)) adds.added adds.by_worker) ∙ append-nil (entries_of_worker R n (R.entries x))))
 
   -- the shares of others stay as they are
   pub others_share : (x y : T) (w low n : ℕ) → Adds R w x y → (low ≤ w → w < low + n → ⊥)
       → shares R x low n ≡ shares R y low n
   others_share x y w low n adds out = each_same (share R x) (share R y) low n (λ k a b.
       let ne : k ≡ w → ⊥ = λ e. out (omega arith) (omega arith) in
-      let log : own R k (R.entries x) ≡ own R k (R.entries y) = sym (own_added x y w k adds ne) in
+      let log : entries_of_worker R k (R.entries x) ≡ entries_of_worker R k (R.entries y) =
+      sym (own_added x y w k adds ne) in
       let work : R.work x k ≡ R.work y k = sym (adds.others k ne) in
       λ i. record { own = log i; work = work i })
 
@@ -71,7 +74,7 @@ module _ {T E S O : Type 0} (R : Reading T E S O) where
   as_one : (x : T) (v w : View T E S O) (low : ℕ) (row : List (Share E O))
       → ((n : ℕ) → low ≤ n → n < low + (v.count + w.count) → HasNumber v n ⊎ HasNumber w n)
       → row ≡ shares R x low (v.count + w.count) → IsAware R x v → IsAware R x w
-      → IsAware R x (record (joined v w) { low = low; shares = row })
+      → IsAware R x (record (joined_view v w) { low = low; shares = row })
   as_one x v w low row numbers is a b =
       let P = IsOther R v.low v.count in let Q = IsOther R w.low w.count in let S =
       IsOther R low (v.count + w.count) in
@@ -105,9 +108,9 @@ module _ {T E S O : Type 0} (R : Reading T E S O) where
 
   -- two neighbours as one
   pub both_aware : (x : T) (v w : View T E S O) → 0 < v.count → AreNeighbours v w → IsAware R x v → IsAware R x w
-      → IsAware R x (joined v w)
+      → IsAware R x (joined_view v w)
   both_aware x v w some next a b =
-      as_one x v w (min v.low w.low) (joined v w).shares (λ n l h. in_one v w next n (l, h))
+      as_one x v w (min v.low w.low) (joined_view v w).shares (λ n l h. in_one v w next n (l, h))
       (⊎_elim
       (λ (above : v.low + v.count ≡ w.low).
       let low : v.low ≡ min v.low w.low = omega arith in
@@ -122,7 +125,7 @@ module _ {T E S O : Type 0} (R : Reading T E S O) where
       row v w next a b = ap (λ l. l ++ w.shares) a.shares ∙ (ap (λ l. shares R x v.low v.count ++ l)
           (b.shares ∙ ap (λ n. shares R x n w.count) (sym next)) ∙ sym (each-append (share R x) v.low v.count w.count))
 
-  pub lower_aware : (x : T) (v : View T E S O) → 0 < v.count → IsAware R x v → IsAware R x (lower v)
+  pub lower_aware : (x : T) (v : View T E S O) → 0 < v.count → IsAware R x v → IsAware R x (lower_part v)
   lower_aware x v some a = record {
     after = a.after;
     front = a.front;
@@ -132,7 +135,7 @@ module _ {T E S O : Type 0} (R : Reading T E S O) where
     shares = ap (take 1) a.shares ∙ each_first (share R x) v.low v.count some;
   }
 
-  pub upper_aware : (x : T) (v : View T E S O) → 0 < v.count → IsAware R x v → IsAware R x (upper v)
+  pub upper_aware : (x : T) (v : View T E S O) → 0 < v.count → IsAware R x v → IsAware R x (upper_part v)
   upper_aware x v some a = record {
     after = a.after;
     front = a.front;
@@ -142,15 +145,15 @@ module _ {T E S O : Type 0} (R : Reading T E S O) where
     shares = ap (drop 1) a.shares ∙ each_rest (share R x) v.low v.count some;
   }
 
-  pub arrived_aware : (x : T) (v : View T E S O) (t : ℕ) → IsAware R x v → IsAware R x (arrived R v t x)
+  pub arrived_aware : (x : T) (v : View T E S O) (t : ℕ) → IsAware R x v → IsAware R x (view_inside R v t x)
   arrived_aware x v t a =
       record { after = []; front = sym (append-nil (R.entries x)); others = tt; subject = a.subject; shares = a.shares }
 
-  pub given_aware : (x : T) (v : View T E S O) → v.subject ≡ Some (R.subject x) → IsAware R x (given R v x)
+  pub given_aware : (x : T) (v : View T E S O) → v.subject ≡ Some (R.subject x) → IsAware R x (view_after_give R v x)
   given_aware x v same =
       record { after = []; front = sym (append-nil (R.entries x)); others = tt; subject = same; shares = refl }
 
-  pub whole_aware : (x : T) (t : ℕ) → IsAware R x (whole R x t)
+  pub whole_aware : (x : T) (t : ℕ) → IsAware R x (opening_view R x t)
   whole_aware x t =
       record { after = []; front = sym (append-nil (R.entries x)); others = tt; subject = refl; shares = refl }
 
@@ -162,5 +165,5 @@ module _ {T E S O : Type 0} (R : Reading T E S O) where
 
   -- under each of the pass's numbers the log has its front's entries and no others
   pub own_of_front : (x : T) (v : View T E S O) (w : ℕ) → v.low ≤ w → w < v.low + v.count → IsAware R x v
-      → own R w (R.entries x) ≡ own R w v.front
-  own_of_front x v w a b h = ap (own R w) h.front ∙ own_stays v.front h.after v.low v.count w h.others a b
+      → entries_of_worker R w (R.entries x) ≡ entries_of_worker R w v.front
+  own_of_front x v w a b h = ap (entries_of_worker R w) h.front ∙ own_stays v.front h.after v.low v.count w h.others a b

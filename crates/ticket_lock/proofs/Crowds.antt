@@ -12,7 +12,7 @@ use Rattle.ticket_lock.specs.declared.rule.TheConstants.{NUMBERS, LAST}
 use Rattle.ticket_lock.specs.declared.rule.View.{View}
 use Rattle.ticket_lock.specs.Log.{Reading, shares}
 use Rattle.ticket_lock.specs.Lock.{IsAt, is_resting, HasTicket, HasNumber, AreNeighbours, IsApart, Knows, Fits}
-use Rattle.ticket_lock.specs.Changes.{gone, lower, upper, joined}
+use Rattle.ticket_lock.specs.Changes.{empty_view, lower_part, upper_part, joined_view}
 use Rattle.ticket_lock.proofs.Views.{same_at, each_end, some_end, pairs_end, set_swap}
 use Rattle.ticket_lock.proofs.Neighbours.{in_one}
 use Rattle.ticket_lock.proofs.Logs.{shorter_begins}
@@ -46,12 +46,16 @@ module _ {T E S O : Type 0} (R : Reading T E S O) (opened : T × ℕ) where
 
   pub split_fits : (s : State (Option T) (View T E S O)) (f : Fits R opened s) (id : ℕ) (v : View T E S O)
       → IsAt s.views id v → is_resting v.stage ≡ true → 1 < v.count
-      → Fits R opened record { words = s.words; homes = s.homes; views = set s.views id (lower v) ++ upper v ∷ [] }
+      → Fits R opened record {
+        words = s.words;
+        homes = s.homes;
+        views = set s.views id (lower_part v) ++ upper_part v ∷ [];
+      }
   unfolding changes
   split_fits s f id v at rest two = let k = f.each id v at in let live = resting_lives v.stage rest in let inside =
       k.within live in
-      let kept : Fits R opened record { words = s.words; homes = s.homes; views = set s.views id (lower v) } =
-      changes R opened s f id v (lower v) at s.words s.homes f.next f.serving f.value f.words f.homes
+      let kept : Fits R opened record { words = s.words; homes = s.homes; views = set s.views id (lower_part v) } =
+      changes R opened s f id v (lower_part v) at s.words s.homes f.next f.serving f.value f.words f.homes
       (f.served, f.drawn, f.subject, f.begun)
       record {
         stands = k.stands;
@@ -64,7 +68,7 @@ module _ {T E S O : Type 0} (R : Reading T E S O) (opened : T × ℕ) where
       }
       (λ u p h. h) (λ j u _ _ p h. record { numbers = λ n a b. p.numbers n (a.0, omega arith) b; tickets = p.tickets })
       (λ t lo hi. inr (lo, hi, λ h. h)) in
-      comes record { words = s.words; homes = s.homes; views = set s.views id (lower v) } kept (upper v)
+      comes record { words = s.words; homes = s.homes; views = set s.views id (lower_part v) } kept (upper_part v)
       record {
         stands = k.stands;
         empty = λ e. absurd (false≢true (sym e ∙ live));
@@ -75,8 +79,8 @@ module _ {T E S O : Type 0} (R : Reading T E S O) (opened : T × ℕ) where
         aware = λ l. upper_aware R f.value v (omega arith) (k.aware l);
       }
       (λ j u a. ⊎_elim
-      (λ (t : (j ≡ id) × (lower v ≡ u)). subst
-      (IsApart (upper v)) t.1 record {
+      (λ (t : (j ≡ id) × (lower_part v ≡ u)). subst
+      (IsApart (upper_part v)) t.1 record {
         numbers = λ n p q. absurd (omega arith);
         tickets =
             λ n p q. no_ticket v.stage n rest p;
@@ -84,12 +88,16 @@ module _ {T E S O : Type 0} (R : Reading T E S O) (opened : T × ℕ) where
       (λ (t : (j ≢ id) × IsAt s.views j u). let p =
       f.apart id j v u at t.1 (λ e. t.0 (sym e)) in record
       { numbers = λ n x y. p.numbers n (omega arith, omega arith) y; tickets = p.tickets })
-      (at_set s.views id j (lower v) u a))
+      (at_set s.views id j (lower_part v) u a))
 
   pub join_fits : (s : State (Option T) (View T E S O)) (f : Fits R opened s) (id : ℕ) (v : View T E S O) (other : ℕ)
       (w : View T E S O) → IsAt s.views id v → other ≢ id → IsAt s.views other w
       → is_resting v.stage ≡ true → is_resting w.stage ≡ true → AreNeighbours v w
-      → Fits R opened record { words = s.words; homes = s.homes; views = set (set s.views id (joined v w)) other gone }
+      → Fits R opened record {
+        words = s.words;
+        homes = s.homes;
+        views = set (set s.views id (joined_view v w)) other empty_view;
+      }
   unfolding changes
   join_fits s f id v other w at ne there rest rest' next =
       let k = f.each id v at in let l = f.each other w there in let live = resting_lives v.stage rest in let live' =
@@ -99,9 +107,9 @@ module _ {T E S O : Type 0} (R : Reading T E S O) (opened : T × ℕ) where
       (λ (above : v.low + v.count ≡ w.low). (omega arith, omega arith))
       (λ (below : w.low + w.count ≡ v.low). (omega arith, omega arith)) next in
       let empty : State (Option T) (View T E S O) =
-      record { words = s.words; homes = s.homes; views = set s.views other gone } in
+      record { words = s.words; homes = s.homes; views = set s.views other empty_view } in
       let spent : Fits R opened empty =
-      changes R opened s f other w gone there s.words s.homes f.next f.serving f.value f.words f.homes
+      changes R opened s f other w empty_view there s.words s.homes f.next f.serving f.value f.words f.homes
       (f.served, f.drawn, f.subject, f.begun)
       record {
         stands = tt;
@@ -118,9 +126,9 @@ module _ {T E S O : Type 0} (R : Reading T E S O) (opened : T × ℕ) where
             λ n a b. a;
       }) (λ t lo hi. inr (lo, hi, λ h. absurd (no_ticket w.stage t rest' h))) in
       subst (λ vs. Fits R opened record { words = s.words; homes = s.homes; views = vs })
-      (set_swap s.views other id gone (joined v w) ne)
-      (changes R opened empty spent id v (joined v w)
-      (set_else s.views other id gone (λ e. ne (sym e)) ∙ at) s.words s.homes f.next f.serving f.value f.words
+      (set_swap s.views other id empty_view (joined_view v w) ne)
+      (changes R opened empty spent id v (joined_view v w)
+      (set_else s.views other id empty_view (λ e. ne (sym e)) ∙ at) s.words s.homes f.next f.serving f.value f.words
       f.homes (f.served, f.drawn, f.subject, f.begun)
       record {
         stands = tt;
@@ -134,8 +142,8 @@ module _ {T E S O : Type 0} (R : Reading T E S O) (opened : T × ℕ) where
       }
       (λ u p h. h)
       (λ j u ne' a p h. ⊎_elim
-      (λ (t : (j ≡ other) × (gone ≡ u)). subst
-      (IsApart (joined v w)) t.1 record {
+      (λ (t : (j ≡ other) × (empty_view ≡ u)). subst
+      (IsApart (joined_view v w)) t.1 record {
         numbers = λ n x y. let z = y.1 in absurd (omega arith);
         tickets =
             λ n x y. x;
@@ -145,7 +153,7 @@ module _ {T E S O : Type 0} (R : Reading T E S O) (opened : T × ℕ) where
             (in_one v w next n x);
         tickets = λ n x y. x;
       })
-      (at_set s.views other j gone u a))
+      (at_set s.views other j empty_view u a))
       (λ t lo hi. inr (lo, hi, λ h. absurd (no_ticket v.stage t rest h))))
 
   -- while a pass with all numbers has no ticket, nobody has one: all that were drawn are served, and the value is at

@@ -6,7 +6,7 @@ use Rattle.std.proofs.lemmas.Bool.{lt-ltb, le-ltb}
 use mathlib.Core.Logic.{dite}
 use native.Mathlib.Decide.{dec_lt}
 use Rattle.ticket_lock.specs.Log.{Begins, each_of}
-use Rattle.ticket_lock.specs.Changes.{longer, shorter}
+use Rattle.ticket_lock.specs.Changes.{longer_of, shorter_of}
 
 module _ {X : Type 0} where
   pub every-append : (P : X → Type 0) (a b : List X) → AllByRecursion P a → AllByRecursion P b
@@ -57,20 +57,20 @@ module _ {X : Type 0} where
   pub begins_both : (a b c : List X) → Begins a b → Begins b c → Begins a c
   begins_both a b c h k = (h.0 ++ k.0, k.1 ∙ (ap (λ l. l ++ k.0) h.1 ∙ append_assoc a h.0 k.0))
 
-  pub longer_first : (a b : List X) → length b ≤ length a → longer a b ≡ a
+  pub longer_first : (a b : List X) → length b ≤ length a → longer_of a b ≡ a
   longer_first a b le = ap (λ t. cond t b a) (le-ltb (length a) (length b) le)
 
-  pub longer_second : (a b : List X) → length a < length b → longer a b ≡ b
+  pub longer_second : (a b : List X) → length a < length b → longer_of a b ≡ b
   longer_second a b lt = ap (λ t. cond t b a) (lt-ltb (length a) (length b) lt)
 
-  shorter_first : (a b : List X) → length a < length b → shorter a b ≡ a
+  shorter_first : (a b : List X) → length a < length b → shorter_of a b ≡ a
   shorter_first a b lt = ap (λ t. cond t a b) (lt-ltb (length a) (length b) lt)
 
-  shorter_second : (a b : List X) → length b ≤ length a → shorter a b ≡ b
+  shorter_second : (a b : List X) → length b ≤ length a → shorter_of a b ≡ b
   shorter_second a b le = ap (λ t. cond t a b) (le-ltb (length a) (length b) le)
 
   -- of two prefixes of one list, the shorter is a prefix of the longer
-  pub shorter_begins : (a b x y : List X) → a ++ x ≡ b ++ y → Begins (shorter a b) (longer a b)
+  pub shorter_begins : (a b x y : List X) → a ++ x ≡ b ++ y → Begins (shorter_of a b) (longer_of a b)
   shorter_begins a b x y e = dite (dec_lt (length a) (length b))
       (λ lt. let m = between a b x y e (omega arith) in
       (m.0, longer_second a b lt ∙ (m.1 ∙ ap (λ l. l ++ m.0) (sym (shorter_first a b lt)))))
@@ -78,15 +78,16 @@ module _ {X : Type 0} where
       (m.0, longer_first a b (omega arith) ∙ (m.1 ∙ ap (λ l. l ++ m.0) (sym (shorter_second a b (omega arith))))))
 
   -- then each of the two is a prefix of the longer
-  pub both_begin : (a b : List X) → Begins (shorter a b) (longer a b) → Begins a (longer a b) × Begins b (longer a b)
+  pub both_begin : (a b : List X) → Begins (shorter_of a b) (longer_of a b) → Begins a (longer_of a b)
+      × Begins b (longer_of a b)
   both_begin a b h = dite (dec_lt (length a) (length b))
-      (λ lt. (subst (λ l. Begins l (longer a b)) (shorter_first a b lt) h, itself b (longer_second a b lt)))
+      (λ lt. (subst (λ l. Begins l (longer_of a b)) (shorter_first a b lt) h, itself b (longer_second a b lt)))
       (λ ge. (
         itself a (longer_first a b (omega arith)),
-        subst (λ l. Begins l (longer a b)) (shorter_second a b (omega arith)) h,
+        subst (λ l. Begins l (longer_of a b)) (shorter_second a b (omega arith)) h,
       ))
     where
-      itself : (l : List X) → longer a b ≡ l → Begins l (longer a b)
+      itself : (l : List X) → longer_of a b ≡ l → Begins l (longer_of a b)
       itself l e = ([], e ∙ sym (append-nil l))
 
   pub each_same : (f g : ℕ → X) (low n : ℕ) → ((k : ℕ) → low ≤ k → k < low + n → f k ≡ g k)

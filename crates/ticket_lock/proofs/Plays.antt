@@ -12,8 +12,8 @@ use Rattle.ticket_lock.specs.declared.rule.View.{View}
 use Rattle.ticket_lock.specs.declared.rule.Stage.TheVariants.{Waiting, Inside}
 use Rattle.ticket_lock.specs.Log.{Reading, Adds}
 use Rattle.ticket_lock.specs.Lock.{is_live, is_resting, is_inside, ticket_of, found_or, holds_slot, AreNeighbours, Fits}
-use Rattle.ticket_lock.specs.Changes.{gone, ended, staged, lower, upper, joined, arrived, given, Looked, Drew, Entered}
-use Rattle.ticket_lock.specs.Changes.{Left}
+use Rattle.ticket_lock.specs.Changes.{empty_view, with_end_seen, with_stage, lower_part, upper_part, joined_view}
+use Rattle.ticket_lock.specs.Changes.{view_inside, view_after_give, Looked, Drew, Entered, Left}
 use Rattle.ticket_lock.proofs.Stages.{insider, one_slot}
 use Rattle.ticket_lock.proofs.Steps.{stays, draw_fits, enter_fits, leave_fits}
 use Rattle.ticket_lock.proofs.Crowds.{split_fits, join_fits, turn_next}
@@ -28,7 +28,7 @@ module _ {T E S O : Type 0} (R : Reading T E S O) (opened : T × ℕ) (slots id 
       λ t e rest. is ∙ turn_next R opened s f id me.0 t at e rest in
       dite (ℕ_discrete x LAST)
       (λ hit. (
-        ended me.0,
+        with_end_seen me.0,
         keeps,
         tt,
         stays R opened s f id me.0 true 0 me.1 at (λ _. sym is ∙ hit),
@@ -62,7 +62,7 @@ module _ {T E S O : Type 0} (R : Reading T E S O) (opened : T × ℕ) (slots id 
       → Allows (Fits R opened) slots id me 0 (λ n. either (eqb n t) (t + 1) n) (Drew (step slots 0 t (t + 1) none) me)
   draws t small rest s f _ at _ = let x : ℕ = get_or s.words 0 0 in let is : x ≡ f.next =
       ap (λ ws. get_or ws 0 0) f.words in
-      let w : View T E S O = staged me.0 (Waiting t) in
+      let w : View T E S O = with_stage me.0 (Waiting t) in
       dite (ℕ_discrete x t)
       (λ hit. (
         w,
@@ -86,7 +86,7 @@ module _ {T E S O : Type 0} (R : Reading T E S O) (opened : T × ℕ) (slots id 
       (Entered R (step slots 1 (2 * t) (2 * t + 1) none) me)
   enters t waits s f _ at _ = let x : ℕ = get_or s.words 1 0 in let is : x ≡ f.serving =
       ap (λ ws. get_or ws 1 0) f.words in
-      let due : ℕ = 2 * t in let w : View T E S O = arrived R me.0 t f.value in let half : t ≡ 2 * t / 2 =
+      let due : ℕ = 2 * t in let w : View T E S O = view_inside R me.0 t f.value in let half : t ≡ 2 * t / 2 =
       omega arith in let k = f.each id me.0 at in
       dite (ℕ_discrete x due)
       (λ hit. let e = enter_fits R opened s f id me.0 t me.1 at (sym is ∙ hit) waits in (
@@ -99,7 +99,7 @@ module _ {T E S O : Type 0} (R : Reading T E S O) (opened : T × ℕ) (slots id 
           (λ _. (
             f.value,
             k.aware (ap is_live waits),
-            ap (λ u. (arrived R me.0 u f.value, (0, Some f.value) ∷ me.1)) half,
+            ap (λ u. (view_inside R me.0 u f.value, (0, Some f.value) ∷ me.1)) half,
           )),
           λ ne. absurd (ne hit),
         ),
@@ -116,14 +116,14 @@ module _ {T E S O : Type 0} (R : Reading T E S O) (opened : T × ℕ) (slots id 
   pub leaves : (t : ℕ) (x y : T) → me.0.stage ≡ Inside t x → me.1 ≡ (0, Some y) ∷ [] → Adds R me.0.low x y
       → Allows (Fits R opened) slots id me 1 (λ _. 2 * t + 2)
       (λ _. Left R (step slots 1 (2 * t + 2) 0 none) me (2 * t + 2))
-  leaves t x y inside holds adds s f _ at _ = let w : View T E S O = given R me.0 y in (
+  leaves t x y inside holds adds s f _ at _ = let w : View T E S O = view_after_give R me.0 y in (
     w,
     gives,
     tt,
     subst (λ c. Fits R opened (stepped s 1 (2 * t + 2) id c w gives)) (sym holds)
         (leave_fits R opened s f id me.0 t x y at inside adds),
     λ value e. let same : y ≡ value = one_value y value (sym holds ∙ e) in
-        λ i. (given R me.0 (same i), ap rest holds i),
+        λ i. (view_after_give R me.0 (same i), ap rest holds i),
   )
     where
       -- the value in a slot is one
@@ -149,11 +149,11 @@ module _ {T E S O : Type 0} (R : Reading T E S O) (old new : Me (Option T) (View
       (insider old.0.stage y inside ∙ ap (λ u. Inside u (found_or old.0.stage y)) ticket) refl adds)
 
 module _ {T E S O : Type 0} (R : Reading T E S O) (opened : T × ℕ) (id : ℕ) (v : View T E S O) where
-  pub splits : is_resting v.stage ≡ true → 1 < v.count → Splits (Fits R opened) id v (lower v) (upper v)
+  pub splits : is_resting v.stage ≡ true → 1 < v.count → Splits (Fits R opened) id v (lower_part v) (upper_part v)
   splits rest two s f at = split_fits R opened s f id v at rest two
 
   pub joins : (other : ℕ) (w : View T E S O) → is_resting v.stage ≡ true → is_resting w.stage ≡ true
-      → AreNeighbours v w → Joins (Fits R opened) id v other w (joined v w) gone
+      → AreNeighbours v w → Joins (Fits R opened) id v other w (joined_view v w) empty_view
   joins other w rest rest' next s f at ne there =
       join_fits R opened s f id v other w at ne
-      (sym (set_else s.views id other (joined v w) ne) ∙ there) rest rest' next
+      (sym (set_else s.views id other (joined_view v w) ne) ∙ there) rest rest' next

@@ -14,8 +14,8 @@ use Rattle.ticket_lock.specs.declared.rule.Stage.{Stage}
 use Rattle.ticket_lock.specs.declared.rule.Stage.TheVariants.{Spent, Resting, Waiting, Inside}
 use Rattle.ticket_lock.specs.Log.{Reading}
 use Rattle.ticket_lock.specs.Lock.{IsAt, is_inside, HasTicket, Stands, Knows, Fits}
-use Rattle.ticket_lock.specs.Changes.{whole, arrived}
-use Rattle.ticket_lock.specs.Moves.{Move, splits, joins, loads, draws, enters, leaves, closes, made, Steps, Run}
+use Rattle.ticket_lock.specs.Changes.{opening_view, view_inside}
+use Rattle.ticket_lock.specs.Moves.{Move, splits, joins, loads, draws, enters, leaves, closes, initial_lock, Steps, Run}
 use Rattle.ticket_lock.specs.Moves.{IsExclusive, Law}
 use Rattle.ticket_lock.proofs.Aware.{whole_aware}
 use Rattle.ticket_lock.proofs.Stages.{one_turn, even_home, odd_home}
@@ -91,7 +91,7 @@ module _ {T E S O : Type 0} (R : Reading T E S O) (opened : T × ℕ) where
         words = set s.words 1 (2 * h.1 + 1);
         homes = set s.homes 0 none;
         views =
-            set s.views id (arrived R h.0 h.1 x);
+            set s.views id (view_inside R h.0 h.1 x);
       }) same ∙ sym k.2) e.1)
       (λ miss. subst (Fits R opened) (sym (h.5 miss)) f)
   keeps_rule (leaves id y) s t h f =
@@ -105,7 +105,7 @@ module _ {T E S O : Type 0} (R : Reading T E S O) (opened : T × ℕ) where
 
 module _ {T E S O : Type 0} (R : Reading T E S O) where
   -- the lock as it is made
-  pub made_fits : (first : ℕ) (x : T) → first ≤ LAST → Fits R (x, first) (made R first x)
+  pub made_fits : (first : ℕ) (x : T) → first ≤ LAST → Fits R (x, first) (initial_lock R first x)
   made_fits first x small = record {
     next = first;
     serving = 2 * first;
@@ -129,14 +129,15 @@ module _ {T E S O : Type 0} (R : Reading T E S O) where
     held = λ t lo hi. absurd (omega arith);
   }
     where
-      first_view : (i : ℕ) (v : View T E S O) → IsAt (whole R x first ∷ []) i v → whole R x first ≡ v
-      first_view Rattle.std.proofs.Common.zero v a = some-injective (whole R x first) v a
+      first_view : (i : ℕ) (v : View T E S O) → IsAt (opening_view R x first ∷ []) i v → opening_view R x first ≡ v
+      first_view Rattle.std.proofs.Common.zero v a = some-injective (opening_view R x first) v a
       first_view (Rattle.std.proofs.Common.suc i) v a = absurd (some-ne-none v (sym a))
 
-      first_place : (i : ℕ) (v : View T E S O) → IsAt (whole R x first ∷ []) i v → i ≡ 0
+      first_place : (i : ℕ) (v : View T E S O) → IsAt (opening_view R x first ∷ []) i v → i ≡ 0
       first_place Rattle.std.proofs.Common.zero v a = refl
       first_place (Rattle.std.proofs.Common.suc i) v a = absurd (some-ne-none v (sym a))
 
   pub law : Law R
   law first x small moves s run = let f =
-      runs_fit R (x, first) moves (made R first x) s run (made_fits first x small) in (f, exclusive R (x, first) s f)
+      runs_fit R (x, first) moves (initial_lock R first x) s run
+      (made_fits first x small) in (f, exclusive R (x, first) s f)

@@ -14,7 +14,7 @@ use Rattle.ticket_lock.specs.declared.rule.View.{View}
 use Rattle.ticket_lock.specs.declared.rule.Stage.TheVariants.{Waiting, Inside}
 use Rattle.ticket_lock.specs.Log.{Reading, Adds}
 use Rattle.ticket_lock.specs.Lock.{IsAt, home_of, is_live, is_resting, HasTicket, Stands, IsApart, Knows, Fits}
-use Rattle.ticket_lock.specs.Changes.{staged, arrived, given}
+use Rattle.ticket_lock.specs.Changes.{with_stage, view_inside, view_after_give}
 use Rattle.ticket_lock.proofs.Views.{set_at, each_set, some_set, pairs_set}
 use Rattle.ticket_lock.proofs.Aware.{still_aware, arrived_aware, given_aware}
 use Rattle.ticket_lock.proofs.Logs.{begins_both}
@@ -96,11 +96,11 @@ module _ {T E S O : Type 0} (R : Reading T E S O) (opened : T × ℕ) where
 
   pub draw_fits : (s : State (Option T) (View T E S O)) (f : Fits R opened s) (id : ℕ) (v : View T E S O) (t : ℕ)
       (c : List (ℕ × Option T)) → IsAt s.views id v → f.next ≡ t → t < LAST → is_resting v.stage ≡ true
-      → Fits R opened (stepped s 0 (t + 1) id c (staged v (Waiting t)) keeps)
+      → Fits R opened (stepped s 0 (t + 1) id c (with_stage v (Waiting t)) keeps)
   draw_fits s f id v t c at is small rest = let k = f.each id v at in let live = resting_lives v.stage rest in let a =
       k.aware live in let some = k.within live in
       let served = f.served in let begun = f.begun in
-      changes s f id v (staged v (Waiting t)) at (set s.words 0 (t + 1)) s.homes (t + 1) f.serving f.value
+      changes s f id v (with_stage v (Waiting t)) at (set s.words 0 (t + 1)) s.homes (t + 1) f.serving f.value
       (ap (λ ws. set ws 0 (t + 1)) f.words) f.homes (omega arith, omega arith, f.subject, omega arith)
       record {
         stands = (omega arith, omega arith);
@@ -139,13 +139,13 @@ module _ {T E S O : Type 0} (R : Reading T E S O) (opened : T × ℕ) where
   pub enter_fits : (s : State (Option T) (View T E S O)) (f : Fits R opened s) (id : ℕ) (v : View T E S O) (t : ℕ)
       (c : List (ℕ × Option T)) → IsAt s.views id v → f.serving ≡ 2 * t → v.stage ≡ Waiting t
       → (get_elem? s.homes 0 ≡ some (some (Some f.value)))
-      × Fits R opened (stepped s 1 (2 * t + 1) id c (arrived R v t f.value) (takes 0 (Some f.value)))
+      × Fits R opened (stepped s 1 (2 * t + 1) id c (view_inside R v t f.value) (takes 0 (Some f.value)))
   enter_fits s f id v t c at is waits = let k = f.each id v at in let live : is_live v.stage ≡ true =
       ap is_live waits in let some' = k.within live in
       let stands : (f.serving ≤ 2 * t) × (t < f.next) =
       subst (Stands f.next f.serving f.value) waits k.stands in let early = stands.1 in (
         ap (λ h. get_elem? h 0) f.homes ∙ ap some (even_home f.serving t f.value is),
-        changes s f id v (arrived R v t f.value) at (set s.words 1 (2 * t + 1)) (set s.homes 0 none) f.next
+        changes s f id v (view_inside R v t f.value) at (set s.words 1 (2 * t + 1)) (set s.homes 0 none) f.next
             (2 * t + 1) f.value (ap (λ ws. set ws 1 (2 * t + 1)) f.words)
             (ap (λ h. set h 0 none) f.homes ∙ ap (λ h. h ∷ []) (sym (odd_home (2 * t + 1) t f.value refl)))
             (omega arith, f.drawn, f.subject, f.begun)
@@ -180,13 +180,14 @@ module _ {T E S O : Type 0} (R : Reading T E S O) (opened : T × ℕ) where
 
   pub leave_fits : (s : State (Option T) (View T E S O)) (f : Fits R opened s) (id : ℕ) (v : View T E S O) (t : ℕ)
       (x y : T) → IsAt s.views id v → v.stage ≡ Inside t x → Adds R v.low x y
-      → Fits R opened (stepped s 1 (2 * t + 2) id ((0, Some y) ∷ []) (given R v y) gives)
+      → Fits R opened (stepped s 1 (2 * t + 2) id ((0, Some y) ∷ []) (view_after_give R v y) gives)
   leave_fits s f id v t x y at inside adds = let k = f.each id v at in let live : is_live v.stage ≡ true =
       ap is_live inside in let some' = k.within live in let aware = k.aware live in
       let stands : (f.serving ≡ 2 * t + 1) × (t < f.next) × (x ≡ f.value) =
       subst (Stands f.next f.serving f.value) inside k.stands in let is = stands.0 in let early = stands.1 in
       let adds' : Adds R v.low f.value y = subst (λ z. Adds R v.low z y) stands.2 adds in
-      changes s f id v (given R v y) at (set s.words 1 (2 * t + 2)) (set s.homes 0 (some (Some y))) f.next (2 * t + 2) y
+      changes s f id v (view_after_give R v y) at (set s.words 1 (2 * t + 2)) (set s.homes 0 (some (Some y))) f.next
+      (2 * t + 2) y
       (ap (λ ws. set ws 1 (2 * t + 2)) f.words)
       (ap (λ h. set h 0 (some (Some y))) f.homes
       ∙ ap (λ h. h ∷ []) (sym (even_home (2 * t + 2) (t + 1) y (omega arith))))

@@ -10,11 +10,11 @@ use Rattle.ticket_lock.specs.Log.{Reading, Begins, shares}
 use Rattle.ticket_lock.specs.Lock.{IsAware, is_live, is_resting}
 
 -- the longer of two lists, and the other one
-abbrev pub longer : {E : Type 0} → List E → List E → List E
-longer a b = if nat_lt (length a) (length b) then b else a
+abbrev pub longer_of : {E : Type 0} → List E → List E → List E
+longer_of a b = if nat_lt (length a) (length b) then b else a
 
-abbrev pub shorter : {E : Type 0} → List E → List E → List E
-shorter a b = if nat_lt (length a) (length b) then a else b
+abbrev pub shorter_of : {E : Type 0} → List E → List E → List E
+shorter_of a b = if nat_lt (length a) (length b) then a else b
 
 -- the ticket after the one whose turn it is, where that is known
 abbrev pub turn_after : Option ℕ → Option ℕ
@@ -23,8 +23,8 @@ turn_after (Some t) = Some (t + 1)
 
 module _ {T E S O : Type 0} where
   -- a seat that is not a pass any more
-  abbrev pub gone : View T E S O
-  gone = record {
+  abbrev pub empty_view : View T E S O
+  empty_view = record {
     low = 0;
     count = 0;
     end = false;
@@ -37,42 +37,42 @@ module _ {T E S O : Type 0} where
   }
 
   -- it has seen that no ticket is left
-  abbrev pub ended : View T E S O → View T E S O
-  ended v = record v { end = true }
+  abbrev pub with_end_seen : View T E S O → View T E S O
+  with_end_seen v = record v { end = true }
 
-  abbrev pub staged : View T E S O → Stage T → View T E S O
-  staged v stage = record v { stage = stage }
+  abbrev pub with_stage : View T E S O → Stage T → View T E S O
+  with_stage v stage = record v { stage = stage }
 
   -- the lowest number alone
-  abbrev pub lower : View T E S O → View T E S O
-  lower v = record v { count = 1; turn = None; shares = take 1 v.shares }
+  abbrev pub lower_part : View T E S O → View T E S O
+  lower_part v = record v { count = 1; turn = None; shares = take 1 v.shares }
 
   -- the numbers above the lowest
-  abbrev pub upper : View T E S O → View T E S O
-  upper v = record v { low = v.low + 1; count = v.count - 1; turn = None; shares = drop 1 v.shares }
+  abbrev pub upper_part : View T E S O → View T E S O
+  upper_part v = record v { low = v.low + 1; count = v.count - 1; turn = None; shares = drop 1 v.shares }
 
   -- two neighbours as one pass, whichever has the lower numbers
-  abbrev pub joined : View T E S O → View T E S O → View T E S O
-  joined v w = record {
+  abbrev pub joined_view : View T E S O → View T E S O → View T E S O
+  joined_view v w = record {
     low = min v.low w.low;
     count = v.count + w.count;
     end = v.end || w.end;
     turn = None;
     stage = Resting;
-    front = longer v.front w.front;
-    earlier = shorter v.front w.front;
+    front = longer_of v.front w.front;
+    earlier = shorter_of v.front w.front;
     subject = v.subject;
     shares = if nat_lt v.low w.low then v.shares ++ w.shares else w.shares ++ v.shares;
   }
 
   -- where the word `next` was the one expected, the pass has it as its ticket
   abbrev pub Drew : Step (Option T) → Me (Option T) (View T E S O) → ℕ → Me (Option T) (View T E S O) → Type 0
-  Drew st m found n = (found ≡ st.first → n ≡ (staged m.0 (Waiting st.first), m.1)) × (found ≢ st.first → n ≡ m)
+  Drew st m found n = (found ≡ st.first → n ≡ (with_stage m.0 (Waiting st.first), m.1)) × (found ≢ st.first → n ≡ m)
 
 module _ {T E S O : Type 0} (R : Reading T E S O) where
   -- the first pass, which holds all numbers, where the first ticket is t
-  abbrev pub whole : T → ℕ → View T E S O
-  whole x t = record {
+  abbrev pub opening_view : T → ℕ → View T E S O
+  opening_view x t = record {
     low = 1;
     count = NUMBERS;
     end = t == LAST;
@@ -85,12 +85,12 @@ module _ {T E S O : Type 0} (R : Reading T E S O) where
   }
 
   -- inside with the ticket t, the pass has seen the log of the value as found
-  abbrev pub arrived : View T E S O → ℕ → T → View T E S O
-  arrived v t x = record v { stage = Inside t x; front = R.entries x }
+  abbrev pub view_inside : View T E S O → ℕ → T → View T E S O
+  view_inside v t x = record v { stage = Inside t x; front = R.entries x }
 
   -- after the value was given back as x
-  abbrev pub given : View T E S O → T → View T E S O
-  given v x = record v {
+  abbrev pub view_after_give : View T E S O → T → View T E S O
+  view_after_give v x = record v {
     turn = turn_after v.turn;
     stage = Resting;
     front = R.entries x;
@@ -102,7 +102,7 @@ module _ {T E S O : Type 0} (R : Reading T E S O) where
   pub record Looked (st : Step (Option T)) (m : Me (Option T) (View T E S O)) (found : ℕ)
       (n : Me (Option T) (View T E S O)) : Type 0 where
     pub most : found ≤ LAST
-    pub last : found ≡ LAST → n ≡ (ended m.0, m.1)
+    pub last : found ≡ LAST → n ≡ (with_end_seen m.0, m.1)
     pub other : found ≢ LAST → n ≡ m
     pub seen_end : m.0.end ≡ true → found ≡ LAST
     pub turn : (t : ℕ) → m.0.turn ≡ Some t → is_resting m.0.stage ≡ true → found ≡ t
@@ -113,9 +113,9 @@ module _ {T E S O : Type 0} (R : Reading T E S O) where
   abbrev pub Entered : Step (Option T) → Me (Option T) (View T E S O) → ℕ → Me (Option T) (View T E S O) → Type 0
   Entered st m found n =
       (found ≡ st.first
-      → (value : T) × IsAware R value m.0 × (n ≡ (arrived m.0 (st.first / 2) value, (0, Some value) ∷ m.1)))
+      → (value : T) × IsAware R value m.0 × (n ≡ (view_inside m.0 (st.first / 2) value, (0, Some value) ∷ m.1)))
       × (found ≢ st.first → n ≡ m)
 
   -- the value in the slot was given back
   abbrev pub Left : Step (Option T) → Me (Option T) (View T E S O) → ℕ → Me (Option T) (View T E S O) → Type 0
-  Left st m found n = (value : T) → m.1 ≡ (0, Some value) ∷ [] → n ≡ (given m.0 value, [])
+  Left st m found n = (value : T) → m.1 ≡ (0, Some value) ∷ [] → n ≡ (view_after_give m.0 value, [])

@@ -23,16 +23,16 @@ each_of f low (suc n) = f low ∷ each_of f (low + 1) n
 
 module _ {T E S O : Type 0} (R : Reading T E S O) where
   -- a worker's own entries of a log, in order
-  abbrev pub own : ℕ → List E → List E
-  own w log = filter (λ e. R.worker e == w) log
+  abbrev pub entries_of_worker : ℕ → List E → List E
+  entries_of_worker w log = filter (λ e. R.worker e == w) log
 
   -- the own entries in a log of n workers, from low on
-  abbrev pub owns : List E → ℕ → ℕ → List (List E)
-  owns log low n = each_of (λ w. own w log) low n
+  abbrev pub entries_of_workers : List E → ℕ → ℕ → List (List E)
+  entries_of_workers log low n = each_of (λ w. entries_of_worker w log) low n
 
   -- a worker's share of a value
   abbrev pub share : T → ℕ → Share E O
-  share x w = record { own = own w (R.entries x); work = R.work x w }
+  share x w = record { own = entries_of_worker w (R.entries x); work = R.work x w }
 
   -- the shares of n workers, from low on
   abbrev pub shares : T → ℕ → ℕ → List (Share E O)

@@ -10,7 +10,8 @@ use Rattle.ticket_lock.specs.declared.rule.View.{View}
 use Rattle.ticket_lock.specs.declared.rule.Stage.TheVariants.{Waiting, Inside}
 use Rattle.ticket_lock.specs.Log.{Reading, Adds}
 use Rattle.ticket_lock.specs.Lock.{IsAt, is_live, is_resting, is_inside, AreNeighbours, Fits}
-use Rattle.ticket_lock.specs.Changes.{gone, ended, staged, lower, upper, joined, whole, arrived, given}
+use Rattle.ticket_lock.specs.Changes.{empty_view, with_end_seen, with_stage, lower_part, upper_part, joined_view}
+use Rattle.ticket_lock.specs.Changes.{opening_view, view_inside, view_after_give}
 
 -- a step, by the place of the pass that steps; a join also by the other's, a draw by the ticket that it expects, and a
 -- leave by the value that goes back
@@ -30,27 +31,28 @@ module _ {T : Type 0} where
 
 module _ {T E S O : Type 0} (R : Reading T E S O) where
   -- the lock as it is made: the first ticket is both words' start, the value is at home, and one pass has all numbers
-  abbrev pub made : ℕ → T → State (Option T) (View T E S O)
-  made first x = record { words = first ∷ (2 * first) ∷ []; homes = some (Some x) ∷ []; views = whole R x first ∷ [] }
+  abbrev pub initial_lock : ℕ → T → State (Option T) (View T E S O)
+  initial_lock first x =
+      record { words = first ∷ (2 * first) ∷ []; homes = some (Some x) ∷ []; views = opening_view R x first ∷ [] }
 
   -- what one step makes of the lock
   abbrev pub Steps : Move T → State (Option T) (View T E S O) → State (Option T) (View T E S O) → Type 0
   Steps (splits id) s t =
       (v : View T E S O) × IsAt s.views id v × (is_resting v.stage ≡ true) × (1 < v.count)
-      × (t ≡ record s { views = slice_set s.views id (lower v) ++ upper v ∷ [] })
+      × (t ≡ record s { views = slice_set s.views id (lower_part v) ++ upper_part v ∷ [] })
   Steps (joins id other) s t =
       (v : View T E S O) × (w : View T E S O) × IsAt s.views id v × IsAt s.views other w × (other ≢ id)
       × (is_resting v.stage ≡ true) × (is_resting w.stage ≡ true) × AreNeighbours v w
-      × (t ≡ record s { views = slice_set (slice_set s.views id (joined v w)) other gone })
+      × (t ≡ record s { views = slice_set (slice_set s.views id (joined_view v w)) other empty_view })
   Steps (loads id) s t =
       (v : View T E S O) × IsAt s.views id v × (is_live v.stage ≡ true)
-      × (slice_index s.words 0 ≡ LAST → t ≡ record s { views = slice_set s.views id (ended v) })
+      × (slice_index s.words 0 ≡ LAST → t ≡ record s { views = slice_set s.views id (with_end_seen v) })
       × (slice_index s.words 0 ≢ LAST → t ≡ s)
   Steps (draws id ticket) s t =
       (v : View T E S O) × IsAt s.views id v × (is_resting v.stage ≡ true) × (ticket < LAST)
       × (slice_index s.words 0 ≡ ticket → t ≡ record s {
         words = slice_set s.words 0 (ticket + 1);
-        views = slice_set s.views id (staged v (Waiting ticket));
+        views = slice_set s.views id (with_stage v (Waiting ticket));
       })
       × (slice_index s.words 0 ≢ ticket → t ≡ s)
   Steps (enters id) s t =
@@ -60,7 +62,7 @@ module _ {T E S O : Type 0} (R : Reading T E S O) where
       × (t ≡ record {
         words = slice_set s.words 1 (2 * ticket + 1);
         homes = slice_set s.homes 0 none;
-        views = slice_set s.views id (arrived R v ticket x);
+        views = slice_set s.views id (view_inside R v ticket x);
       }))
       × (slice_index s.words 1 ≢ 2 * ticket → t ≡ s)
   Steps (leaves id y) s t =
@@ -68,7 +70,7 @@ module _ {T E S O : Type 0} (R : Reading T E S O) where
       × (t ≡ record {
         words = slice_set s.words 1 (2 * ticket + 2);
         homes = slice_set s.homes 0 (some (Some y));
-        views = slice_set s.views id (given R v y);
+        views = slice_set s.views id (view_after_give R v y);
       })
   Steps (closes id) s t =
       (v : View T E S O) × IsAt s.views id v × (is_resting v.stage ≡ true) × (v.count ≡ NUMBERS) × (t ≡ s)
@@ -96,4 +98,4 @@ module _ {T E S O : Type 0} where
 abbrev pub Law : {T E S O : Type 0} → Reading T E S O → Type 0
 Law {T} {E} {S} {O} R =
     (first : ℕ) (x : T) → first ≤ LAST → (moves : List (Move T)) (s : State (Option T) (View T E S O))
-    → Run R moves (made R first x) s → Fits R (x, first) s × IsExclusive s
+    → Run R moves (initial_lock R first x) s → Fits R (x, first) s × IsExclusive s

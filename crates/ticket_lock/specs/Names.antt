@@ -8,7 +8,7 @@ use Rattle.ticket_lock.specs.declared.rule.View.{View}
 use Rattle.ticket_lock.specs.declared.lock.TicketLock.{TicketLock}
 use Rattle.ticket_lock.specs.declared.pass.Pass.{Pass}
 use Rattle.ticket_lock.specs.declared.held.Held.{Held}
-use Rattle.ticket_lock.specs.Log.{Reading, owns}
+use Rattle.ticket_lock.specs.Log.{Reading, entries_of_workers}
 use Rattle.ticket_lock.specs.Lock.{found_or}
 
 -- the open work of the first share, and d where there is none
@@ -42,8 +42,8 @@ module _ {T E S O : Type 0} where
   held_value h = h.value
 
   -- the value as the pass found it
-  abbrev pub found : Held T E S O → T
-  found h = found_or h.seat.me.0.stage h.value
+  abbrev pub held_as_found : Held T E S O → T
+  held_as_found h = found_or h.seat.me.0.stage h.value
 
   -- the open work of the lowest number, and d where there is no number
   abbrev pub lowest_work : View T E S O → O → O
@@ -52,7 +52,7 @@ module _ {T E S O : Type 0} where
 module _ {T E S O : Type 0} (R : Reading T E S O) where
   -- the own entries that the view keeps of each number are those of its front
   abbrev pub IsFaithful : View T E S O → Type 0
-  IsFaithful v = map (λ s. s.own) v.shares ≡ owns R v.front v.low v.count
+  IsFaithful v = map (λ s. s.own) v.shares ≡ entries_of_workers R v.front v.low v.count
 
   -- the seat is at this table, and its view is faithful
   pub record IsSeated (id : TableId) (seat : Seat (Option T) (View T E S O)) : Type 0 where

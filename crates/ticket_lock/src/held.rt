@@ -27,9 +27,10 @@ pub struct Held<'a, T: Logged> {
 impl<T: Logged + Drop> Held<'_, T> {
     ghost use Rattle.std.specs.Prelude.{◌≡◌, ℕ};
     ghost use types.Logic.{sem};
-    ghost use Rattle.ticket_lock.specs.Log.{own, Adds};
-    ghost use Rattle.ticket_lock.specs.Changes.{given};
-    ghost use Rattle.ticket_lock.specs.Names.{held_id, held_view, held_value, found, pass_view, IsPass, lowest_work};
+    ghost use Rattle.ticket_lock.specs.Log.{entries_of_worker, Adds};
+    ghost use Rattle.ticket_lock.specs.Changes.{view_after_give};
+    ghost use Rattle.ticket_lock.specs.Names.{held_id, held_view, held_value, held_as_found, pass_view, IsPass};
+    ghost use Rattle.ticket_lock.specs.Names.{lowest_work};
     ghost use Rattle.ticket_lock.specs.Lending.{LendsValue};
 
     /// The value as it is: as found, or as written since.
@@ -51,11 +52,12 @@ impl<T: Logged + Drop> Held<'_, T> {
     /// Gives the value back, with more entries of the pass's lowest number and that number's open work changed, and
     /// nothing else. The pass comes back with the same numbers, and the value's log as its front.
     pub fn give(self) -> Pass<T>
-        requires { Adds T.log (held_view self).low (found self) (held_value self) }
+        requires { Adds T.log (held_view self).low (held_as_found self) (held_value self) }
         ensures own { IsPass (held_id self.entry) result }
-        ensures given { pass_view result ≡ given T.log (held_view self.entry) (held_value self.entry) }
+        ensures given { pass_view result ≡ view_after_give T.log (held_view self.entry) (held_value self.entry) }
         ensures others { (w : ℕ) → (w ≡ (held_view self.entry).low → ⊥)
-            → own T.log w (pass_view result).front ≡ own T.log w (T.log.entries (found self.entry)) }
+            → entries_of_worker T.log w (pass_view result).front
+            ≡ entries_of_worker T.log w (T.log.entries (held_as_found self.entry)) }
         ensures work { (d : T.Work)
             → lowest_work (pass_view result) d ≡ T.log.work (held_value self.entry) (held_view self.entry).low }
     {

@@ -41,16 +41,16 @@ impl<T: Logged + Drop> TicketLock<T> {
     ghost use Rattle.atomic_table.specs.Table.{rest};
     ghost use Rattle.ticket_lock.specs.declared.rule.TheConstants.{NUMBERS, LAST};
     ghost use Rattle.ticket_lock.specs.declared.rule.Stage.TheVariants.{Waiting};
-    ghost use Rattle.ticket_lock.specs.Log.{own, shares};
+    ghost use Rattle.ticket_lock.specs.Log.{entries_of_worker, shares};
     ghost use Rattle.ticket_lock.specs.Lock.{IsAware, HasNumber, is_resting};
-    ghost use Rattle.ticket_lock.specs.Changes.{whole, ended, staged, arrived};
+    ghost use Rattle.ticket_lock.specs.Changes.{opening_view, with_end_seen, with_stage, view_inside};
     ghost use Rattle.ticket_lock.specs.Names.{lock_id, opening_value, opening_ticket, pass_view, IsPass, held_id};
     ghost use Rattle.ticket_lock.specs.Names.{held_view, held_value, lowest_work};
 
     /// A lock on the value, and the first pass, which holds the worker numbers from 1 to `NUMBERS`. The first ticket is
     /// 0. Of all calls `new` and `with_first` alone take memory.
     pub fn new(value: T, alloc: Global) -> Result<(TicketLock<T>, Pass<T>), AllocError>
-        ensures pass { IfOk result (λ r. IsPass (lock_id r.0) r.1 × (pass_view r.1 ≡ whole T.log value 0)) }
+        ensures pass { IfOk result (λ r. IsPass (lock_id r.0) r.1 × (pass_view r.1 ≡ opening_view T.log value 0)) }
         ensures lock { IfOk result (λ r. (opening_value r.0 ≡ value) × (opening_ticket r.0 ≡ 0)) }
     {
         TicketLock::with_first(value, alloc, 0)
@@ -64,7 +64,7 @@ impl<T: Logged + Drop> TicketLock<T> {
         ticket: u64,
     ) -> Result<(TicketLock<T>, Pass<T>), AllocError>
         requires { ticket ≤ LAST }
-        ensures pass { IfOk result (λ r. IsPass (lock_id r.0) r.1 × (pass_view r.1 ≡ whole T.log value ticket)) }
+        ensures pass { IfOk result (λ r. IsPass (lock_id r.0) r.1 × (pass_view r.1 ≡ opening_view T.log value ticket)) }
         ensures lock { IfOk result (λ r. (opening_value r.0 ≡ value) × (opening_ticket r.0 ≡ ticket)) }
     {
         let about = (Snapshot::of(&value), ticket);
@@ -109,8 +109,8 @@ impl<T: Logged + Drop> TicketLock<T> {
         requires { (seat.old.table_id ≡ lock_id self.now) × (is_resting seat.old.me.0.stage ≡ true) }
         ensures seat { (seat.new.table_id ≡ seat.old.table_id) × (seat.new.id ≡ seat.old.id) }
         ensures drawn { IfSome result (λ t. (t < LAST)
-            × (seat.new.me ≡ (staged seat.old.me.0 (Waiting t), seat.old.me.1))) }
-        ensures spent { IfNone result (seat.new.me ≡ (ended seat.old.me.0, seat.old.me.1)) }
+            × (seat.new.me ≡ (with_stage seat.old.me.0 (Waiting t), seat.old.me.1))) }
+        ensures spent { IfNone result (seat.new.me ≡ (with_end_seen seat.old.me.0, seat.old.me.1)) }
         ensures end { seat.old.me.0.end ≡ true → IsNone result }
         ensures some { (t : ℕ) → seat.old.me.0.turn ≡ Some t → t < LAST → IsSome result }
         ensures none { seat.old.me.0.turn ≡ Some LAST → IsNone result }
@@ -136,7 +136,7 @@ impl<T: Logged + Drop> TicketLock<T> {
         requires { (seat.old.table_id ≡ lock_id self.now) × (seat.old.me.0.stage ≡ Waiting ticket) × (ticket < LAST) }
         ensures seat { (seat.new.table_id ≡ seat.old.table_id) × (seat.new.id ≡ seat.old.id) }
         ensures inside { (value : T) × IsAware T.log value seat.old.me.0
-            × (seat.new.me ≡ (arrived T.log seat.old.me.0 ticket value, (0, Some value) ∷ seat.old.me.1)) }
+            × (seat.new.me ≡ (view_inside T.log seat.old.me.0 ticket value, (0, Some value) ∷ seat.old.me.1)) }
     {
         let shared = &self.table.shared;
         let due = 2 * ticket;
@@ -171,12 +171,15 @@ impl<T: Logged + Drop> TicketLock<T> {
         requires { IsPass (lock_id self.now) pass }
         ensures lock { IfOk result (λ h. held_id h ≡ lock_id self.now) }
         ensures value { IfOk result (λ h. IsAware T.log (held_value h) (pass_view pass)) }
-        ensures view { IfOk result (λ h. (t : ℕ) × (held_view h ≡ arrived T.log (pass_view pass) t (held_value h))) }
+        ensures view { IfOk result (λ h. (t : ℕ)
+            × (held_view h ≡ view_inside T.log (pass_view pass) t (held_value h))) }
         ensures own { IfOk result (λ h. (w : ℕ) → HasNumber (pass_view pass) w
-            → own T.log w (T.log.entries (held_value h)) ≡ own T.log w (pass_view pass).front) }
+            → entries_of_worker T.log w (T.log.entries (held_value h))
+            ≡ entries_of_worker T.log w (pass_view pass).front) }
         ensures work { IfOk result (λ h. (d : T.Work)
             → lowest_work (pass_view pass) d ≡ T.log.work (held_value h) (pass_view pass).low) }
-        ensures spent { IfErr result (λ e. IsPass (lock_id self.now) e.0 × (pass_view e.0 ≡ ended (pass_view pass))) }
+        ensures spent { IfErr result (λ e. IsPass (lock_id self.now) e.0
+            × (pass_view e.0 ≡ with_end_seen (pass_view pass))) }
         ensures end { (pass_view pass).end ≡ true → IsErr result }
         ensures left { (t : ℕ) → (pass_view pass).turn ≡ Some t → t < LAST → IsOk result }
         ensures none_left { (pass_view pass).turn ≡ Some LAST → IsErr result }

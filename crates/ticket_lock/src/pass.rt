@@ -26,9 +26,9 @@ pub struct OneLeft;
 
 impl<T: Logged + Drop> Pass<T> {
     ghost use Rattle.std.specs.Prelude.{◌≡◌, ℕ, ◌+◌, ◌<◌, true, IfOk, IfErr};
-    ghost use Rattle.ticket_lock.specs.Log.{Begins, own};
+    ghost use Rattle.ticket_lock.specs.Log.{Begins, entries_of_worker};
     ghost use Rattle.ticket_lock.specs.Lock.{HasNumber, AreNeighbours};
-    ghost use Rattle.ticket_lock.specs.Changes.{lower, upper, joined};
+    ghost use Rattle.ticket_lock.specs.Changes.{lower_part, upper_part, joined_view};
     ghost use Rattle.ticket_lock.specs.Names.{lock_id, pass_view, IsPass};
 
     /// The lowest of its numbers, under which it acts.
@@ -42,8 +42,10 @@ impl<T: Logged + Drop> Pass<T> {
     /// there is one number.
     pub fn split(self, lock: &TicketLock<T>) -> Result<(Pass<T>, Pass<T>), (Pass<T>, OneLeft)>
         requires { IsPass (lock_id lock.now) self }
-        ensures lower { IfOk result (λ r. IsPass (lock_id lock.now) r.0 × (pass_view r.0 ≡ lower (pass_view self))) }
-        ensures upper { IfOk result (λ r. IsPass (lock_id lock.now) r.1 × (pass_view r.1 ≡ upper (pass_view self))) }
+        ensures lower { IfOk result (λ r. IsPass (lock_id lock.now) r.0
+            × (pass_view r.0 ≡ lower_part (pass_view self))) }
+        ensures upper { IfOk result (λ r. IsPass (lock_id lock.now) r.1
+            × (pass_view r.1 ≡ upper_part (pass_view self))) }
         ensures more { IfOk result (λ _. 1 < (pass_view self).count) }
         ensures one { IfErr result (λ e. (e.0 ≡ self) × ((pass_view self).count ≡ 1)) }
     {
@@ -78,14 +80,14 @@ impl<T: Logged + Drop> Pass<T> {
         requires neighbours { AreNeighbours (pass_view self) (pass_view other) }
         ensures own { IsPass (lock_id lock.now) result }
         ensures joined { pass_view result
-            ≡ record (joined (pass_view self) (pass_view other)) { end = (pass_view result).end } }
-        ensures end { (joined (pass_view self) (pass_view other)).end ≡ true → (pass_view result).end ≡ true }
+            ≡ record (joined_view (pass_view self) (pass_view other)) { end = (pass_view result).end } }
+        ensures end { (joined_view (pass_view self) (pass_view other)).end ≡ true → (pass_view result).end ≡ true }
         ensures fronts { Begins (pass_view self).front (pass_view result).front
             × Begins (pass_view other).front (pass_view result).front }
         ensures lower { (w : ℕ) → HasNumber (pass_view self) w
-            → own T.log w (pass_view result).front ≡ own T.log w (pass_view self).front }
+            → entries_of_worker T.log w (pass_view result).front ≡ entries_of_worker T.log w (pass_view self).front }
         ensures upper { (w : ℕ) → HasNumber (pass_view other) w
-            → own T.log w (pass_view result).front ≡ own T.log w (pass_view other).front }
+            → entries_of_worker T.log w (pass_view result).front ≡ entries_of_worker T.log w (pass_view other).front }
     {
         let Pass {
             low,

@@ -55,11 +55,11 @@ pub struct Order;
 
 impl<T: Logged> TableRule<Option<T>, ViewOf<T>, Opening<T>> for Order {
     ghost use Rattle.ticket_lock.specs.Lock.{Fits};
-    ghost use Rattle.ticket_lock.specs.Changes.{whole};
+    ghost use Rattle.ticket_lock.specs.Changes.{opening_view};
 
     ghost holds = { λ key. Fits T.log (key.0.value, key.1) };
 
-    ghost first = { λ key. whole T.log key.0.value key.1 };
+    ghost first = { λ key. opening_view T.log key.0.value key.1 };
 }
 
 /// A load, which sees whether the tickets are at their end.
@@ -102,22 +102,22 @@ impl<T: Logged> Play<Option<T>, ViewOf<T>> for Leave {
 pub struct Cut;
 
 impl<T: Logged> Split<ViewOf<T>> for Cut {
-    ghost use Rattle.ticket_lock.specs.Changes.{lower, upper};
+    ghost use Rattle.ticket_lock.specs.Changes.{lower_part, upper_part};
 
-    ghost left = { lower };
+    ghost left = { lower_part };
 
-    ghost right = { upper };
+    ghost right = { upper_part };
 }
 
 /// Two neighbours become one pass.
 pub struct Glue;
 
 impl<T: Logged> Join<ViewOf<T>> for Glue {
-    ghost use Rattle.ticket_lock.specs.Changes.{joined, gone};
+    ghost use Rattle.ticket_lock.specs.Changes.{joined_view, empty_view};
 
-    ghost both = { joined };
+    ghost both = { joined_view };
 
-    ghost spent = { gone };
+    ghost spent = { empty_view };
 }
 
 pub type SeatOf<T> = Seat<Option<T>, ViewOf<T>>;

@@ -1,7 +1,7 @@
 //! Workers that add to a list under a lock.
 ghost use Rattle.std.specs.Prelude.{◌≡◌, ◌≢◌, ℕ, ◌+◌, true, false, [], ◌∷◌, ◌++◌, take, IfOk};
 ghost use Rattle.std.specs.Thread.{IsSync};
-ghost use Rattle.ticket_lock.specs.Log.{own};
+ghost use Rattle.ticket_lock.specs.Log.{entries_of_worker};
 ghost use Rattle.ticket_lock.specs.Lock.{HasNumber};
 ghost use Rattle.ticket_lock.specs.Names.{lock_id, pass_view, IsPass};
 ghost use Rattle.ticket_lock_uses.specs.Items.{items_log, by_worker};
@@ -24,13 +24,15 @@ pub fn add<R: Wait>(
     ensures pass { IsPass (lock_id lock.now) result.0 × ((pass_view result.0).low ≡ (pass_view pass).low)
         × ((pass_view result.0).count ≡ (pass_view pass).count) }
     ensures added { result.1 ≡ true
-        → own items_log (pass_view pass).low (pass_view result.0).front
-        ≡ own items_log (pass_view pass).low (pass_view pass).front ++ ((pass_view pass).low, number) ∷ [] }
+        → entries_of_worker items_log (pass_view pass).low (pass_view result.0).front
+        ≡ entries_of_worker items_log (pass_view pass).low (pass_view pass).front
+        ++ ((pass_view pass).low, number) ∷ [] }
     ensures not { result.1 ≡ false
-        → own items_log (pass_view pass).low (pass_view result.0).front
-        ≡ own items_log (pass_view pass).low (pass_view pass).front }
+        → entries_of_worker items_log (pass_view pass).low (pass_view result.0).front
+        ≡ entries_of_worker items_log (pass_view pass).low (pass_view pass).front }
     ensures others { (w : ℕ) → HasNumber (pass_view pass) w → w ≢ (pass_view pass).low
-        → own items_log w (pass_view result.0).front ≡ own items_log w (pass_view pass).front }
+        → entries_of_worker items_log w (pass_view result.0).front
+        ≡ entries_of_worker items_log w (pass_view pass).front }
 {
     let worker = pass.number();
     match lock.take(rt, pass) {
@@ -52,11 +54,12 @@ pub fn add_all<R: Wait>(
     requires { IsPass (lock_id lock.now) pass }
     ensures pass { IsPass (lock_id lock.now) result.0 × ((pass_view result.0).low ≡ (pass_view pass).low)
         × ((pass_view result.0).count ≡ (pass_view pass).count) }
-    ensures added { own items_log (pass_view pass).low (pass_view result.0).front
-        ≡ own items_log (pass_view pass).low (pass_view pass).front
+    ensures added { entries_of_worker items_log (pass_view pass).low (pass_view result.0).front
+        ≡ entries_of_worker items_log (pass_view pass).low (pass_view pass).front
         ++ by_worker (pass_view pass).low (take result.1 numbers.now) }
     ensures others { (w : ℕ) → HasNumber (pass_view pass) w → w ≢ (pass_view pass).low
-        → own items_log w (pass_view result.0).front ≡ own items_log w (pass_view pass).front }
+        → entries_of_worker items_log w (pass_view result.0).front
+        ≡ entries_of_worker items_log w (pass_view pass).front }
 {
     for (count, number) in numbers.iter().enumerate() {
         let (back, added) = add(rt, lock, pass, *number);
@@ -76,8 +79,8 @@ pub fn two<R: Threads + Wait + Sync>(
     second: &[u64],
 ) -> Result<(Items, usize, usize), AllocError>
     requires { IsSync R.row }
-    ensures first { IfOk result (λ r. own items_log 1 r.0 ≡ by_worker 1 (take r.1 first.now)) }
-    ensures second { IfOk result (λ r. own items_log 2 r.0 ≡ by_worker 2 (take r.2 second.now)) }
+    ensures first { IfOk result (λ r. entries_of_worker items_log 1 r.0 ≡ by_worker 1 (take r.1 first.now)) }
+    ensures second { IfOk result (λ r. entries_of_worker items_log 2 r.0 ≡ by_worker 2 (take r.2 second.now)) }
 {
     let (lock, pass) = TicketLock::new(Items::new(alloc), alloc)?;
     let Ok((one, two)) = pass.split(&lock) else {
@@ -91,14 +94,16 @@ pub fn two<R: Threads + Wait + Sync>(
                 × ((pass_view one).count ≡ 1) × ((pass_view one).front ≡ []) }
             ensures { IsPass (lock_id shared.entry.now) result.0 × ((pass_view result.0).low ≡ 1)
                 × ((pass_view result.0).count ≡ 1)
-                × (own items_log 1 (pass_view result.0).front ≡ by_worker 1 (take result.1 first.entry.now)) }
+                × (entries_of_worker items_log 1 (pass_view result.0).front
+                ≡ by_worker 1 (take result.1 first.entry.now)) }
         { add_all(rt, shared, one, first) },
         move || -> (Pass<Items>, usize)
             requires { IsSync R.row × IsPass (lock_id shared.now) two × ((pass_view two).low ≡ 2)
                 × ((pass_view two).count ≡ 63) × ((pass_view two).front ≡ []) }
             ensures { IsPass (lock_id shared.entry.now) result.0 × ((pass_view result.0).low ≡ 2)
                 × ((pass_view result.0).count ≡ 63)
-                × (own items_log 2 (pass_view result.0).front ≡ by_worker 2 (take result.1 second.entry.now)) }
+                × (entries_of_worker items_log 2 (pass_view result.0).front
+                ≡ by_worker 2 (take result.1 second.entry.now)) }
         { add_all(rt, shared, two, second) },
     );
     let pass = one.join(&lock, two);

@@ -3,7 +3,7 @@ use Rattle.std.proofs.Common.{◌≡◌, ℕ, suc, ◌+◌, ◌<◌, ◌≤◌, 
 use Rattle.std.proofs.Common.{subst, ◌∙◌, arith}
 use Rattle.std.specs.Int.{w32}
 use Rattle.std.proofs.lemmas.List.{take_more, take_all}
-use Rattle.byte_layout.specs.Layout.{Layout, number, each, counted}
+use Rattle.byte_layout.specs.Layout.{Layout, number, each, list_with_count}
 use Rattle.byte_layout.proofs.Fields.{number_good, number_below}
 use Rattle.byte_layout.proofs.Lists.{each_length, each_push}
 use Rattle.byte_layout.proofs.Written.{may_write}
@@ -30,7 +30,7 @@ one_more {A = A} p xs i x lt item good so_far =
 -- where all have, the list has
 pub all_good : {A : Type 0} (p : Layout A) (xs : List A) (i : ℕ) → length xs < 4294967296 → length xs ≤ i
     → AreGood p xs i
-    → (counted (number w32) (λ before. p)).Good xs
+    → (list_with_count (number w32) (λ before. p)).Good xs
 all_good {A = A} p xs i short le so_far =
     let whole : take i xs ≡ xs = take_all i xs le in
     let good : (each (λ before. p) i []).Good xs =
@@ -40,10 +40,10 @@ all_good {A = A} p xs i short le so_far =
 
 -- in a list that has bytes, each item has
 pub item_good : {A : Type 0} (p : Layout A) (xs : List A) (i : ℕ) (x : A) → i < length xs → x ≡ get_or xs i x
-    → (counted (number w32) (λ before. p)).Good xs → p.Good x
+    → (list_with_count (number w32) (λ before. p)).Good xs → p.Good x
 item_good p xs i x lt item good = may_write (λ before. p) xs i x good.1 lt item
 
 -- and it is not too long
-pub count_below : {A : Type 0} (p : Layout A) (xs : List A) → (counted (number w32) (λ before. p)).Good xs
+pub count_below : {A : Type 0} (p : Layout A) (xs : List A) → (list_with_count (number w32) (λ before. p)).Good xs
     → length xs < 4294967296
 count_below p xs good = number_below w32 (length xs) good.0

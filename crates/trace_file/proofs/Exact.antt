@@ -5,7 +5,7 @@ use Rattle.std.specs.Int.{w8, w16, w32}
 use Rattle.std.proofs.lemmas.Bool.{ltb-true}
 use Rattle.std.proofs.lemmas.Bool.Decides.{nat_tests}
 use Rattle.byte_layout.specs.declared.fault.Break.TheVariants.{Magic, Version, BadField}
-use Rattle.byte_layout.specs.Layout.{Layout, number, judged, split, last, marked, sized}
+use Rattle.byte_layout.specs.Layout.{Layout, number, layout_with_test, split, last, after_mark, bytes_with_length}
 use Rattle.byte_layout.specs.Exact.{IsExact}
 use Rattle.byte_layout.proofs.Fields.{byte_exact, short_exact, long_exact}
 use Rattle.byte_layout.proofs.Layouts.{fits_exact, split_exact, last_exact, sized_exact, marked_exact}
@@ -13,9 +13,8 @@ use Rattle.byte_layout.proofs.Lists.{counted_exact}
 use Rattle.device_machine.specs.declared.output.Output.{Output}
 use Rattle.device_machine.specs.declared.output.Output.TheVariants as outputs
 use Rattle.trace_file.specs.declared.entry.Entry.{Entry}
-use Rattle.trace_file.specs.Layout.{act_number, act_numbered, act, output_kind, server_in, bytes_in, act_in, acted}
-use Rattle.trace_file.specs.Layout.{datagram}
-use Rattle.trace_file.specs.Layout.{of_kind, output, output_list, entry_of, entry, entry_list, trace_file}
+use Rattle.trace_file.specs.Layout.{act_number, act_numbered, act, output_kind, server_in, bytes_in, act_in, act_output}
+use Rattle.trace_file.specs.Layout.{datagram, of_kind, output, output_list, entry_of, entry, entry_list, trace_file}
 
 numbered : (n : ℕ) → n < 5 → act_number (act_numbered n) ≡ n
 numbered zero below = refl
@@ -28,7 +27,7 @@ numbered (suc (suc (suc (suc (suc n))))) below = absurd (omega arith)
 act_exact : IsExact act
 unfolding act
 act_exact =
-    last_exact act_number act_numbered (judged BadField (λ n. nat_lt n 5) (number w8))
+    last_exact act_number act_numbered (layout_with_test BadField (λ n. nat_lt n 5) (number w8))
     (fits_exact (λ n. nat_lt n 5) (number w8) byte_exact)
     (λ n good. numbered n (ltb-true n 5 good.1))
 
@@ -36,12 +35,12 @@ datagram_exact : IsExact datagram
 unfolding datagram
 datagram_exact =
     split_exact server_in (number w16) (λ server. last bytes_in (λ bytes. outputs.Send server bytes)
-    (sized (number w16))) short_exact
-    (λ server good. last_exact bytes_in (λ bytes. outputs.Send server bytes) (sized (number w16))
+    (bytes_with_length (number w16))) short_exact
+    (λ server good. last_exact bytes_in (λ bytes. outputs.Send server bytes) (bytes_with_length (number w16))
     (sized_exact (number w16) short_exact) (λ bytes ok. refl))
     (λ server good o h. ap server_in h.1)
 
-acted_exact : IsExact acted
+acted_exact : IsExact act_output
 acted_exact = last_exact act_in (λ a. outputs.Act a) act act_exact (λ a ok. refl)
 
 of_kind_exact : (k : ℕ) → IsExact (of_kind k)
@@ -63,7 +62,7 @@ kind_agrees (suc (suc (suc n))) known o h = absurd (let e : true ≡ false = sym
 pub output_exact : IsExact output
 unfolding output
 output_exact =
-    split_exact output_kind (judged BadField (λ n. n == 1 || n == 2) (number w8)) of_kind
+    split_exact output_kind (layout_with_test BadField (λ n. n == 1 || n == 2) (number w8)) of_kind
     (fits_exact (λ n. n == 1 || n == 2) (number w8) byte_exact)
     (λ k good. of_kind_exact k)
     (λ k good o h. kind_agrees k good.1 o h)
@@ -102,5 +101,5 @@ entry_list_exact = counted_exact (number w32) (λ before. entry) long_exact (λ 
 pub trace_file_exact : IsExact trace_file
 unfolding trace_file
 trace_file_exact =
-    marked_exact Magic refl 0x4C575452 (number w32) (marked Version 1 (number w8) entry_list) long_exact
+    marked_exact Magic refl 0x4C575452 (number w32) (after_mark Version 1 (number w8) entry_list) long_exact
     (marked_exact Version refl 1 (number w8) entry_list byte_exact entry_list_exact)

@@ -2,7 +2,7 @@
 use Rattle.std.proofs.Common.{◌≡◌, ℕ, suc, ◌<◌, List, [], ◌∷◌, ◌++◌, length, Some, refl}
 use Rattle.std.specs.List.{slice_get}
 use Rattle.std.specs.Int.{w16, w32}
-use Rattle.byte_layout.specs.Layout.{Layout, number, each, counted}
+use Rattle.byte_layout.specs.Layout.{Layout, number, each, list_with_count}
 use Rattle.byte_layout.proofs.Fields.{number_good, number_below}
 use Rattle.byte_layout.proofs.Lists.{each_at}
 use Rattle.device_machine.specs.declared.output.Output.{Output}
@@ -19,10 +19,11 @@ each_good p before [] h = refl
 each_good p before (y ∷ ys) h = (h 0 y refl, each_good p (before ++ y ∷ []) ys (λ i x at. h (suc i) x at))
 
 counted_good : {A : Type 0} (p : Layout A) (xs : List A) → length xs < 4294967296
-    → ((i : ℕ) (x : A) → slice_get xs i ≡ Some x → p.Good x) → (counted (number w32) (λ b. p)).Good xs
+    → ((i : ℕ) (x : A) → slice_get xs i ≡ Some x → p.Good x) → (list_with_count (number w32) (λ b. p)).Good xs
 counted_good p xs short h = (number_good w32 (length xs) short, each_good p [] xs h)
 
-counted_at : {A : Type 0} (p : Layout A) (xs : List A) → (counted (number w32) (λ b. p)).Good xs → (i : ℕ) (x : A)
+counted_at : {A : Type 0} (p : Layout A) (xs : List A) → (list_with_count (number w32) (λ b. p)).Good xs
+    → (i : ℕ) (x : A)
     → slice_get xs i ≡ Some x → p.Good x
 counted_at p xs good i x at = each_at (λ b. p) (length xs) [] xs good.1 i x at
 

@@ -8,21 +8,21 @@ use Rattle.byte_layout.specs.declared.fault.Break.{Break}
 use Rattle.byte_layout.specs.declared.fault.Break.TheVariants.{Magic, Version, Cut, Trailing}
 use Rattle.byte_layout.specs.declared.fault.ReadError.{ReadError}
 use Rattle.byte_layout.specs.declared.fault.ReadError.TheVariants as errors
-use Rattle.byte_layout.specs.Layout.{Layout, ◌>>=◌, raw, number, mark, marked, split, last, each}
+use Rattle.byte_layout.specs.Layout.{Layout, ◌>>=◌, raw, number, mark, after_mark, split, last, each}
 use Rattle.byte_layout.specs.Outcome.{Fails}
 use Rattle.byte_layout.specs.Exact.{IsExact}
-use Rattle.byte_layout.specs.Whole.{placed, fault_of, read_all}
+use Rattle.byte_layout.specs.Whole.{fault_of_break, fault_of, read_all}
 use Rattle.byte_layout.proofs.Steps.{went_well, bind_err, barred_err}
 use Rattle.byte_layout.proofs.Fields.{raw_exact, number_exact, wide8, wide32}
 use Rattle.byte_layout.proofs.Layouts.{split_exact, last_exact, marked_exact}
 use Rattle.trace_file.specs.declared.entry.Entry.{Entry}
-use Rattle.trace_file.specs.Layout.{output, output_list, entry, entry_of, entry_list, headed, trace_file, numbers_of}
-use Rattle.trace_file.specs.Layout.{first_numbers, front}
+use Rattle.trace_file.specs.Layout.{output, output_list, entry, entry_of, entry_list, after_header, trace_file}
+use Rattle.trace_file.specs.Layout.{numbers_of, first_numbers, front}
 
 -- a break of the mark, of the version or of the part is one of each part that has its breaks
 headed_off : {A B : Type 0} (p : Layout A) (q : Layout B) (bytes : List ℕ) (b : Break)
-    → ((rest : List ℕ) → p.read rest ≡ Err b → q.read rest ≡ Err b) → (headed p).read bytes ≡ Err b
-    → (headed q).read bytes ≡ Err b
+    → ((rest : List ℕ) → p.read rest ≡ Err b → q.read rest ≡ Err b) → (after_header p).read bytes ≡ Err b
+    → (after_header q).read bytes ≡ Err b
 headed_off p q bytes b within e =
     let first = mark Magic 0x4C575452 (number w32) in
     let second = mark Version 1 (number w8) in
@@ -119,7 +119,7 @@ first_numbers_exact =
 front_exact : IsExact front
 unfolding front
 front_exact =
-    marked_exact Magic refl 0x4C575452 (number w32) (marked Version 1 (number w8) first_numbers)
+    marked_exact Magic refl 0x4C575452 (number w32) (after_mark Version 1 (number w8) first_numbers)
     (number_exact w32 wide32)
     (marked_exact Version refl 1 (number w8) first_numbers (number_exact w8 wide8) first_numbers_exact)
 
@@ -133,9 +133,10 @@ front_fails bytes (errors.Fault b) h =
 
 -- it is the break of the front, unless memory ran out
 pub front_broke : (bytes : List ℕ) (total : ℕ) (e : ReadError) (b : Break) → e ≢ errors.Memory
-    → Fails e (front.read bytes) → front.Breaks bytes b → fault_of total e ≡ placed total b
+    → Fails e (front.read bytes) → front.Breaks bytes b → fault_of total e ≡ fault_of_break total b
 front_broke bytes total errors.Memory b other h k = absurd (other refl)
-front_broke bytes total (errors.Fault c) b other h k = let e = front_exact.refused bytes b k in ap (placed total) cc
+front_broke bytes total (errors.Fault c) b other h k = let e =
+    front_exact.refused bytes b k in ap (fault_of_break total) cc
 
 -- a front that is read does not break off
 pub front_whole : (bytes rest : List ℕ) (x : ℕ × List ℕ) (b : Break) → front.read bytes ≡ Ok (x, rest)

@@ -2,7 +2,8 @@
 use Rattle.std.specs.Prelude.{ℕ, zero, suc, ◌==◌, ◌||◌, List, [], nat_lt, if◌then◌else◌}
 use Rattle.std.specs.Int.{w8, w16, w32}
 use Rattle.byte_layout.specs.declared.fault.Break.TheVariants.{Magic, Version, BadField}
-use Rattle.byte_layout.specs.Layout.{Layout, raw, number, judged, split, last, marked, done, sized, counted}
+use Rattle.byte_layout.specs.Layout.{Layout, raw, number, layout_with_test, split, last, after_mark, constant_layout}
+use Rattle.byte_layout.specs.Layout.{bytes_with_length, list_with_count}
 use Rattle.byte_layout.specs.Whole.{IsAll}
 use Rattle.device_requests.specs.declared.answer.Act.{Act}
 use Rattle.device_requests.specs.declared.answer.Act.TheVariants as acts
@@ -28,7 +29,7 @@ act_numbered n =
 
 -- an act's number, below 5
 unfoldable pub act : Layout Act
-act = last act_number act_numbered (judged BadField (λ n. nat_lt n 5) (number w8))
+act = last act_number act_numbered (layout_with_test BadField (λ n. nat_lt n 5) (number w8))
 
 -- ---- outputs
 
@@ -53,25 +54,25 @@ act_in _ = acts.Missed
 -- a server, any, and a datagram with two bytes of length
 unfoldable pub datagram : Layout Output
 datagram = split server_in (number w16) (λ server. last bytes_in (λ bytes. outputs.Send server bytes)
-    (sized (number w16)))
+    (bytes_with_length (number w16)))
 
 -- an act
-abbrev pub acted : Layout Output
-acted = last act_in (λ a. outputs.Act a) act
+abbrev pub act_output : Layout Output
+act_output = last act_in (λ a. outputs.Act a) act
 
 -- what stands after the number of a kind: 1 a datagram, any other an act
 abbrev pub of_kind : ℕ → Layout Output
-of_kind zero = acted
+of_kind zero = act_output
 of_kind (suc zero) = datagram
-of_kind (suc (suc n)) = acted
+of_kind (suc (suc n)) = act_output
 
 -- the number of its kind, 1 or 2, and what an output of that kind holds
 unfoldable pub output : Layout Output
-output = split output_kind (judged BadField (λ n. n == 1 || n == 2) (number w8)) of_kind
+output = split output_kind (layout_with_test BadField (λ n. n == 1 || n == 2) (number w8)) of_kind
 
 -- four bytes of count, and that many outputs
 unfoldable pub output_list : Layout (List Output)
-output_list = counted (number w32) (λ before. output)
+output_list = list_with_count (number w32) (λ before. output)
 
 -- ---- entries
 
@@ -86,19 +87,19 @@ entry = split (λ e. e.worker) (number w16)
 
 -- four bytes of count, and that many entries
 unfoldable pub entry_list : Layout (List Entry)
-entry_list = counted (number w32) (λ before. entry)
+entry_list = list_with_count (number w32) (λ before. entry)
 
 -- the file's mark and version, and this
-abbrev pub headed : {A : Type 0} → Layout A → Layout A
-headed part = marked Magic 0x4C575452 (number w32) (marked Version 1 (number w8) part)
+abbrev pub after_header : {A : Type 0} → Layout A → Layout A
+after_header part = after_mark Magic 0x4C575452 (number w32) (after_mark Version 1 (number w8) part)
 
 -- the mark and the version alone
 abbrev pub header : Layout (Unit {0})
-header = headed (done tt)
+header = after_header (constant_layout tt)
 
 -- the file's mark and version, and the entries
 unfoldable pub trace_file : Layout (List Entry)
-trace_file = headed entry_list
+trace_file = after_header entry_list
 
 -- the bytes of an entry before its outputs: two each for worker and device, four each for the step and the count
 abbrev pub numbers_of : ℕ → Layout (List ℕ)
@@ -110,7 +111,7 @@ first_numbers = split (λ x. x.0) (number w32) (λ count. last (λ x. x.1) (λ b
 
 -- the file's front: the mark, the version, how many entries there are, and the numbers of the first of them
 unfoldable pub front : Layout (ℕ × List ℕ)
-front = headed first_numbers
+front = after_header first_numbers
 
 -- the bytes are a trace file of these entries
 abbrev pub IsTraceFile : List ℕ → List Entry → Type 0

@@ -6,7 +6,7 @@ ghost use Rattle.byte_layout.specs.declared.fault.LayoutFault.{LayoutFault};
 ghost use Rattle.byte_layout.specs.declared.fault.LayoutFault.TheVariants.{Memory};
 ghost use Rattle.byte_layout.specs.declared.fault.ReadError.TheVariants as errors;
 ghost use Rattle.byte_layout.specs.Outcome.{Gives};
-ghost use Rattle.byte_layout.specs.Whole.{HasFault, placed};
+ghost use Rattle.byte_layout.specs.Whole.{HasFault, fault_of_break};
 ghost use Rattle.trace_file.specs.declared.entry.Entry.{Entry as EntryData};
 ghost use Rattle.trace_file.specs.Layout.{act, datagram, output, output_list, entry, entry_list, header, trace_file};
 ghost use Rattle.trace_file.specs.Layout.{front, IsTraceFile};
@@ -204,7 +204,7 @@ pub fn read_entries(alloc: Global, bytes: &[u8]) -> Result<Entries, LayoutFault>
         → MatchResult result (λ x. x ≡ es) (λ f. f ≡ Memory) }
     ensures fault { IfErr result (λ f. f ≢ Memory → HasFault trace_file bytes.now f) }
     ensures refused { (f : LayoutFault) → HasFault trace_file bytes.now f → IsErrAnd result (λ g. g ≢ Memory → g ≡ f) }
-    ensures front { (b : Break) → front.Breaks bytes.now b → result ≡ Err (placed (length bytes.now) b) }
+    ensures front { (b : Break) → front.Breaks bytes.now b → result ≡ Err (fault_of_break (length bytes.now) b) }
 {
     // Another file, and one that ends in its first entry, is refused by its front, before memory is taken.
     match front_at(bytes) {

@@ -16,8 +16,8 @@ use Rattle.std.proofs.Common.{◌++◌, codes, option_map}
 use Rattle.serde_json.specs.Data.{depth, items_depth, members_depth, string}
 use Rattle.serde_json.specs.Read.{max_depth}
 use Rattle.serde_json.specs.View.{items_of}
-use Rattle.trace_json.specs.Answers.{Differing, case_json, counts_json, differing_fields, done_json, end_json, one_json}
-use Rattle.trace_json.specs.Answers.{stalled_json, texts_json}
+use Rattle.trace_json.specs.Answers.{StatedDifference, case_json, counts_json, differing_fields, done_json, end_json}
+use Rattle.trace_json.specs.Answers.{one_json, stalled_json, texts_json}
 use Rattle.trace_json.specs.Entries.{entry_json, head_json}
 use Rattle.trace_json.specs.Json.{Field, fields_json, number_json}
 use Rattle.trace_json.specs.Notes.{if_there, verdict_json}
@@ -108,17 +108,17 @@ line_depth : (o : Option ℕ) (fs : List Field) → members_depth (fields_json f
 line_depth None fs h = h
 line_depth (Some n) fs h = omega (arith, h)
 
-differing_depth : (o : Option Differing) → members_depth (fields_json (differing_fields o)) ≤ 1
+differing_depth : (o : Option StatedDifference) → members_depth (fields_json (differing_fields o)) ≤ 1
 differing_depth None = omega arith
 differing_depth (Some d) =
     line_depth d.line ((codes "stated", string d.stated) ∷ (codes "came", texts_json d.came) ∷ [])
     (omega (arith, texts_depth d.came))
 
-case_depth : (title file : List ℕ) (o : Option Differing) → depth (case_json title file o) ≤ max_depth
+case_depth : (title file : List ℕ) (o : Option StatedDifference) → depth (case_json title file o) ≤ max_depth
 unfolding case_json
 case_depth title file o = omega (arith, differing_depth o)
 
-pub case_again : (title file : List ℕ) (o : Option Differing) → Has64Bits (case_json title file o)
+pub case_again : (title file : List ℕ) (o : Option StatedDifference) → Has64Bits (case_json title file o)
     → IsReadAgain (case_json title file o)
 case_again title file o exact = read_again (case_json title file o) exact (case_depth title file o)
 

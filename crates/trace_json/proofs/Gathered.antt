@@ -6,7 +6,7 @@ use Rattle.lemmas.proofs.Lists.{each_appended}
 use Rattle.scenario_image.specs.Scenario.{Scenario}
 use Rattle.trace_file.specs.declared.entry.Entry.{Entry}
 use Rattle.trace_text.specs.declared.selection.Selection.{Selection}
-use Rattle.trace_text.specs.Selection.{is_selected, numbered_entries, selected}
+use Rattle.trace_text.specs.Selection.{is_selected, numbered_entries, selected_entries}
 use Rattle.std.specs.List.{AllByRecursion, flat_map}
 use Rattle.serde_json.specs.Data.{Data}
 use Rattle.serde_json.specs.Written.{compact_text}
@@ -44,7 +44,8 @@ one_more false f p ps = refl
 parted : (s : Scenario) (sel : Selection) (n : ℕ) (e : Entry) (es : List Entry)
     → selected_json s sel n (e ∷ es) ≡ selected_json s sel n (e ∷ []) ++ selected_json s sel (n + 1) es
 parted s sel n e es =
-    one_more (is_selected sel n e) (λ p. entry_json s p.0 p.1) (n, e) (selected sel (numbered_entries (n + 1) es))
+    one_more (is_selected sel n e) (λ p. entry_json s p.0 p.1) (n, e)
+    (selected_entries sel (numbered_entries (n + 1) es))
 
 pub text_grows : (s : Scenario) (sel : Selection) (n : ℕ) (e : Entry) (rest more : List Entry) (old new whole : List ℕ)
     → rest ≡ e ∷ more → new ≡ old ++ json_lines (selected_json s sel n (e ∷ []))

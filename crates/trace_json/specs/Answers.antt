@@ -35,7 +35,7 @@ one_json outputs = object_json ((codes "version", number_json 1) ∷ (codes "out
 -- ---- cases
 
 -- what a case states that does not hold
-pub record Differing : Type 0 where
+pub record StatedDifference : Type 0 where
   -- the line of its file
   pub line : Option ℕ
   -- what stands there
@@ -46,19 +46,19 @@ pub record Differing : Type 0 where
 abbrev pub texts_json : List (List ℕ) → Data
 texts_json texts = list_json (map string texts)
 
-abbrev pub differing_fields : Option Differing → List Field
+abbrev pub differing_fields : Option StatedDifference → List Field
 differing_fields None = []
 differing_fields (Some d) =
     if_there (codes "line") (option_map number_json d.line)
     ++ ((codes "stated", string d.stated) ∷ (codes "came", texts_json d.came) ∷ [])
 
 -- it holds if nothing differs
-abbrev pub holds_if : Option Differing → Bool
+abbrev pub holds_if : Option StatedDifference → Bool
 holds_if None = true
 holds_if (Some d) = false
 
 -- a case of this title and file, and what differs, if something does
-unfoldable pub case_json : List ℕ → List ℕ → Option Differing → Data
+unfoldable pub case_json : List ℕ → List ℕ → Option StatedDifference → Data
 case_json title file difference =
     object_json
     ((codes "title", string title) ∷ (codes "file", string file) ∷ (codes "holds", boolean (holds_if difference))
@@ -70,5 +70,5 @@ counts_json cases differ =
     object_json ((codes "cases", number_json cases) ∷ (codes "differ", number_json differ) ∷ [])
 
 -- the texts that a difference refers to
-abbrev pub differing_of : CaseDifference → Differing
+abbrev pub differing_of : CaseDifference → StatedDifference
 differing_of d = record { line = d.line; stated = d.stated.now; came = map (λ w. string_bytes w) d.came.now }

@@ -6,7 +6,7 @@ use Rattle.fleet_core.specs.Run.{step_at}
 use Rattle.trace_text.specs.declared.selection.Selection.{Selection}
 use Rattle.trace_text.specs.Lines.{step_words}
 use Rattle.trace_text.specs.Seconds.{second_at}
-use Rattle.trace_text.specs.Selection.{numbered_entries, selected}
+use Rattle.trace_text.specs.Selection.{numbered_entries, selected_entries}
 use Rattle.serde_json.specs.Data.{Data, string}
 use Rattle.trace_json.specs.Json.{number_json, object_json}
 use Rattle.trace_json.specs.Steps.{event_json, outputs_json}
@@ -31,7 +31,7 @@ entry_json s number e =
 
 -- the objects of those of the entries that are selected, in their order; the first entry has this number
 abbrev pub selected_json : Scenario → Selection → ℕ → List Entry → List Data
-selected_json s sel number es = map (λ p. entry_json s p.0 p.1) (selected sel (numbered_entries number es))
+selected_json s sel number es = map (λ p. entry_json s p.0 p.1) (selected_entries sel (numbered_entries number es))
 
 -- what begins a trace, with the counts of the whole trace, and the objects of the selected entries
 abbrev pub trace_json : Scenario → Selection → List Entry → List Data

@@ -5,7 +5,7 @@ ghost use Rattle.std.specs.List.{AllByRecursion};
 ghost use Rattle.scenario_image.specs.Scenario.{IsValid, Scenario};
 ghost use Rattle.trace_file.specs.declared.entry.Entry.{Entry};
 ghost use Rattle.trace_text.specs.declared.selection.Selection.{Selection};
-ghost use Rattle.trace_text.specs.Selection.{numbered_entries, selected};
+ghost use Rattle.trace_text.specs.Selection.{numbered_entries, selected_entries};
 ghost use Rattle.trace_json.specs.Entries.{entry_json, trace_json};
 ghost use Rattle.trace_json.specs.Json.{by_key};
 ghost use Rattle.trace_json.specs.Members.{TellsEntry, IsSameEntry, SendsBytes};
@@ -26,5 +26,5 @@ pub fn lines_tell_entries()
 /// There are as many lines as selected entries, and one more.
 pub fn lines_are_counted()
     ensures { (s : Scenario) (sel : Selection) (es : List Entry)
-        → length (trace_json s sel es) ≡ length (selected sel (numbered_entries 0 es)) + 1 }
+        → length (trace_json s sel es) ≡ length (selected_entries sel (numbered_entries 0 es)) + 1 }
 {}

@@ -15,7 +15,7 @@ use Rattle.udp_capture.specs.Capture.{CapturedPacket, FitsPacket, packet_record}
 use Rattle.trace_pcap.specs.declared.writer.Writer.{Writer}
 use Rattle.trace_pcap.specs.Transmissions.{Transmission, arrival, sending, second_after, entry_transmissions}
 use Rattle.trace_pcap.specs.Packets.{destination_of, packet_of, packets_from, source_of}
-use Rattle.trace_pcap.specs.Written.{Written}
+use Rattle.trace_pcap.specs.Written.{AreWritten}
 
 pub packets-append : (n : ℕ) (ts us : List Transmission)
     → packets_from n (ts ++ us) ≡ packets_from n ts ++ packets_from (n + length ts) us
@@ -46,7 +46,7 @@ all-append : (ps qs : List CapturedPacket) → AllByRecursion FitsPacket ps → 
 all-append [] qs fp fq = fq
 all-append (p ∷ ps) qs fp fq = (fp.0, all-append ps qs fp.1 fq)
 
-pub none_written : (a : Writer) → Written a a []
+pub none_written : (a : Writer) → AreWritten a a []
 none_written a = record {
   fit = tt;
   bytes = sym (append-nil a.out.items);
@@ -55,15 +55,15 @@ none_written a = record {
 
 pub one_written : (a b : Writer) (t : Transmission) → FitsPacket (packet_of a.microseconds t)
     → b.out.items ≡ a.out.items ++ packet_record (packet_of a.microseconds t)
-    → b.microseconds ≡ min (a.microseconds + 1) 999999 → Written a b (t ∷ [])
+    → b.microseconds ≡ min (a.microseconds + 1) 999999 → AreWritten a b (t ∷ [])
 one_written a b t fits bytes counted = record {
   fit = (fits, tt);
   bytes = bytes ∙ ap (λ l. a.out.items ++ l) (sym (append-nil (packet_record (packet_of a.microseconds t))));
   counted = omega (arith, counted);
 }
 
-pub then_written : (a b c : Writer) (ts us : List Transmission) → Written a b ts → Written b c us
-    → Written a c (ts ++ us)
+pub then_written : (a b c : Writer) (ts us : List Transmission) → AreWritten a b ts → AreWritten b c us
+    → AreWritten a c (ts ++ us)
 then_written a b c ts us first second =
     let behind : packets_from b.microseconds us ≡ packets_from (a.microseconds + length ts) us =
     same_packets b.microseconds (a.microseconds + length ts) us first.counted in
@@ -85,26 +85,26 @@ then_written a b c ts us first second =
 
 -- one part more, and all parts
 pub part_written : {X : Type 0} (f : X → List Transmission) (xs : List X) (i : ℕ) (x : X) (a b c : Writer)
-    → i < length xs → x ≡ get_or xs i x → Written a b (flat_map f (take i xs)) → Written b c (f x)
-    → Written a c (flat_map f (take (i + 1) xs))
+    → i < length xs → x ≡ get_or xs i x → AreWritten a b (flat_map f (take i xs)) → AreWritten b c (f x)
+    → AreWritten a c (flat_map f (take (i + 1) xs))
 part_written f xs i x a b c within is so_far more =
     let longer : flat_map f (take (i + 1) xs) ≡ flat_map f (take i xs) ++ f x =
     ap (flat_map f) (take_more xs i x within) ∙ flat_map-append f (take i xs) (get_or xs i x ∷ [])
     ∙ ap (λ l. flat_map f (take i xs) ++ l) (append-nil (f (get_or xs i x)) ∙ ap f (sym is)) in
-    subst (Written a c) (sym longer) (then_written a b c (flat_map f (take i xs)) (f x) so_far more)
+    subst (AreWritten a c) (sym longer) (then_written a b c (flat_map f (take i xs)) (f x) so_far more)
 
 pub parts_written : {X : Type 0} (f : X → List Transmission) (xs : List X) (i : ℕ) (a b : Writer) → length xs ≤ i
-    → Written a b (flat_map f (take i xs)) → Written a b (flat_map f xs)
+    → AreWritten a b (flat_map f (take i xs)) → AreWritten a b (flat_map f xs)
 parts_written f xs i a b end so_far =
-    subst (λ l. Written a b (flat_map f l)) (take_all i xs end) so_far
+    subst (λ l. AreWritten a b (flat_map f l)) (take_all i xs end) so_far
 
 -- an entry: what arrives in its step, and then what is sent
 pub entry_written : (s : Scenario) (e : Entry) (a b c : Writer) (second : ℕ) (step : Option Step) (os : List Output)
     → second ≡ second_after s e → step ≡ step_at s e.device e.step → os ≡ e.outputs
-    → Written a b (arrival second e.device step) → Written b c (flat_map (sending second e.device) os)
-    → Written a c (entry_transmissions s e)
+    → AreWritten a b (arrival second e.device step) → AreWritten b c (flat_map (sending second e.device) os)
+    → AreWritten a c (entry_transmissions s e)
 entry_written s e a b c second step os at there outputs first then =
-    subst (λ ts. Written a c ts)
+    subst (λ ts. AreWritten a c ts)
     (ap (λ x. arrival second e.device x ++ flat_map (sending second e.device) os) there
     ∙ ap (λ l. arrival second e.device (step_at s e.device e.step) ++ flat_map (sending second e.device) l) outputs
     ∙ ap (λ n. arrival n e.device (step_at s e.device e.step) ++ flat_map (sending n e.device) e.outputs) at)

@@ -6,7 +6,7 @@ use Rattle.udp_capture.specs.declared.envelope.Endpoint.{Endpoint}
 use Rattle.udp_capture.specs.Capture.{CapturedPacket, FitsEndpoint, FitsPacket, most_payload}
 use Rattle.udp_capture.proofs.Words.{bytes_are}
 use Rattle.trace_pcap.specs.Ends.{server_end, device_end}
-use Rattle.trace_pcap.specs.Transmissions.{Transmission, received, sent}
+use Rattle.trace_pcap.specs.Transmissions.{Transmission, received_transmission, sent_transmission}
 use Rattle.trace_pcap.specs.Packets.{packet_of}
 
 server_fits : (s : ℕ) → s < 65536 → FitsEndpoint (server_end s)
@@ -17,7 +17,7 @@ device_fits d fits = record { address = omega arith; port = omega arith }
 
 pub received_fits : (n second device server : ℕ) (bytes : List ℕ) → second < 2 ^ 32 → device < 65536 → server < 65536
     → length bytes ≤ most_payload → ((i : ℕ) → get_or bytes i 0 < 256)
-    → FitsPacket (packet_of n (received second device server bytes))
+    → FitsPacket (packet_of n (received_transmission second device server bytes))
 received_fits n second device server bytes fs fd fv few fit = record {
   seconds = fs;
   microseconds = omega arith;
@@ -29,7 +29,7 @@ received_fits n second device server bytes fs fd fv few fit = record {
 
 pub sent_fits : (n second device server : ℕ) (bytes : List ℕ) → second < 2 ^ 32 → device < 65536 → server < 65536
     → length bytes ≤ most_payload → ((i : ℕ) → get_or bytes i 0 < 256)
-    → FitsPacket (packet_of n (sent second device server bytes))
+    → FitsPacket (packet_of n (sent_transmission second device server bytes))
 sent_fits n second device server bytes fs fd fv few fit = record {
   seconds = fs;
   microseconds = omega arith;

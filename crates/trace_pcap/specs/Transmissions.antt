@@ -20,18 +20,18 @@ pub record Transmission : Type 0 where
   pub is_received : Bool
   pub bytes : List ℕ
 
-abbrev pub received : ℕ → ℕ → ℕ → List ℕ → Transmission
-received second device server bytes =
+abbrev pub received_transmission : ℕ → ℕ → ℕ → List ℕ → Transmission
+received_transmission second device server bytes =
     record { second = second; device = device; server = server; is_received = true; bytes = bytes }
 
-abbrev pub sent : ℕ → ℕ → ℕ → List ℕ → Transmission
-sent second device server bytes =
+abbrev pub sent_transmission : ℕ → ℕ → ℕ → List ℕ → Transmission
+sent_transmission second device server bytes =
     record { second = second; device = device; server = server; is_received = false; bytes = bytes }
 
 -- what a device receives in a step: a datagram or nothing
 abbrev pub arrival : ℕ → ℕ → Option Step → List Transmission
 arrival second device None = []
-arrival second device (Some (Event (Recv server bytes))) = received second device server bytes ∷ []
+arrival second device (Some (Event (Recv server bytes))) = received_transmission second device server bytes ∷ []
 arrival second device (Some (Event (Put path value))) = []
 arrival second device (Some (Event (Firmware code))) = []
 arrival second device (Some (Event (Tick seconds))) = []
@@ -40,7 +40,7 @@ arrival second device (Some (Need group count)) = []
 
 -- what it sends by an output: a datagram or nothing
 abbrev pub sending : ℕ → ℕ → Output → List Transmission
-sending second device (Send server bytes) = sent second device server bytes ∷ []
+sending second device (Send server bytes) = sent_transmission second device server bytes ∷ []
 sending second device (Act act) = []
 
 -- the second of the device's clock after an entry's step

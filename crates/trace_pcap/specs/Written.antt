@@ -7,7 +7,7 @@ use Rattle.trace_pcap.specs.Transmissions.{Transmission}
 use Rattle.trace_pcap.specs.Packets.{packets_from}
 
 -- these datagrams, each as a packet that fits its fields; the microseconds count them, up to the last one of a second
-pub record Written (old new : Writer) (ts : List Transmission) : Type 0 where
+pub record AreWritten (old new : Writer) (ts : List Transmission) : Type 0 where
   pub fit : AllByRecursion FitsPacket (packets_from old.microseconds ts)
   pub bytes : new.out.items ≡ old.out.items ++ flat_map packet_record (packets_from old.microseconds ts)
   pub counted : min new.microseconds 999999 ≡ min (old.microseconds + length ts) 999999

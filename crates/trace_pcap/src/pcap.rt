@@ -6,7 +6,7 @@ ghost use Rattle.udp_capture.specs.Capture.{IsCapture};
 ghost use Rattle.trace_pcap.specs.declared.fault.PcapFault.TheVariants.{TooLong};
 ghost use Rattle.trace_pcap.specs.Packets.{has_long, is_long, trace_packets};
 ghost use Rattle.trace_pcap.specs.Transmissions.{entry_transmissions, transmissions};
-ghost use Rattle.trace_pcap.specs.Written.{Written};
+ghost use Rattle.trace_pcap.specs.Written.{AreWritten};
 
 use crate::fault::PcapFault;
 use crate::limit::has_long;
@@ -28,7 +28,7 @@ fn put_entry(
 ) -> Result<(), AllocError>
     requires clocks { clocks.old ≡ scenario.now }
     requires short { list_any is_long (entry_transmissions scenario.now entry.now) ≡ false }
-    ensures written { OnOk result (Written writer.old writer.new (entry_transmissions scenario.now entry.now)) }
+    ensures written { OnOk result (AreWritten writer.old writer.new (entry_transmissions scenario.now entry.now)) }
     ensures same { clocks.new ≡ clocks.old }
 {
     let second = clocks.second_at(entry.device, entry.step as usize + 1);
@@ -46,7 +46,7 @@ fn put_entries(
     entries: &[Entry],
 ) -> Result<(), AllocError>
     requires { has_long scenario.now entries.now ≡ false }
-    ensures { OnOk result (Written writer.old writer.new (transmissions scenario.now entries.now)) }
+    ensures { OnOk result (AreWritten writer.old writer.new (transmissions scenario.now entries.now)) }
 {
     let mut clocks = Clocks::new(alloc, scenario)?;
     for entry in entries {

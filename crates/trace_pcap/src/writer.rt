@@ -5,8 +5,8 @@ ghost use Rattle.std.specs.List.{flat_map, list_any};
 ghost use Rattle.std.specs.Option.{option_copied};
 ghost use Rattle.udp_capture.specs.Capture.{most_payload};
 ghost use Rattle.trace_pcap.specs.Packets.{is_long};
-ghost use Rattle.trace_pcap.specs.Transmissions.{arrival, received, sending, sent};
-ghost use Rattle.trace_pcap.specs.Written.{Written};
+ghost use Rattle.trace_pcap.specs.Transmissions.{arrival, received_transmission, sending, sent_transmission};
+ghost use Rattle.trace_pcap.specs.Written.{AreWritten};
 
 use crate::ends::{device_end, server_end};
 use device_machine::{Event, Output};
@@ -44,7 +44,8 @@ impl Writer {
         bytes: &[u8],
     ) -> Result<(), AllocError>
         requires { length bytes.now ≤ most_payload }
-        ensures { OnOk result (Written self.old self.new (received second device server bytes.now ∷ [])) }
+        ensures { OnOk result (AreWritten self.old self.new
+            (received_transmission second device server bytes.now ∷ [])) }
     {
         let envelope = Envelope {
             seconds: second,
@@ -66,7 +67,7 @@ impl Writer {
         bytes: &[u8],
     ) -> Result<(), AllocError>
         requires { length bytes.now ≤ most_payload }
-        ensures { OnOk result (Written self.old self.new (sent second device server bytes.now ∷ [])) }
+        ensures { OnOk result (AreWritten self.old self.new (sent_transmission second device server bytes.now ∷ [])) }
     {
         let envelope = Envelope {
             seconds: second,
@@ -87,7 +88,7 @@ impl Writer {
         step: Option<&Step>,
     ) -> Result<(), AllocError>
         requires { list_any is_long (arrival second device (option_copied step)) ≡ false }
-        ensures { OnOk result (Written self.old self.new (arrival second device (option_copied step.entry))) }
+        ensures { OnOk result (AreWritten self.old self.new (arrival second device (option_copied step.entry))) }
     {
         match step {
             Some(Step::Event(Event::Recv { server, bytes })) => {
@@ -105,7 +106,7 @@ impl Writer {
     /// Writes the datagram of an output, if it is one.
     fn put_output(&mut self, second: u32, device: u16, output: &Output) -> Result<(), AllocError>
         requires { list_any is_long (sending second device output.now) ≡ false }
-        ensures { OnOk result (Written self.old self.new (sending second device output.now)) }
+        ensures { OnOk result (AreWritten self.old self.new (sending second device output.now)) }
     {
         match output {
             Output::Send { server, bytes } => {
@@ -123,7 +124,7 @@ impl Writer {
         outputs: &[Output],
     ) -> Result<(), AllocError>
         requires { list_any is_long (flat_map (sending second device) outputs.now) ≡ false }
-        ensures { OnOk result (Written self.old self.new (flat_map (sending second device) outputs.now)) }
+        ensures { OnOk result (AreWritten self.old self.new (flat_map (sending second device) outputs.now)) }
     {
         for output in outputs {
             self.put_output(second, device, output)?;

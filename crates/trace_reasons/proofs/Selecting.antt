@@ -7,7 +7,7 @@ use Rattle.std.proofs.lemmas.Option.{slice_get_within}
 use Rattle.lemmas.proofs.Lists.{take_one_more}
 use Rattle.scenario_image.specs.Scenario.{Scenario}
 use Rattle.trace_file.specs.declared.entry.Entry.{Entry}
-use Rattle.trace_text.specs.Selection.{is_from, is_selected, is_up_to, is_wanted, numbered_entries, selected}
+use Rattle.trace_text.specs.Selection.{is_from, is_selected, is_up_to, is_wanted, numbered_entries, selected_entries}
 use Rattle.trace_text.specs.declared.selection.Selection.{Selection}
 use Rattle.trace_reasons.specs.Text.{AreEntries, IsEntryText, IsReasonedText}
 
@@ -32,36 +32,36 @@ entries_more s (q ∷ ps) p text first h is = (
 )
 
 -- the selected ones of one more
-selected-more : (sel : Selection) (es : List Entry) (i : ℕ) (e : Entry) → slice_get es i ≡ Some e
-    → selected sel (numbered_entries 0 (take (i + 1) es))
-    ≡ selected sel (numbered_entries 0 (take i es)) ++ cond (is_selected sel i e) ((i, e) ∷ []) []
-selected-more sel es i e at =
+selected_entries-more : (sel : Selection) (es : List Entry) (i : ℕ) (e : Entry) → slice_get es i ≡ Some e
+    → selected_entries sel (numbered_entries 0 (take (i + 1) es))
+    ≡ selected_entries sel (numbered_entries 0 (take i es)) ++ cond (is_selected sel i e) ((i, e) ∷ []) []
+selected_entries-more sel es i e at =
     let within : i < length es = slice_get_within es i e at in
     let count : length (take i es) ≡ i = length-take-le i es (omega arith) in
-    ap (λ xs. selected sel (numbered_entries 0 xs)) (take_one_more es i e at)
-    ∙ ap (λ ps. selected sel ps) (numbered-more 0 (take i es) e i (omega (arith, count)))
+    ap (λ xs. selected_entries sel (numbered_entries 0 xs)) (take_one_more es i e at)
+    ∙ ap (λ ps. selected_entries sel ps) (numbered-more 0 (take i es) e i (omega (arith, count)))
     ∙ filter-append (λ p. is_selected sel p.0 p.1) (numbered_entries 0 (take i es)) ((i, e) ∷ [])
 
 pub text_shown : (s : Scenario) (sel : Selection) (es : List Entry) (i : ℕ) (e : Entry) (text first : List ℕ)
     → slice_get es i ≡ Some e → is_selected sel i e ≡ true → IsReasonedText s sel (take i es) text
     → IsEntryText s i e first → IsReasonedText s sel (take (i + 1) es) (text ++ first)
 text_shown s sel es i e text first at is so_far here =
-    let more : selected sel (numbered_entries 0 (take (i + 1) es))
-    ≡ selected sel (numbered_entries 0 (take i es)) ++ (i, e) ∷ [] =
-    selected-more sel es i e at
-    ∙ ap (λ b. selected sel (numbered_entries 0 (take i es)) ++ cond b ((i, e) ∷ []) []) is in
+    let more : selected_entries sel (numbered_entries 0 (take (i + 1) es))
+    ≡ selected_entries sel (numbered_entries 0 (take i es)) ++ (i, e) ∷ [] =
+    selected_entries-more sel es i e at
+    ∙ ap (λ b. selected_entries sel (numbered_entries 0 (take i es)) ++ cond b ((i, e) ∷ []) []) is in
     subst (λ ps. AreEntries s ps (text ++ first)) (sym more)
-    (entries_more s (selected sel (numbered_entries 0 (take i es))) (i, e) text first so_far here)
+    (entries_more s (selected_entries sel (numbered_entries 0 (take i es))) (i, e) text first so_far here)
 
 pub text_hidden : (s : Scenario) (sel : Selection) (es : List Entry) (i : ℕ) (e : Entry) (text : List ℕ)
     → slice_get es i ≡ Some e → is_selected sel i e ≡ false → IsReasonedText s sel (take i es) text
     → IsReasonedText s sel (take (i + 1) es) text
 text_hidden s sel es i e text at is so_far =
-    let more : selected sel (numbered_entries 0 (take (i + 1) es))
-    ≡ selected sel (numbered_entries 0 (take i es)) =
-    selected-more sel es i e at
-    ∙ ap (λ b. selected sel (numbered_entries 0 (take i es)) ++ cond b ((i, e) ∷ []) []) is
-    ∙ append-nil (selected sel (numbered_entries 0 (take i es))) in
+    let more : selected_entries sel (numbered_entries 0 (take (i + 1) es))
+    ≡ selected_entries sel (numbered_entries 0 (take i es)) =
+    selected_entries-more sel es i e at
+    ∙ ap (λ b. selected_entries sel (numbered_entries 0 (take i es)) ++ cond b ((i, e) ∷ []) []) is
+    ∙ append-nil (selected_entries sel (numbered_entries 0 (take i es))) in
     subst (λ ps. AreEntries s ps text) (sym more) so_far
 
 -- what is asked for, by the device and by the number

@@ -17,7 +17,7 @@ use Rattle.trace_file.specs.declared.entry.Entry.{Entry}
 use Rattle.fleet_core.specs.Run.{step_at}
 use Rattle.trace_text.specs.Lines.{arrival_lines, entry_line, output_lines, step_words}
 use Rattle.trace_text.specs.Seconds.{second_at}
-use Rattle.trace_text.specs.Selection.{numbered_entries, selected}
+use Rattle.trace_text.specs.Selection.{numbered_entries, selected_entries}
 use Rattle.trace_text.specs.declared.selection.Selection.{Selection}
 
 -- the lines why a device in this flat state handles so what arrives in a step: one for a datagram, else none
@@ -81,4 +81,4 @@ AreEntries s (p ∷ ps) text =
 
 -- the text of the selected entries of a trace, with reasons
 abbrev pub IsReasonedText : Scenario → Selection → List Entry → List ℕ → Type 0
-IsReasonedText s sel es text = AreEntries s (selected sel (numbered_entries 0 es)) text
+IsReasonedText s sel es text = AreEntries s (selected_entries sel (numbered_entries 0 es)) text

@@ -17,11 +17,7 @@ use trace_file::Entry;
 use trace_text::{Transcript, sent_text};
 
 /// The lines why a device handles so what arrives in a step: one for a datagram, else none.
-pub fn reason_lines(
-    alloc: Global,
-    device: &Device,
-    step: &Step,
-) -> Result<String, AllocError>
+pub fn reason_lines(alloc: Global, device: &Device, step: &Step) -> Result<String, AllocError>
     ensures { (f : FlatState) → Shows device.now f
         → IfOk result (λ lines. AreReasonLines f step.now (string_bytes lines)) }
 {

@@ -3,7 +3,7 @@ use Rattle.std.proofs.Common.{◌≡◌, ℕ, ◌+◌, List, [], ◌∷◌, ◌+
 use Rattle.std.proofs.Common.{append_assoc, arith}
 use Rattle.scenario_image.specs.Scenario.{Scenario}
 use Rattle.trace_file.specs.declared.entry.Entry.{Entry}
-use Rattle.trace_text.specs.Selection.{numbered_entries, numbered_text, selected}
+use Rattle.trace_text.specs.Selection.{numbered_entries, numbered_text, selected_entries}
 use Rattle.trace_text.specs.Text.{entries_text, entry_text}
 
 pub joined : (s : Scenario) (number : ℕ) (a b : List Entry)
@@ -18,7 +18,7 @@ joined s number (e ∷ es) b =
 
 -- all entries are selected where nothing is asked for
 pub whole : (s : Scenario) (number : ℕ) (es : List Entry)
-    → numbered_text s (selected (record { device = None; from = None; to = None }) (numbered_entries number es))
+    → numbered_text s (selected_entries (record { device = None; from = None; to = None }) (numbered_entries number es))
     ≡ entries_text s number es
 whole s number [] = refl
 whole s number (e ∷ es) = ap (λ t. entry_text s number e ++ t) (whole s (number + 1) es)

@@ -34,8 +34,8 @@ numbered_entries number [] = []
 numbered_entries number (e ∷ es) = (number, e) ∷ numbered_entries (number + 1) es
 
 -- those that are selected, in their order; each keeps its number
-abbrev pub selected : Selection → List (ℕ × Entry) → List (ℕ × Entry)
-selected sel numbered = filter (λ p. is_selected sel p.0 p.1) numbered
+abbrev pub selected_entries : Selection → List (ℕ × Entry) → List (ℕ × Entry)
+selected_entries sel numbered = filter (λ p. is_selected sel p.0 p.1) numbered
 
 -- the text of entries with their numbers
 abbrev pub numbered_text : Scenario → List (ℕ × Entry) → List ℕ
@@ -43,7 +43,7 @@ numbered_text s numbered = flat_map (λ p. entry_text s p.0 p.1) numbered
 
 -- the text of the selected entries of a trace
 abbrev pub selected_text : Scenario → Selection → List Entry → List ℕ
-selected_text s sel es = numbered_text s (selected sel (numbered_entries 0 es))
+selected_text s sel es = numbered_text s (selected_entries sel (numbered_entries 0 es))
 
 -- ---- what is refused
 

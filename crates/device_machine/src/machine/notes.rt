@@ -1,8 +1,8 @@
 //! What a request leaves of the observations.
 
 ghost use Rattle.std.specs.Prelude.{◌≡◌, ◌≤◌, true, false, is_some, length, IfOk, OnErr, OnOk};
-ghost use Rattle.device_machine.specs.Observing.{Notes, begun, entered, lacks_place, noted_by, noted_read, replies_non};
-ghost use Rattle.device_machine.specs.Observing.{reply_mid};
+ghost use Rattle.device_machine.specs.Observing.{Notes, after_registration, lacks_place, new_observation, noted_by};
+ghost use Rattle.device_machine.specs.Observing.{noted_read, replies_non, reply_mid};
 ghost use Rattle.device_machine.specs.Held.{IsUpToDate};
 ghost use Rattle.device_machine.specs.Memory.{IsManaged, KeepsRecords};
 ghost use Rattle.device_requests.specs.Answer.{is_content};
@@ -61,7 +61,7 @@ fn enter(
     non: bool,
 ) -> Result<Option<u32>, AllocError>
     requires { length token ≤ 8 }
-    ensures number { IfOk result (λ n. n ≡ (entered observations.old.list
+    ensures number { IfOk result (λ n. n ≡ (after_registration observations.old.list
         (record {
           server = server;
           token = token;
@@ -76,7 +76,7 @@ fn enter(
           timer = None;
         })).number) }
     ensures left { OnOk result (observations.new.list
-        ≡ (entered observations.old.list (record {
+        ≡ (after_registration observations.old.list (record {
           server = server;
           token = token;
           path = path;
@@ -116,14 +116,14 @@ impl Machine {
         payload: Bytes,
     ) -> Result<Option<u32>, AllocError>
         ensures kept { IfOk result (λ n. Notes n self.old.flat.kept self.new.flat.kept
-            (entered self.old.flat.kept.observations
-            (begun self.old.flat.kept server message.now path accept payload))) }
+            (after_registration self.old.flat.kept.observations
+            (new_observation self.old.flat.kept server message.now path accept payload))) }
         ensures recorded { OnOk result (self.new.flat.recorded ≡ self.old.flat.recorded) }
         ensures up_to_date { OnOk result (IsUpToDate self.new) }
         ensures left { OnErr result (KeepsRecords self.old.flat self.new.flat) }
         ensures part { OnErr result (IsManaged self.old.flat.kept self.old.flat.kept.client
-            (entered self.old.flat.kept.observations
-            (begun self.old.flat.kept server message.now path accept payload)).left self.new.flat.kept) }
+            (after_registration self.old.flat.kept.observations
+            (new_observation self.old.flat.kept server message.now path accept payload)).left self.new.flat.kept) }
     {
         let token = token_of(message)?;
         let report = report_of(&self.client, path, payload);

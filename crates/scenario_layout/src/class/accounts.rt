@@ -2,7 +2,7 @@ ghost use Rattle.std.specs.Prelude.{◌≡◌, ◌≢◌, nat_lt, [], OnOk};
 ghost use Rattle.std.specs.List.{list_all};
 ghost use Rattle.byte_layout.specs.Outcome.{Gives};
 ghost use Rattle.byte_layout.specs.Layout.{each};
-ghost use Rattle.scenario_layout.specs.Growing.{grown};
+ghost use Rattle.scenario_layout.specs.Growing.{items_with_next};
 ghost use Rattle.scenario_layout.specs.Class.{account, accounts, with_accounts};
 
 use crate::class::refusal::refusal;
@@ -44,7 +44,7 @@ fn accounts_each<'a>(
 #[tactic(auto, unfolding(crate::specs::Class::account))]
 fn account_at<'a>(template: &mut Template, bytes: &'a [u8]) -> Result<&'a [u8], ReadError>
     ensures read { Gives (λ rest. (template.new.accounts, rest.now)) result
-        (grown template.old.accounts ((account template.old.accounts).read bytes.now)) }
+        (items_with_next template.old.accounts ((account template.old.accounts).read bytes.now)) }
     ensures made { OnOk result (template.new ≡ with_accounts template.old template.new.accounts) }
 {
     let (number, rest) = u16_at(bytes)?;

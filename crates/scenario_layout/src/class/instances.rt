@@ -3,7 +3,7 @@ ghost use Rattle.std.specs.FinMap as finite;
 ghost use Rattle.byte_layout.specs.Outcome.{Gives};
 ghost use Rattle.byte_layout.specs.Layout.{each};
 ghost use Rattle.object_defs.specs.Path.{instance_cmp};
-ghost use Rattle.scenario_layout.specs.Growing.{grown, is_behind, IsLast};
+ghost use Rattle.scenario_layout.specs.Growing.{items_with_next, is_behind, IsLast};
 ghost use Rattle.scenario_layout.specs.Class.{instance, instances, instances_in, with_instances};
 
 use crate::class::refusal::refusal;
@@ -56,7 +56,8 @@ fn instance_at<'a>(
 ) -> Result<(InstancePath, &'a [u8]), ReadError>
     requires { IsLast instance_cmp (λ p. p) (instances_in template.now) last }
     ensures read { Gives (λ x. (instances_in template.new, x.1.now)) result
-        (grown (instances_in template.old) ((instance template.old (instances_in template.old)).read bytes.now)) }
+        (items_with_next (instances_in template.old)
+        ((instance template.old (instances_in template.old)).read bytes.now)) }
     ensures made { OnOk result (template.new ≡ with_instances template.old (instances_in template.new)) }
     ensures last { IfOk result (λ x. IsLast instance_cmp (λ p. p) (instances_in template.new) (Some x.0)) }
 {

@@ -7,8 +7,9 @@ ghost use Rattle.object_defs.specs.Vendor.{is_vendor, new_object};
 ghost use Rattle.object_defs.specs.declared.definition.ObjectDef.{ObjectDef};
 ghost use Rattle.device_template.specs.Template.{with_catalog};
 ghost use Rattle.scenario_layout.specs.Definition.{resource};
-ghost use Rattle.scenario_layout.specs.Growing.{grown};
-ghost use Rattle.scenario_layout.specs.Class.{defined, object, object_id, objects, objects_in, with_objects};
+ghost use Rattle.scenario_layout.specs.Growing.{items_with_next};
+ghost use Rattle.scenario_layout.specs.Class.{object, object_id, object_of_definitions, objects, objects_in};
+ghost use Rattle.scenario_layout.specs.Class.{with_objects};
 
 use crate::class::definitions::define;
 use crate::class::refusal::refusal;
@@ -61,7 +62,7 @@ fn object_at<'a>(
 ) -> Result<&'a [u8], ReadError>
     requires { template.now ≡ with_objects template.now (objects_in template.now) }
     ensures read { Gives (λ rest. (objects_in template.new, rest.now)) result
-        (grown (objects_in template.old) ((object template.old (objects_in template.old)).read bytes.now)) }
+        (items_with_next (objects_in template.old) ((object template.old (objects_in template.old)).read bytes.now)) }
     ensures made { OnOk result (template.new ≡ with_objects template.old (objects_in template.new)) }
 {
     let (id, rest) = object_id_at(template, bytes)?;

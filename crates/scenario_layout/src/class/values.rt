@@ -9,7 +9,7 @@ ghost use Rattle.device_template.specs.Template.{kind_taken, value_fault_at};
 ghost use Rattle.device_template.specs.Values.{has_kind};
 ghost use Rattle.lwm2m_values.specs.Value.{has_good_length};
 ghost use Rattle.lwm2m_values.specs.declared.value.Value.{Value};
-ghost use Rattle.scenario_layout.specs.Growing.{grown, is_behind, IsLast};
+ghost use Rattle.scenario_layout.specs.Growing.{items_with_next, is_behind, IsLast};
 ghost use Rattle.scenario_layout.specs.Class.{entry, value_path, values, values_in, with_values};
 
 use crate::class::refusal::refusal;
@@ -67,7 +67,7 @@ fn entry_at<'a>(
 ) -> Result<(FullPath, &'a [u8]), ReadError>
     requires { IsLast path_cmp (λ e. e.0) (values_in template.now) last }
     ensures read { Gives (λ x. (values_in template.new, x.1.now)) result
-        (grown (values_in template.old) ((entry template.old (values_in template.old)).read bytes.now)) }
+        (items_with_next (values_in template.old) ((entry template.old (values_in template.old)).read bytes.now)) }
     ensures made { OnOk result (template.new ≡ with_values template.old (values_in template.new)) }
     ensures last { IfOk result (λ x. IsLast path_cmp (λ e. e.0) (values_in template.new) (Some x.0)) }
 {

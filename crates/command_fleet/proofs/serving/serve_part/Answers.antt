@@ -1,6 +1,6 @@
 use Rattle.std.proofs.Common.{◌≡◌, ◌⊎◌, ◌∙◌, ap, None, inl, refl, rules, subst, sym, true}
 use Rattle.std.proofs.lemmas.Result.{err_from_is_err_and}
-use Rattle.fleet_lines.specs.Counting.{AreAllShown, Watched}
+use Rattle.fleet_lines.specs.Counting.{AreAllShown, WatchedPorts}
 use Rattle.command_files.specs.World.{FilesKnown, StreamFaults, Streams, World}
 use Rattle.command_files.specs.declared.fault.Fault.TheVariants as faults
 use Rattle.command_fleet.proofs.Sessions.{broken_at_start, ended_so, none_asked, serving_cut}
@@ -51,13 +51,13 @@ pub returns-in-Some-clause-account : goal.returns-in-Some-clause-account
 returns-in-Some-clause-account g c =
     let fixed = c.watched_is_fixed.ensures _ _ c.finish.ensures.fixed in
     account_as _ _ _ _ _
-    (c.tell_traffic.ensures.wire ∙ ap (λ (w : Watched). w.wire) fixed ∙ c.in_ok-go_on.ensures.wire)
+    (c.tell_traffic.ensures.wire ∙ ap (λ (w : WatchedPorts). w.wire) fixed ∙ c.in_ok-go_on.ensures.wire)
     (c.in-Some.ensures.account c.tell_traffic.ensures.none_left.0)
 
 pub returns-in-Some-clause-shown : goal.returns-in-Some-clause-shown
 returns-in-Some-clause-shown g c =
     let fixed = c.watched_is_fixed.ensures _ _ c.finish.ensures.fixed in
-    let began = c.tell_traffic.ensures.began ∙ ap (λ (w : Watched). w.began) fixed ∙ c.in_ok-go_on.ensures.began in
+    let began = c.tell_traffic.ensures.began ∙ ap (λ (w : WatchedPorts). w.began) fixed ∙ c.in_ok-go_on.ensures.began in
     subst (λ b. ∥ AreAllShown b (g.P.Ports.told c.tell_traffic.new.ports)
     (g.P.Counted.watched c.tell_traffic.new.ports).shown ∥₁) began
     (c.in-Some.ensures.shown c.tell_traffic.ensures.none_left.1)
@@ -74,7 +74,8 @@ returns-in-Some-clause-told g c =
     let fixed = c.watched_is_fixed.ensures _ _ c.finish.ensures.fixed in
     c.in_ok-tell_traffic.ensures.told first c.finish.new.self.second (g.E.Output.taken c.go_on.new.errors)
     (told_as c.args.telling _ _ _ _ c.go_on.new.fleet.second c.finish.new.self.second first _
-    (c.in_ok-go_on.ensures.told first none) (ap (λ (w : Watched). w.notes) fixed) (ap (λ (w : Watched). w.shown) fixed)
+    (c.in_ok-go_on.ensures.told first none) (ap (λ (w : WatchedPorts). w.notes) fixed)
+    (ap (λ (w : WatchedPorts). w.shown) fixed)
     c.finish.ensures.second)
 
 pub returns-in-Err-clause-cut : goal.returns-in-Err-clause-cut
@@ -207,8 +208,8 @@ returns-clause-cut g c =
     let second = c.finish.new.self.second in
     let told = c.in_ok-tell_traffic.ensures.told first.streams second (g.E.Output.taken c.go_on.new.errors)
     (told_as c.args.telling _ _ _ _ c.go_on.new.fleet.second second first.streams _
-    (c.in_ok-go_on.ensures.told first.streams none) (ap (λ (w : Watched). w.notes) fixed)
-    (ap (λ (w : Watched). w.shown) fixed) c.finish.ensures.second) in
+    (c.in_ok-go_on.ensures.told first.streams none) (ap (λ (w : WatchedPorts). w.notes) fixed)
+    (ap (λ (w : WatchedPorts). w.shown) fixed) c.finish.ensures.second) in
     serving_cut c.args.telling files streams asked part ports second kept.0 first last c.from-in-None.result.fault
     (cut_off c.args.telling streams _ _ second first.streams last.streams c.from-in-None.result.fault told
     (inl c.from-in-None.ensures))

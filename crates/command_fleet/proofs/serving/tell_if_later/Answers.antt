@@ -1,12 +1,12 @@
 use Rattle.std.proofs.Common.{None, refl, ◌≡◌}
 use Rattle.command_files.specs.World.{StreamFaults, Streams}
-use Rattle.command_fleet.specs.Telling.{Passed}
+use Rattle.command_fleet.specs.Telling.{SecondCounts}
 use Rattle.command_fleet.proofs.Told.{if_both, told_more, untold_if}
 use Rattle.command_fleet.proofs.serving.tell_if_later.Goals as goal
 
 pub returns-clause-told : goal.returns-clause-told
 returns-clause-told g c =
-    let passed : Passed = record { second = c.args.second; counts = g.P.Counted.counted c.args.ports.now } in
+    let passed : SecondCounts = record { second = c.args.second; counts = g.P.Counted.counted c.args.ports.now } in
     let before : Streams = record {
       input = None;
       output = g.O.Output.taken c.args.output.now;
@@ -24,7 +24,7 @@ returns-clause-told g c =
 
 pub returns-clause-cut : goal.returns-clause-cut
 returns-clause-cut g c =
-    let passed : Passed = record { second = c.args.second; counts = g.P.Counted.counted c.args.ports.now } in
+    let passed : SecondCounts = record { second = c.args.second; counts = g.P.Counted.counted c.args.ports.now } in
     let streams : StreamFaults = record {
       input_fails = ⊥;
       output_refuses = g.O.Output.refuses;

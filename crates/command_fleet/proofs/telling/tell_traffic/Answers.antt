@@ -1,5 +1,5 @@
 use Rattle.std.proofs.Common.{◌++◌, ◌∙◌, ap, None, refl}
-use Rattle.fleet_lines.specs.Counting.{Watched}
+use Rattle.fleet_lines.specs.Counting.{WatchedPorts}
 use Rattle.command_files.specs.World.{Streams}
 use Rattle.command_fleet.proofs.Told.{refused_if, told_if}
 use Rattle.command_fleet.proofs.telling.tell_traffic.Goals as goal
@@ -13,11 +13,11 @@ returns-clause-told g c =
       output = g.O.Output.taken c.print_traffic.new.output;
       errors = errors;
     } in
-    let notes = ap (λ (w : Watched). w.notes) c.new_shown-shown.ensures.watched
-    ∙ ap (λ (w : Watched). w.notes) c.new_notes-notes.ensures.watched in
-    let shown = ap (λ (w : Watched). w.shown) c.new_shown-shown.ensures.watched
+    let notes = ap (λ (w : WatchedPorts). w.notes) c.new_shown-shown.ensures.watched
+    ∙ ap (λ (w : WatchedPorts). w.notes) c.new_notes-notes.ensures.watched in
+    let shown = ap (λ (w : WatchedPorts). w.shown) c.new_shown-shown.ensures.watched
     ∙ ap (λ l. l ++ c.new_shown-shown.result.items)
-    (ap (λ (w : Watched). w.shown) c.new_notes-notes.ensures.watched) in
+    (ap (λ (w : WatchedPorts). w.shown) c.new_notes-notes.ensures.watched) in
     told_if c.print_traffic.result c.args.telling c.is_json.result _ _ c.new_notes-notes.result.items
     c.as_slice.result.now _ _ c.new_shown-shown.result.items c.as_slice-2.result.now second start before after h notes
     shown c.is_json.ensures c.as_slice.ensures.value c.as_slice-2.ensures.value refl c.print_traffic.ensures.told

@@ -1,7 +1,7 @@
 use Rattle.std.proofs.Common.{◌+◌, ◌++◌, map, drop, sym, ap, ◌∙◌, append-nil, append_assoc}
 use Rattle.std.specs.FinMap as fin_map
 use Rattle.object_defs.specs.declared.path.InstancePath.{InstancePath}
-use Rattle.instance_store.specs.Nested.{flat}
+use Rattle.instance_store.specs.Nested.{flat_entries}
 use Rattle.instance_store.specs.Tree.{place, InstanceValues}
 use Rattle.instance_store.proofs.StoreLaws.{all-places, places_next}
 use Rattle.instance_store.proofs.TreeLaws.{all_done}
@@ -13,7 +13,8 @@ loop-index-init c = ap (λ t. c.args.found.now.items ++ t) (sym (all-places c.ar
 pub loop-index-preserved : goal.loop-index-preserved
 loop-index-preserved c =
     let es = fin_map.entries c.args.objects.now in
-    let rest = map (λ (e : InstancePath × InstanceValues). e.0) (flat place (drop (c.loop-index.index + 1) es)) in
+    let rest = map (λ (e : InstancePath × InstanceValues). e.0)
+    (flat_entries place (drop (c.loop-index.index + 1) es)) in
     let found = c.loop-index.found.items in
     ap (λ t. t ++ rest) c.in_ok-push_places.ensures
     ∙ append_assoc found _ rest
@@ -25,7 +26,7 @@ pub returns : goal.returns
 returns c =
     let found = c.loop-index.found.items in
     sym (append-nil found)
-    ∙ ap (λ t. found ++ map (λ (e : InstancePath × InstanceValues). e.0) (flat place t))
+    ∙ ap (λ t. found ++ map (λ (e : InstancePath × InstanceValues). e.0) (flat_entries place t))
     (sym (all_done c.args.objects.now c.loop-index.index c.len-index-end.result c.len-index-end.ensures
     c.loop-index-test.false))
     ∙ c.loop-index.invariant

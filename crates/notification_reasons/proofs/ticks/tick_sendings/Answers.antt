@@ -1,5 +1,5 @@
 use Rattle.std.proofs.Common.{sym, subst, arith}
-use Rattle.device_machine.specs.Reactions.{later}
+use Rattle.device_machine.specs.Reactions.{flat_after_seconds}
 use Rattle.device_machine.specs.State.{Shows}
 use Rattle.notification_reasons.specs.Sendings.{AreTickSendings}
 use Rattle.notification_reasons.proofs.Spans.{all_told, before_end, fits_rest, goes_there, later_later, more_told}
@@ -23,7 +23,7 @@ loop-wait-preserved c =
       within = omega (arith, within, less);
       so_far = λ f shows ends.
           let h = c.loop-wait.invariant.so_far f shows ends in
-          let there = later f passed in
+          let there = flat_after_seconds f passed in
           let rest = c.in-Some-next_wait.ensures.quiet there h.0 (fits_rest f n passed within ends) in
           let goes = goes_there f n passed wait within less ends in (
             subst (Shows c.pass.new.device) (later_later f passed wait) (c.in-Ok.ensures.shows there h.0),
@@ -37,5 +37,5 @@ returns c = λ f shows ends.
     let h = c.loop-wait.invariant.so_far f shows ends in
     let within = c.loop-wait.invariant.within in
     all_told f c.args.count c.loop-wait.passed c.loop-wait.told.items within h.1
-    (c.in_default.ensures.quiet (later f c.loop-wait.passed) h.0
+    (c.in_default.ensures.quiet (flat_after_seconds f c.loop-wait.passed) h.0
     (fits_rest f c.args.count c.loop-wait.passed within ends))

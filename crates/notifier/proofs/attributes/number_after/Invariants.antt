@@ -1,6 +1,6 @@
 use Rattle.std.proofs.Common.{◌≡◌, drop}
 use Rattle.std.specs.FinMap as map
-use Rattle.notifier.specs.Attributes.{key_cmp, assigned}
+use Rattle.notifier.specs.Attributes.{key_cmp, assigned_number}
 use Rattle.notifier.proofs.AttributeLaws.{last_of}
 use Rattle.notifier.proofs.attributes.number_after.Given as goal
 
@@ -8,5 +8,6 @@ use Rattle.notifier.proofs.attributes.number_after.Given as goal
 abbrev pub invariant-loop-change : goal.invariant-loop-change
 invariant-loop-change l =
     last_of l.number (drop l.change-index l.changes) l.name
-    ≡ last_of (assigned (map.from_entries {R = key_cmp} l.fn.numbers.entries) l.server l.fn.path l.name) l.changes
+    ≡ last_of (assigned_number (map.from_entries {R = key_cmp} l.fn.numbers.entries) l.server l.fn.path l.name)
+    l.changes
     l.name

@@ -3,7 +3,7 @@ use Rattle.std.proofs.Common.{sym, ap, ◌∙◌, slice_set}
 use Rattle.std.specs.Map.{values_of}
 use Rattle.notifier.specs.Observed.{is_named}
 use Rattle.notifier.proofs.Places.{first_place}
-use Rattle.notifier.proofs.ObservedLaws.{values-set_value_at, number_for-first, registered-first, next_fits}
+use Rattle.notifier.proofs.ObservedLaws.{values-set_value_at, number_for-first, with_registered-first, next_fits}
 use Rattle.notifier.proofs.ObservedLaws.{keyed_renewed}
 use Rattle.notifier.proofs.entries.renew.Goals as goal
 
@@ -22,7 +22,8 @@ returns-clause-values c =
     values-set_value_at c.args.entries.now.entries c.args.place _
     ∙ ap (λ n. slice_set (values_of c.args.entries.now.entries) c.args.place (record c.args.observation { number = n }))
     c.next_number-number.ensures
-    ∙ sym (registered-first (values_of c.args.entries.now.entries) c.args.observation c.index.result.now c.args.place
+    ∙ sym (with_registered-first (values_of c.args.entries.now.entries) c.args.observation c.index.result.now
+    c.args.place
     first c.index.ensures)
 
 pub returns-clause-keyed : goal.returns-clause-keyed

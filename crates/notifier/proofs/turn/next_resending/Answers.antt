@@ -1,6 +1,6 @@
 use Rattle.std.proofs.Common.{◌+◌, ◌*◌, ◌==◌, nat_le, ◌∙◌, ap}
 use Rattle.notifier.specs.Due.{acts_in}
-use Rattle.notifier.specs.Resending.{resending}
+use Rattle.notifier.specs.Resending.{turn_of_resending}
 use Rattle.notifier.proofs.Dues.{same_first}
 use Rattle.notifier.proofs.Timeouts.{acts_by_sums}
 use Rattle.notifier.proofs.turn.next_resending.Goals as goal
@@ -10,7 +10,7 @@ returns c =
     let s = c.args.second in
     let t = c.from-timeout.result in
     λ p. same_first _ _ c.args.now c.earlier.result
-    (λ clock. acts_by_sums s t clock p ∙ ap (λ first. acts_in (resending s first clock) s p clock)
+    (λ clock. acts_by_sums s t clock p ∙ ap (λ first. acts_in (turn_of_resending s first clock) s p clock)
     c.from-timeout.ensures)
     (c.earlier.ensures (λ clock. clock == s + t) _ c.args.now c.only_at-4.ensures
     (c.earlier-from_second.ensures (λ clock. clock == s + 3 * t) _ c.args.now c.only_at-3.ensures

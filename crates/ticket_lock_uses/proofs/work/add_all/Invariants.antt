@@ -1,5 +1,5 @@
 use Rattle.std.proofs.Common.{◌≡◌, ◌≢◌, ℕ, ◌++◌, take}
-use Rattle.ticket_lock.specs.Log.{own}
+use Rattle.ticket_lock.specs.Log.{entries_of_worker}
 use Rattle.ticket_lock.specs.Lock.{HasNumber}
 use Rattle.ticket_lock.specs.Names.{lock_id, pass_view, IsPass}
 use Rattle.ticket_lock_uses.specs.Items.{items_log, by_worker}
@@ -11,9 +11,10 @@ invariant-loop-count g l = record {
   pass : IsPass (lock_id l.lock) l.pass;
   low : (pass_view l.pass).low ≡ (pass_view l.initial.pass).low;
   size : (pass_view l.pass).count ≡ (pass_view l.initial.pass).count;
-  added : own items_log (pass_view l.initial.pass).low (pass_view l.pass).front
-      ≡ own items_log (pass_view l.initial.pass).low (pass_view l.initial.pass).front
+  added : entries_of_worker items_log (pass_view l.initial.pass).low (pass_view l.pass).front
+      ≡ entries_of_worker items_log (pass_view l.initial.pass).low (pass_view l.initial.pass).front
       ++ by_worker (pass_view l.initial.pass).low (take l.count l.numbers);
   others : (w : ℕ) → HasNumber (pass_view l.initial.pass) w → w ≢ (pass_view l.initial.pass).low
-      → own items_log w (pass_view l.pass).front ≡ own items_log w (pass_view l.initial.pass).front;
+      → entries_of_worker items_log w (pass_view l.pass).front
+      ≡ entries_of_worker items_log w (pass_view l.initial.pass).front;
 }

@@ -6,7 +6,7 @@ use Rattle.std.proofs.lemmas.Bool.{and_from}
 use Rattle.device_requests.specs.Client.{has_account}
 use Rattle.device_machine.specs.Memory.{datagram_takes_memory, message_takes_memory}
 use Rattle.device_machine.specs.Reactions.{Gives}
-use Rattle.device_machine.specs.Held.{Held}
+use Rattle.device_machine.specs.Held.{StateWithOutlooks}
 use Rattle.device_machine.proofs.Copying.{grows_taken, grows_wanting, ignored}
 use Rattle.device_machine.proofs.machine.Machine.receive.Goals as goal
 
@@ -22,18 +22,21 @@ pub returns-in-Ok-clause-may_lack_memory : goal.returns-in-Ok-clause-may_lack_me
 returns-in-Ok-clause-may_lack_memory c =
     on_err_weaker c.take_owned.result
     (λ g. and_from (has_account c.args.self.now.flat.kept.client c.args.server) (datagram_takes_memory c.args.bytes.now)
-    (ap (λ (h : Held). has_account h.flat.kept.client c.args.server) (sym c.self.view_is) ∙ sym c.has_account.ensures
+    (ap (λ (h : StateWithOutlooks). has_account h.flat.kept.client c.args.server) (sym c.self.view_is)
+    ∙ sym c.has_account.ensures
     ∙ c.if-not-has_account.false)
     (grows_taken c.args.self.now.flat c.args.server c.args.bytes.now c.in-Ok.message c.in-Ok.ensures.found
     c.in-Ok.ensures.early
-    (subst (λ (h : Held). message_takes_memory h.flat c.args.server c.in-Ok.message c.in-Ok.message.kind ≡ true)
+    (subst (λ (h : StateWithOutlooks). message_takes_memory h.flat c.args.server c.in-Ok.message c.in-Ok.message.kind
+    ≡ true)
     c.self.view_is g)))
     c.take_owned.ensures.may_lack_memory
 
 pub returns-in-Err-Memory-clause-may_lack_memory : goal.returns-in-Err-Memory-clause-may_lack_memory
 returns-in-Err-Memory-clause-may_lack_memory c =
     and_from (has_account c.args.self.now.flat.kept.client c.args.server) (datagram_takes_memory c.args.bytes.now)
-    (ap (λ (h : Held). has_account h.flat.kept.client c.args.server) (sym c.self.view_is) ∙ sym c.has_account.ensures
+    (ap (λ (h : StateWithOutlooks). has_account h.flat.kept.client c.args.server) (sym c.self.view_is)
+    ∙ sym c.has_account.ensures
     ∙ c.if-not-has_account.false)
     (grows_wanting c.args.bytes.now (Err c.in-Err-Memory.field-0) c.in-Err-Memory.ensures.early
     c.in-Err-Memory.ensures.empty (sym c.is_ignored.ensures ∙ c.if-is_ignored.false)

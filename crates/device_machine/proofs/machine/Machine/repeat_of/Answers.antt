@@ -1,6 +1,6 @@
 -- All that are kept live.
 use Rattle.std.proofs.Common.{find, sym, ap, ◌∙◌}
-use Rattle.device_machine.specs.Held.{Held}
+use Rattle.device_machine.specs.Held.{StateWithOutlooks}
 use Rattle.device_machine.specs.Reactions.{is_same, repeat_of}
 use Rattle.device_machine.specs.Records.{has_key}
 use Rattle.device_machine.proofs.Lives.{found_live}
@@ -13,4 +13,4 @@ returns c =
     c.find.ensures
     ∙ (λ j. find (has_key server (c.kind.ensures j) (c.mid.ensures j)) c.self.inside.recorded)
     ∙ sym (found_live c.self.inside.clock (is_same server m) c.self.inside.recorded c.self.invariant)
-    ∙ ap (λ (h : Held). repeat_of h.flat server m) c.self.view_is
+    ∙ ap (λ (h : StateWithOutlooks). repeat_of h.flat server m) c.self.view_is

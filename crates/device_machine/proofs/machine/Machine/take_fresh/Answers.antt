@@ -10,14 +10,14 @@ use Rattle.device_requests.proofs.Unchanged.{unchanged}
 use Rattle.device_machine.specs.Memory.{LeavesOff}
 use Rattle.device_machine.specs.Observing.{Notes, noted_by}
 use Rattle.device_machine.specs.Reactions.{Gives, is_same, on_outcome, repeat_of}
-use Rattle.device_machine.specs.Held.{Held, IsUpToDate}
-use Rattle.device_machine.specs.State.{Kept, Machine, is_live}
+use Rattle.device_machine.specs.Held.{IsUpToDate, StateWithOutlooks}
+use Rattle.device_machine.specs.State.{DeviceState, Machine, is_live}
 use Rattle.device_machine.proofs.Places.{taken}
 use Rattle.device_machine.proofs.Settling.{known_after}
 use Rattle.device_machine.proofs.Stopping.{left_off}
 use Rattle.device_machine.proofs.machine.Machine.take_fresh.Goals as goal
 
-abbrev kept_with : Client → List Observation → ℕ → ℕ → Kept
+abbrev kept_with : Client → List Observation → ℕ → ℕ → DeviceState
 kept_with client os clock next_id =
     record { client = client; observations = os; clock = clock; next_id = next_id }
 
@@ -37,7 +37,8 @@ returns-clause-gives c =
     let server = c.args.server in
     let m = c.args.message.now in
     subst (λ (f : Machine). IfOk c.reply.result (λ o. Gives o c.reply.new.self.flat
-    (on_outcome f server m (outcome_of f.kept.client server m)))) (ap (λ (h : Held). h.flat) c.self.view_is)
+    (on_outcome f server m (outcome_of f.kept.client server m))))
+    (ap (λ (h : StateWithOutlooks). h.flat) c.self.view_is)
     (subst (λ r. IfOk c.reply.result (λ o. Gives o c.reply.new.self.flat r))
     (taken _ c.note.new.self.flat server m c.answer.new.self c.in_ok-handled.handled.answer
     c.in_ok-handled.handled.interest
@@ -55,9 +56,9 @@ pub reply-requires-clause-fresh : goal.reply-requires-clause-fresh
 reply-requires-clause-fresh c =
     let server = c.args.server in
     let m = c.args.message.now in
-    let clock = ap (λ (k : Kept). k.clock) c.in_ok-number.ensures.kept.kept_is in
+    let clock = ap (λ (k : DeviceState). k.clock) c.in_ok-number.ensures.kept.kept_is in
     (λ j. find (λ r. is_live (clock j) r && is_same server m r) (c.in_ok-number.ensures.recorded j))
-    ∙ ap (λ (h : Held). repeat_of h.flat server m) c.self.view_is
+    ∙ ap (λ (h : StateWithOutlooks). repeat_of h.flat server m) c.self.view_is
     ∙ c.requires.fresh
 
 pub returns-in_err-say_after-clause-part : goal.returns-in_err-say_after-clause-part
@@ -70,7 +71,7 @@ returns-in_err-say_after-clause-part c =
     on_err c.from_residual-in_err-say_after.result _
     (subst (λ (f : Machine).
     LeavesOff f server (Ok m) (on_outcome f server m (outcome_of f.kept.client server m)).flat.kept new)
-    (ap (λ (h : Held). h.flat) c.self.view_is)
+    (ap (λ (h : StateWithOutlooks). h.flat) c.self.view_is)
     (left_off (record {
       kept = kept_with c.self.inside.client c.self.inside.observations.list clock next_id;
       recorded = c.self.inside.recorded;

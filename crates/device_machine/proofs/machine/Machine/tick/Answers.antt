@@ -5,7 +5,7 @@ use Rattle.lemmas.proofs.Results.{on_err}
 use Rattle.device_notifications.specs.Progress.{does_act}
 use Rattle.device_notifications.specs.Second.{seconds}
 use Rattle.device_notifications.proofs.Jumps.{acts_is}
-use Rattle.device_machine.specs.Held.{Held}
+use Rattle.device_machine.specs.Held.{StateWithOutlooks}
 use Rattle.device_machine.specs.Memory.{HasPassed}
 use Rattle.device_machine.specs.Reactions.{sweep_in}
 use Rattle.device_machine.specs.Records.{AllLive}
@@ -16,7 +16,8 @@ pub returns-in_err-outputs-clause-may_lack_memory : goal.returns-in_err-outputs-
 returns-in_err-outputs-clause-may_lack_memory c =
     let os = c.self.inside.observations.list in
     on_err c.from_residual-in_err-outputs.result _
-    (subst (λ (h : Held). does_act (sweep_in h.flat.kept c.args.count) h.flat.kept.observations ≡ true) c.self.view_is
+    (subst (λ (h : StateWithOutlooks). does_act (sweep_in h.flat.kept c.args.count) h.flat.kept.observations ≡ true)
+    c.self.view_is
     (acts_is (seconds c.self.inside.client c.self.inside.clock c.args.count c.self.inside.next_id os) os
     (inl (λ none. c.in_err-outputs.ensures.may_lack_memory
     (c.into_vec.ensures ∙ c.in_ok-outbox.ensures.done.sent ∙ none)))))
@@ -29,7 +30,7 @@ invariant_of-self-2 c =
 pub returns-in_err-outputs-clause-part : goal.returns-in_err-outputs-clause-part
 returns-in_err-outputs-clause-part c =
     on_err c.from_residual-in_err-outputs.result _
-    (subst (λ (h : Held). HasPassed h.flat.kept
+    (subst (λ (h : StateWithOutlooks). HasPassed h.flat.kept
     (record {
       client = c.self.inside.client;
       observations = c.seconds.new.observations.list;

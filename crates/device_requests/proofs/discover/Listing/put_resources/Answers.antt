@@ -1,7 +1,7 @@
 -- One resource more: its link is the first of those that were left.
 use Rattle.std.proofs.Common.{false, ◌+◌, ◌∷◌, ◌++◌, ap, ◌∙◌, drop}
 use Rattle.object_defs.specs.declared.path.Path.TheVariants.{Resource}
-use Rattle.device_requests.specs.Discover.{existing, link, more_links}
+use Rattle.device_requests.specs.Discover.{existing_resources, link, more_links}
 use Rattle.device_requests.specs.Targets.{exists}
 use Rattle.device_requests.proofs.Linking.{filtered_at}
 use Rattle.device_requests.proofs.discover.Listing.put_resources.Goals as goal
@@ -12,7 +12,7 @@ loop-definition-preserved c =
     let server = c.args.self.now.server in
     let place = c.args.place in
     ap (λ t. t ++ more_links client server
-    (existing client.catalog client.store place.object place.instance
+    (existing_resources client.catalog client.store place.object place.instance
     (drop (c.loop-definition.definition-index + 1) c.args.resources.now)))
     c.in_ok-put_existing.ensures
     ∙ filtered_at c.loop-definition.text.items (λ p. 44 ∷ link client server false p)

@@ -1,12 +1,12 @@
 -- The links so far, and those of the resources that are left, are all.
 use Rattle.std.proofs.Common.{◌≡◌, ◌++◌, drop}
-use Rattle.device_requests.specs.Discover.{existing, more_links}
+use Rattle.device_requests.specs.Discover.{existing_resources, more_links}
 use Rattle.device_requests.proofs.discover.Listing.put_resources.Given as goal
 
 abbrev pub invariant-loop-definition : goal.invariant-loop-definition
 invariant-loop-definition l =
     let client = l.self.client.now in
-    l.text.items ++ more_links client l.self.server (existing client.catalog client.store l.place.object
+    l.text.items ++ more_links client l.self.server (existing_resources client.catalog client.store l.place.object
     l.place.instance (drop l.definition-index l.resources))
     ≡ l.fn.text.items ++ more_links client l.self.server
-    (existing client.catalog client.store l.place.object l.place.instance l.resources)
+    (existing_resources client.catalog client.store l.place.object l.place.instance l.resources)

@@ -1,6 +1,6 @@
 use Rattle.std.proofs.Common.{ap, ◌∙◌, ltb, arith}
 use Rattle.std.specs.List.{insert}
-use Rattle.object_defs.specs.Vendor.{inserted}
+use Rattle.object_defs.specs.Vendor.{with_inserted}
 use Rattle.object_defs.proofs.Inserting.{place_in, place-le-length, insert-above}
 use Rattle.device_template.proofs.accounts.Accounts.insert.Goals as goal
 
@@ -20,4 +20,4 @@ returns-clause-ok c =
     ∙ ap (λ i. insert items i c.args.server)
     (place_in (λ a. ltb c.args.server a) items _ _ c.self.view_is c.place_for-place.ensures)
     ∙ insert-above (λ a. a) c.args.server items
-    ∙ ap (inserted (λ a. a) c.args.server) c.self.view_is
+    ∙ ap (with_inserted (λ a. a) c.args.server) c.self.view_is

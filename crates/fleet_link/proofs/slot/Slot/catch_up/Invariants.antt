@@ -4,13 +4,13 @@ use Rattle.device_machine.specs.State.{Machine}
 use Rattle.live_link.specs.Wire.{AreRead}
 use Rattle.fleet_link.specs.Playing.{changes_of, GoesOn, IsOnTime}
 use Rattle.fleet_link.specs.Serving.{IsServing}
-use Rattle.fleet_link.specs.Traffic.{Carries, Heard, Traffic, no_traffic}
+use Rattle.fleet_link.specs.Traffic.{Carries, ReceivedPacket, Traffic, no_traffic}
 use Rattle.fleet_link.proofs.Turning.{steps_left}
 use Rattle.fleet_link.proofs.slot.Slot.catch_up.Given as goal
 
 abbrev pub invariant-loop-due : goal.invariant-loop-due
 invariant-loop-due g l = record {
-  served : (f : Machine) (before : Option Traffic) (pending : List Heard)
+  served : (f : Machine) (before : Option Traffic) (pending : List ReceivedPacket)
       → IsServing f before pending (changes_of l.fn.self.row) None l.fn.self.device l.fn.self.second
       l.fn.self.recording (g.P.Ports.told l.fn.ports l.place) → IsOnTime l.fn.self.row l.fn.self.second
       → IsServing f before pending (changes_of l.self.row) None l.self.device l.self.second l.self.recording

@@ -1,7 +1,7 @@
 use Rattle.std.proofs.Common.{refl, ◌∷◌, [], List}
 use Rattle.std.specs.Result.{is_err}
 use Rattle.scenario_image.specs.Play.{start}
-use Rattle.fleet_link.specs.Traffic.{Heard}
+use Rattle.fleet_link.specs.Traffic.{ReceivedPacket}
 use Rattle.fleet_link.proofs.Served.{over_hears, pends, settled, some_over}
 use Rattle.fleet_link.proofs.Stepped.{goes_on_same, goes_then, later_settled, still_under_way}
 use Rattle.fleet_link.proofs.slot.Slot.hear.Goals as goal
@@ -9,7 +9,7 @@ use Rattle.fleet_link.proofs.slot.Slot.hear.Goals as goal
 pub returns-in-None-clause-served : goal.returns-in-None-clause-served
 returns-in-None-clause-served g c =
     let stepped = c.take_packet-taken in
-    let pending : List Heard = record { second = c.args.now; packet = c.args.packet } ∷ [] in
+    let pending : List ReceivedPacket = record { second = c.args.now; packet = c.args.packet } ∷ [] in
     λ class own before between h k le.
     let on = pends class own before c.args.self.now between (g.P.Ports.told c.args.ports.now c.args.place) c.args.now
     c.args.packet h k c.in-None.is in

@@ -4,12 +4,12 @@ use Rattle.device_machine.specs.State.{Machine}
 use Rattle.live_link.specs.Wire.{AreRead}
 use Rattle.fleet_link.specs.Playing.{Change}
 use Rattle.fleet_link.specs.Serving.{IsServing}
-use Rattle.fleet_link.specs.Traffic.{Carries, Heard, Traffic, no_traffic}
+use Rattle.fleet_link.specs.Traffic.{Carries, ReceivedPacket, Traffic, no_traffic}
 use Rattle.fleet_link.proofs.slot.Slot.pass_to.Given as goal
 
 abbrev pub invariant-loop-self : goal.invariant-loop-self
 invariant-loop-self g l = record {
-  served : (f : Machine) (before : Option Traffic) (pending : List Heard) (changes : List Change)
+  served : (f : Machine) (before : Option Traffic) (pending : List ReceivedPacket) (changes : List Change)
       → IsServing f before pending changes None l.fn.self.device l.fn.self.second l.fn.self.recording
       (g.P.Ports.told l.fn.ports l.place)
       → IsServing f before pending changes None l.self.device l.self.second l.self.recording

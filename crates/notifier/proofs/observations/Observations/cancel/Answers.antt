@@ -1,6 +1,6 @@
 use Rattle.std.proofs.Common.{◌||◌, position, sym, ap, ◌∙◌}
 use Rattle.std.proofs.Math.Bool.{or-true, or-false}
-use Rattle.notifier.specs.Observed.{cancelled, is_named}
+use Rattle.notifier.specs.Observed.{is_named, without_cancelled}
 use Rattle.notifier.specs.Said.{Watch, said_without}
 use Rattle.notifier.proofs.Places.{any_first, first_place}
 use Rattle.notifier.proofs.SaidLaws.{filter_none, filter_removed, none_first, said_none}
@@ -15,7 +15,8 @@ loop-place-preserved c =
     let i = c.in-Some.place in
     let is_first = first_place p os i
     (ap (λ (w : Watch). position p w.list) (sym c.self.view_is) ∙ sym c.place_of.ensures ∙ c.in-Some.is) in (
-      ap (λ left. cancelled left c.args.server c.args.token.now) c.remove.ensures.list ∙ filter_removed p os i is_first
+      ap (λ left. without_cancelled left c.args.server c.args.token.now) c.remove.ensures.list
+          ∙ filter_removed p os i is_first
           ∙ c.loop-place.invariant.0,
       (λ j. said_without p (c.remove.ensures.list j) (c.remove.ensures.said j)) ∙ said_removed p os ss i is_first
           ∙ c.loop-place.invariant.1,

@@ -8,7 +8,7 @@ use Rattle.notifier.specs.Observed.{is_named, has_name}
 use Rattle.notifier.specs.Said.{Watch}
 use Rattle.notifier.proofs.Places.{any_place, first_place}
 use Rattle.notifier.proofs.SaidLaws.{said_first, said_last}
-use Rattle.notifier.proofs.ObservedLaws.{registered-none, number_for-none}
+use Rattle.notifier.proofs.ObservedLaws.{with_registered-none, number_for-none}
 use Rattle.notifier.proofs.observations.Observations.register.Goals as goal
 
 known : (os all : List Observation) (server : ℕ) (t token : List ℕ) (r o : Option ℕ) → os ≡ all → t ≡ token
@@ -73,7 +73,7 @@ returns-in_default-clause-ok c =
       timer = None;
     } in
     c.in_default.ensures.ok ∙ ap (λ all. all ++ new ∷ []) (ap (λ (w : Watch). w.list) c.self.view_is)
-    ∙ sym (registered-none c.args.self.now.list new absent)
+    ∙ sym (with_registered-none c.args.self.now.list new absent)
 
 pub returns-in_default-clause-number : goal.returns-in_default-clause-number
 returns-in_default-clause-number c =

@@ -1,6 +1,6 @@
 use Rattle.std.proofs.Common.{ap, ◌∙◌, ltb, arith}
 use Rattle.std.specs.List.{insert}
-use Rattle.object_defs.specs.Vendor.{inserted}
+use Rattle.object_defs.specs.Vendor.{with_inserted}
 use Rattle.object_defs.proofs.Inserting.{place_in, place-le-length, insert-above}
 use Rattle.object_defs.proofs.definition.Resources.insert.Goals as goal
 
@@ -20,4 +20,4 @@ returns-clause-ok c =
     ∙ ap (λ i. insert items i c.args.definition)
     (place_in (λ r. ltb c.args.definition.id r.id) items _ _ c.self.view_is c.place_for-place.ensures)
     ∙ insert-above (λ r. r.id) c.args.definition items
-    ∙ ap (inserted (λ r. r.id) c.args.definition) c.self.view_is
+    ∙ ap (with_inserted (λ r. r.id) c.args.definition) c.self.view_is

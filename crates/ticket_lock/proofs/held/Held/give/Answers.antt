@@ -1,6 +1,6 @@
 use Rattle.std.proofs.Common.{rules, ◌≡◌, sym, subst, arith}
-use Rattle.ticket_lock.specs.Log.{own}
-use Rattle.ticket_lock.specs.Names.{IsFaithful, found, lowest_work}
+use Rattle.ticket_lock.specs.Log.{entries_of_worker}
+use Rattle.ticket_lock.specs.Names.{IsFaithful, held_as_found, lowest_work}
 use Rattle.ticket_lock.proofs.Aware.{own_added}
 use Rattle.ticket_lock.proofs.Plays.{leaves_from}
 use Rattle.ticket_lock.proofs.Seats.{map-shares, first_work}
@@ -26,8 +26,9 @@ returns-clause-own g c = let log = g.T.Logged.log in let h = c.args.self in reco
 
 pub returns-clause-others : goal.returns-clause-others
 returns-clause-others g c = let log = g.T.Logged.log in let h = c.args.self in λ w ne.
-    subst (λ v. own log w v.front ≡ own log w (log.entries (found h))) (sym (returns-clause-given g c))
-    (own_added log (found h) h.value h.seat.me.0.low w c.requires ne)
+    subst (λ v. entries_of_worker log w v.front ≡ entries_of_worker log w (log.entries (held_as_found h)))
+    (sym (returns-clause-given g c))
+    (own_added log (held_as_found h) h.value h.seat.me.0.low w c.requires ne)
 
 pub returns-clause-work : goal.returns-clause-work
 returns-clause-work g c = let log = g.T.Logged.log in let h = c.args.self in let n = h.numbers.1 in let w =

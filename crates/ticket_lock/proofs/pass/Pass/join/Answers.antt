@@ -1,6 +1,6 @@
 use Rattle.std.proofs.Common.{rules, ◌≡◌, ◌<◌, sym, ap, ◌∙◌, subst, arith, true}
 use Rattle.lemmas.proofs.Lists.{empty_from_length}
-use Rattle.ticket_lock.specs.Log.{Begins, own}
+use Rattle.ticket_lock.specs.Log.{Begins, entries_of_worker}
 use Rattle.ticket_lock.specs.Lock.{is_live}
 use Rattle.ticket_lock.specs.Names.{IsFaithful}
 use Rattle.ticket_lock.proofs.Logs.{both_begin}
@@ -49,13 +49,13 @@ returns-clause-own g c = let log = g.T.Logged.log in let m = c.join_seat.new.sea
 pub returns-clause-lower : goal.returns-clause-lower
 returns-clause-lower g c = let log = g.T.Logged.log in let v = c.args.self.seat.me.0 in let w =
     c.args.other.seat.me.0 in let is = returns-clause-joined g c in λ n h.
-    subst (λ u. own log n u.front ≡ own log n v.front) (sym is)
+    subst (λ u. entries_of_worker log n u.front ≡ entries_of_worker log n v.front) (sym is)
     (joined_lower log v w (omega arith) c.requires.neighbours c.requires.this.faithful c.requires.other.faithful
     (subst (IsFaithful log) is (returns-clause-own g c).faithful) n h)
 
 pub returns-clause-upper : goal.returns-clause-upper
 returns-clause-upper g c = let log = g.T.Logged.log in let v = c.args.self.seat.me.0 in let w =
     c.args.other.seat.me.0 in let is = returns-clause-joined g c in λ n h.
-    subst (λ u. own log n u.front ≡ own log n w.front) (sym is)
+    subst (λ u. entries_of_worker log n u.front ≡ entries_of_worker log n w.front) (sym is)
     (joined_upper log v w (omega arith) c.requires.neighbours c.requires.this.faithful c.requires.other.faithful
     (subst (IsFaithful log) is (returns-clause-own g c).faithful) n h)

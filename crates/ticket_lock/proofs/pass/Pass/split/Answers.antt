@@ -1,5 +1,5 @@
 use Rattle.std.proofs.Common.{rules, ◌≡◌, sym, ap, subst, arith}
-use Rattle.ticket_lock.specs.Changes.{lower, upper}
+use Rattle.ticket_lock.specs.Changes.{lower_part, upper_part}
 use Rattle.ticket_lock.specs.Names.{IsFaithful}
 use Rattle.ticket_lock.proofs.Plays.{splits}
 use Rattle.ticket_lock.proofs.Seats.{lower_faithful, upper_faithful}
@@ -12,7 +12,7 @@ split_seat-above-requires g c = let p = c.args.self in let n = p.numbers.1 in le
 pub returns-clause-lower : goal.returns-clause-lower
 returns-clause-lower g c = let log = g.T.Logged.log in let p = c.args.self in let n = p.numbers.1 in let w =
     p.within.0 in
-    let is : c.split_seat-above.new.seat.me.0 ≡ lower p.seat.me.0 = ap (λ m. m.0) c.split_seat-above.ensures.2 in (
+    let is : c.split_seat-above.new.seat.me.0 ≡ lower_part p.seat.me.0 = ap (λ m. m.0) c.split_seat-above.ensures.2 in (
       record {
         here = search rules;
         faithful =
@@ -24,7 +24,7 @@ returns-clause-lower g c = let log = g.T.Logged.log in let p = c.args.self in le
 pub returns-clause-upper : goal.returns-clause-upper
 returns-clause-upper g c = let log = g.T.Logged.log in let p = c.args.self in let n = p.numbers.1 in let w =
     p.within.0 in
-    let is : c.split_seat-above.result.me.0 ≡ upper p.seat.me.0 = ap (λ m. m.0) c.split_seat-above.ensures.4 in (
+    let is : c.split_seat-above.result.me.0 ≡ upper_part p.seat.me.0 = ap (λ m. m.0) c.split_seat-above.ensures.4 in (
       record {
         here = search rules;
         faithful =
