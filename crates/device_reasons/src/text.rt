@@ -3,9 +3,9 @@
 ghost use Rattle.std.specs.Prelude.{◌≡◌, IfOk};
 ghost use Rattle.std.specs.String.{string_bytes};
 ghost use Rattle.device_machine.specs.State.{Machine as FlatState, Shows};
+ghost use Rattle.message_words.specs.Names.{class_and_detail};
 ghost use Rattle.device_reasons.specs.Text.{IsReasonLine, arrival_reason_text, empty_reset_text, empty_text};
-ghost use Rattle.device_reasons.specs.Text.{malformed_text};
-ghost use Rattle.device_reasons.specs.Text.{no_request_text, not_empty_text, other_text};
+ghost use Rattle.device_reasons.specs.Text.{malformed_text, no_request_text, not_empty_text, other_text};
 
 use crate::arrival::ArrivalReason;
 use crate::deciding::arrival_reason;

@@ -13,7 +13,7 @@ returns-clause-made g c ok = (
   made_block (g.G.Gate.came c.args.gate.now) c.args.scenario.now c.args.batch c.args.pass.seat.me.0
       c.put_and_claim.result.0.seat.me.0 c.args.job
       c.advance.new.self c.requires.subject c.requires.knows c.requires.fresh c.in-Ok.ensures.advances
-      (c.in-Ok.ensures.fresh c.requires.fresh) c.entries-made.ensures.run c.entries-made.ensures.each
+      (c.in-Ok.ensures.fresh c.requires.fresh) c.entries-known.ensures.run c.entries-known.ensures.each
       (subst (λ n. g.G.Gate.came c.args.gate.now n c.args.job.device) c.number.ensures
       (subst (λ d. g.G.Gate.came c.args.gate.now c.number.result d) c.device.ensures c.pass.ensures))
       (c.put_and_claim.ensures.put ok),

@@ -5,19 +5,19 @@ use Rattle.scenario_layout.proofs.laws.good_parts.Goals as goal
 
 pub returns-clause-objects : goal.returns-clause-objects
 returns-clause-objects c =
-    few_own c.args.template.now (has_objects c.args.template.now c.accounts-accounts.ensures.built)
+    few_own c.args.template.now (has_objects c.args.template.now c.accounts-known.ensures.built)
 
 pub returns-clause-defined : goal.returns-clause-defined
 returns-clause-defined c =
-    each_defined c.args.template.now (has_objects c.args.template.now c.accounts-accounts.ensures.built)
+    each_defined c.args.template.now (has_objects c.args.template.now c.accounts-known.ensures.built)
 
 pub returns-clause-instances : goal.returns-clause-instances
 returns-clause-instances c =
-    few_instances c.args.template.now c.accounts-accounts.ensures.built
-    (few_objects c.args.template.now (has_objects c.args.template.now c.accounts-accounts.ensures.built))
+    few_instances c.args.template.now c.accounts-known.ensures.built
+    (few_objects c.args.template.now (has_objects c.args.template.now c.accounts-known.ensures.built))
 
 pub returns-clause-values : goal.returns-clause-values
-returns-clause-values c = few_values c.args.template.now c.accounts-accounts.ensures.built
+returns-clause-values c = few_values c.args.template.now c.accounts-known.ensures.built
 
 pub returns-clause-held : goal.returns-clause-held
-returns-clause-held c = each_held c.args.template.now c.accounts-accounts.ensures.built
+returns-clause-held c = each_held c.args.template.now c.accounts-known.ensures.built

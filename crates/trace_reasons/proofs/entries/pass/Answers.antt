@@ -10,7 +10,7 @@ use Rattle.trace_reasons.proofs.entries.pass.Goals.{then-is_shown+in_ok-lines+in
 pub step_sendings-requires : goal.step_sendings-requires
 step_sendings-requires c =
     step_taken c.args.scenario.now c.args.entry.now.device c.args.entry.now.step c.in-Some.step.now c.args.device.now
-    c.rows-valid.ensures.valid (sym c.in-Some.ensures) c.requires.shows
+    c.rows-known.ensures.valid (sym c.in-Some.ensures) c.requires.shows
 
 pub returns-clause-shown : goal.returns-clause-shown
 returns-clause-shown c = λ is.
@@ -20,7 +20,7 @@ returns-clause-shown c = λ is.
         w.in_ok-sendings.sendings.items,
         reasons_at c.args.scenario.now c.args.entry.now.device c.args.entry.now.step c.in-Some.step.now
             c.args.device.now (string_bytes w.in_ok-lines.lines) w.in_ok-sendings.sendings.items
-            c.rows-valid.ensures.valid (sym c.in-Some.ensures) c.requires.shows w.in_ok-lines.ensures
+            c.rows-known.ensures.valid (sym c.in-Some.ensures) c.requires.shows w.in_ok-lines.ensures
             w.in_ok-sendings.ensures,
         ap (λ t. string_bytes t) w.text-is ∙ w.in_ok-text.ensures.text
             ∙ (λ i. entry_with (c.requires.scenario i) c.args.number c.args.entry.now (w.as_str.ensures.value i)

@@ -12,6 +12,6 @@ overflow_add-self c =
     omega (
       arith,
       few_made c.args.scenario.now (c.args.self.now.begun - 1) (c.args.self.now.steps + c.args.times)
-          c.in_ok-made-in-Some.made c.in-Some-made.outputs c.advance.new.machine c.rows-rows.ensures.valid
+          c.in_ok-made-in-Some.made c.in-Some-made.outputs c.advance.new.machine c.rows-known.ensures.valid
           (c.in_ok-made-in-Some.ensures some) c.in-Some-made.is,
     )

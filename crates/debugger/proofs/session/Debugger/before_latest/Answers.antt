@@ -14,5 +14,5 @@ returns c =
     before_read c.args.self.now c.self.inside.scenario.now c.self.inside.entries c.self.inside.place c.args.device
     c.from.result c.index-made.result.now c.self.inside.made.items c.self.inside.devices.items
     c.self.inside.breaks.items c.self.inside.copies.items c.self.inside.replayed c.in_ok-before.before.machine
-    (record { view = c.self.view_is; kept = c.self.invariant }) c.rows-rows.ensures.valid c.requires c.from.ensures
+    (record { view = c.self.view_is; kept = c.self.invariant }) c.rows-known.ensures.valid c.requires c.from.ensures
     c.index-made.ensures c.in_ok-before.ensures.shows

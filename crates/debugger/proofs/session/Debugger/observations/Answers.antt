@@ -9,7 +9,7 @@ returns-in-Some-clause-observations c =
     c.args.device c.self.inside.made.items c.self.inside.devices.items c.self.inside.breaks.items
     c.self.inside.copies.items c.self.inside.replayed
     c.in-Some.machine.now _
-    (record { view = c.self.view_is; kept = c.self.invariant }) c.rows-rows.ensures.valid
+    (record { view = c.self.view_is; kept = c.self.invariant }) c.rows-known.ensures.valid
     (got_at c.self.inside.devices.items c.deref.result.now c.from.result c.args.device c.in-Some.machine.now
     c.deref.ensures.value c.from.ensures c.in-Some.ensures.lookup.0 c.in-Some.ensures.lookup.1)
     c.observations.ensures.left

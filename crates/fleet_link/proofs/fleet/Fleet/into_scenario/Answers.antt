@@ -13,7 +13,7 @@ loop-slot-preserved c =
     let row : Row = record { class = c.in-Some-row.class; steps = c.in-Some-row.field-0-1.now } in
     let here : slice_get c.args.scenario.now.rows at.device ≡ Some row = sym c.in-Some-row.ensures in
     let within = slice_get_within c.args.scenario.now.rows at.device row here in
-    let few = c.rows-valid.ensures.valid.rows in
+    let few = c.rows-known.ensures.valid.rows in
     let next : c.saturating_add-device.result ≡ at.device + 1 =
     omega (arith, within, few, c.saturating_add-device.ensures) in
     record {

@@ -27,7 +27,7 @@ loop-slot-preserved c =
     let row : Row = record { class = c.in-Some.class; steps = c.in-Some.field-0-1.now } in
     let here : slice_get c.args.scenario.now.rows at.device ≡ Some row = sym c.in-Some.ensures in
     let there = slice_get_within c.args.scenario.now.rows at.device row here in
-    let few = c.rows-valid.ensures.valid.rows in
+    let few = c.rows-known.ensures.valid.rows in
     let next : c.saturating_add-device.result ≡ at.device + 1 =
     omega (arith, there, few, c.saturating_add-device.ensures) in
     saved_more c.args.scenario.now (take at.slot-index slots) (take (at.slot-index + 1) slots) x at.saved
