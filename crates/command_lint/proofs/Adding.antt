@@ -37,16 +37,23 @@ found_more : (form : LintForm) (s : Scenario) (found : List Found) (f : Found) (
     → IsBelowAt form s f.device (slice_get (history_of s f.device) f.finding.place) below
     → more ≡ text ++ (found_line form s f ++ below)
     → AreFoundLines form s found text → AreFoundLines form s (found ++ f ∷ []) more
-found_more form s [] f text below more so then none =
-    (below, [], so, refl,
-    then ∙ ap (λ t. t ++ (found_line form s f ++ below)) none
-    ∙ ap (λ t. found_line form s f ++ t) (sym (append-nil below)))
-found_more form s (g ∷ found) f text below more so then (under, rest, first, others, is) =
-    (under, rest ++ (found_line form s f ++ below), first,
-    found_more form s found f rest below (rest ++ (found_line form s f ++ below)) so refl others,
-    then ∙ ap (λ t. t ++ (found_line form s f ++ below)) is
-    ∙ append_assoc (found_line form s g) (under ++ rest) (found_line form s f ++ below)
-    ∙ ap (λ t. found_line form s g ++ t) (append_assoc under rest (found_line form s f ++ below)))
+found_more form s [] f text below more so then none = (
+  below,
+  [],
+  so,
+  refl,
+  then ∙ ap (λ t. t ++ (found_line form s f ++ below)) none
+      ∙ ap (λ t. found_line form s f ++ t) (sym (append-nil below)),
+)
+found_more form s (g ∷ found) f text below more so then (under, rest, first, others, is) = (
+  under,
+  rest ++ (found_line form s f ++ below),
+  first,
+  found_more form s found f rest below (rest ++ (found_line form s f ++ below)) so refl others,
+  then ∙ ap (λ t. t ++ (found_line form s f ++ below)) is
+      ∙ append_assoc (found_line form s g) (under ++ rest) (found_line form s f ++ below)
+      ∙ ap (λ t. found_line form s g ++ t) (append_assoc under rest (found_line form s f ++ below)),
+)
 
 pub line_added : (form : LintForm) (s : Scenario) (d : ℕ) (history : List Transmission) (end : ℕ) (finding : Finding)
     (old new : List Found) (text line below mid more : List ℕ) → history ≡ history_of s d → end ≡ end_of s d

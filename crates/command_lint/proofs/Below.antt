@@ -1,7 +1,6 @@
 -- The lines of a step's reason.
 use Rattle.std.proofs.Common.{◌≡◌, ◌≤◌, ℕ, List, [], subst, sym, arith}
 use Rattle.std.specs.Prelude.{Result, Ok, Err, IfOk, Option, None, Some, slice_get}
-use Rattle.std.specs.String.{String, string_bytes}
 use Rattle.std.proofs.lemmas.Option.{slice_get_within}
 use Rattle.device_machine.specs.State.{Device, Machine, Shows}
 use Rattle.scenario_image.specs.Scenario.{Scenario}
@@ -25,11 +24,11 @@ step_within s d k step at =
     omega (arith, within)
 
 -- of a step that the device makes next
-pub of_step : {E : Type 0} (r : Result String E) (s : Scenario) (d k : ℕ) (step : Step) (x : Device)
+pub of_step : {T E : Type 0} (r : Result T E) (words : T → List ℕ) (s : Scenario) (d k : ℕ) (step : Step) (x : Device)
     → step_at s d k ≡ Some step → ShowsAfter s d k x
-    → ((f : Machine) → Shows x f → IfOk r (λ lines. AreReasonLines f step (string_bytes lines)))
-    → IfOk r (λ lines. AreReasonsAt s d k (string_bytes lines))
-of_step (Ok lines) s d k step x at shows why =
-    λ class steps row. subst (λ o. AreLinesOf (state_at class steps k) o (string_bytes lines)) (sym at)
+    → ((f : Machine) → Shows x f → IfOk r (λ lines. AreReasonLines f step (words lines)))
+    → IfOk r (λ lines. AreReasonsAt s d k (words lines))
+of_step (Ok lines) words s d k step x at shows why =
+    λ class steps row. subst (λ o. AreLinesOf (state_at class steps k) o (words lines)) (sym at)
     (why (state_at class steps k) (shows class steps row))
-of_step (Err e) s d k step x at shows why = tt
+of_step (Err e) words s d k step x at shows why = tt

@@ -32,11 +32,14 @@ broken_words name words standard section =
     name ++ codes ": " ++ words ++ codes " (" ++ source_words standard section ++ codes ")"
 
 -- the line of a rule that a datagram breaks, with what is said of it: as text, or as an object
-abbrev pub line_with : LintForm → ℕ → Rule → Transmission → List ℕ → List ℕ
-line_with Text device rule t words =
+abbrev pub text_line : ℕ → Rule → Transmission → List ℕ → List ℕ
+text_line device rule t words =
     placed_line device t.step t.second
     (broken_words (rule_name rule) words (standard_of rule) (section_of rule))
-line_with Reasons device rule t words = line_with Text device rule t words
+
+abbrev pub line_with : LintForm → ℕ → Rule → Transmission → List ℕ → List ℕ
+line_with Text device rule t words = text_line device rule t words
+line_with Reasons device rule t words = text_line device rule t words
 line_with JsonLines device rule t words = json_line (finding_json device rule t words)
 
 -- the line of a rule that a datagram breaks which stands between these, in a history that ends in this second
@@ -66,9 +69,12 @@ AreFoundLines form s (f ∷ fs) text =
     × AreFoundLines form s fs rest × (text ≡ found_line form s f ++ (below ++ rest))
 
 -- `N findings`, or the object that says so
+abbrev pub count_text : ℕ → List ℕ
+count_text n = ended_line (decimal n ++ codes " findings")
+
 abbrev pub count_line : LintForm → ℕ → List ℕ
-count_line Text n = ended_line (decimal n ++ codes " findings")
-count_line Reasons n = count_line Text n
+count_line Text n = count_text n
+count_line Reasons n = count_text n
 count_line JsonLines n = json_line (count_json n)
 
 -- `RULE (RFC 7252 section N): a server WHAT`

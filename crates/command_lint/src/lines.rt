@@ -3,7 +3,8 @@ ghost use Rattle.std.specs.Prelude.{◌≡◌, IfOk};
 ghost use Rattle.std.specs.List.{flat_map};
 ghost use Rattle.std.specs.String.{string_bytes};
 ghost use Rattle.scenario_words.specs.Words.{ended_line};
-ghost use Rattle.command_lint.specs.Lines.{broken_words, count_line, line_in, line_with, placed_line, rule_line, rule_words, unknown_line};
+ghost use Rattle.command_lint.specs.Lines.{broken_words, count_line, count_text, line_in, line_with, placed_line};
+ghost use Rattle.command_lint.specs.Lines.{rule_line, rule_words, unknown_line};
 
 use crate::form::LintForm;
 use crate::objects::{count_object, finding_object};
@@ -87,7 +88,7 @@ pub(crate) fn line_in(
 
 /// The line that counts findings, as text.
 fn count_text(alloc: Global, count: usize) -> Result<String, AllocError>
-    ensures { IfOk result (λ text. string_bytes text ≡ count_line LintForm.Text count) }
+    ensures { IfOk result (λ text. string_bytes text ≡ count_text count) }
 {
     let words = format!(in alloc; "{count} findings")?;
     ended_line(alloc, words.as_str())

@@ -25,7 +25,8 @@ pub(crate) struct Cursor {
 /// The device at the start of its row.
 pub(crate) fn first_place(scenario: &Scenario, device: u16) -> Result<Cursor, AllocError>
     requires { device < length scenario.now.rows }
-    ensures { IfOk result (λ c. ShowsAfter scenario.now device c.place c.machine) }
+    ensures shows { IfOk result (λ c. ShowsAfter scenario.now device c.place c.machine) }
+    ensures first { IfOk result (λ c. c.place ≡ 0) }
 {
     let machine = start_of_row(scenario, device)?;
     Ok(Cursor { machine, place: 0 })
@@ -54,6 +55,25 @@ fn make_steps(
     Ok(())
 }
 
+/// Begins the row anew, if the device is past this place.
+fn go_back(
+    scenario: &Scenario,
+    device: u16,
+    cursor: &mut Cursor,
+    place: u32,
+) -> Result<(), AllocError>
+    requires row { device < length scenario.now.rows }
+    requires shows { ShowsAfter scenario.now device cursor.old.place cursor.old.machine }
+    ensures shows { OnOk result (ShowsAfter scenario.now device cursor.new.place cursor.new.machine) }
+    ensures order { OnOk result (cursor.new.place ≤ place) }
+{
+    if cursor.place <= place {
+        return Ok(());
+    }
+    *cursor = first_place(scenario, device)?;
+    Ok(())
+}
+
 /// Moves the device to a place of its row.
 fn move_to(
     alloc: Global,
@@ -68,10 +88,15 @@ fn move_to(
     ensures shows { OnOk result (ShowsAfter scenario.now device cursor.new.place cursor.new.machine) }
     ensures place { OnOk result (cursor.new.place ≡ place) }
 {
-    if place < cursor.place {
-        *cursor = first_place(scenario, device)?;
-    }
-    make_steps(alloc, scenario, device, &mut cursor.machine, cursor.place, place)?;
+    go_back(scenario, device, cursor, place)?;
+    make_steps(
+        alloc,
+        scenario,
+        device,
+        &mut cursor.machine,
+        cursor.place,
+        place,
+    )?;
     cursor.place = place;
     Ok(())
 }

@@ -1,5 +1,5 @@
 //! What is found in the rows of a scenario.
-ghost use Rattle.std.specs.Prelude.{◌≡◌, ◌<◌, ◌++◌, List, [], ◌∷◌, IfOk, OnOk, length, map};
+ghost use Rattle.std.specs.Prelude.{◌≡◌, ◌<◌, ◌++◌, List, [], ◌∷◌, IfOk, OnOk, length, map, slice_get};
 ghost use Rattle.std.specs.Option.{option_copied};
 ghost use Rattle.std.specs.String.{string_bytes};
 ghost use Rattle.fleet_core.specs.Board.{ShowsAfter};
@@ -37,6 +37,12 @@ pub(crate) struct Findings {
     pub text: String,
 }
 
+fn datagram_at(history: &[Transmission], place: usize) -> Option<&Transmission>
+    ensures { option_copied result ≡ slice_get history.now place }
+{
+    history.get(place)
+}
+
 /// What stands below the line of a finding in a history.
 fn below_at(
     alloc: Global,
@@ -59,7 +65,6 @@ fn below_at(
 }
 
 /// Adds a finding, and its line with what stands below it.
-#[tactic(auto, using(crate::proofs::Adding::line_added))]
 fn add_finding(
     alloc: Global,
     form: LintForm,
@@ -83,7 +88,7 @@ fn add_finding(
         → AreFoundLines form scenario.now findings.new.items.items (string_bytes findings.new.text)) }
 {
     let line = line_in(alloc, form, device, history, end, finding)?;
-    let t = history.get(finding.place);
+    let t = datagram_at(history, finding.place);
     let lines = below_at(alloc, form, scenario, device, cursor, t)?;
     findings.text.push_str(line.as_str())?;
     findings.text.push_str(lines.as_str())?;
