@@ -11,10 +11,13 @@ rounds (3). README.md has the figures.
 """
 import os
 import pathlib
-import resource
 import subprocess
 import sys
 import tempfile
+
+sys.dont_write_bytecode = True
+sys.path.insert(0, str(pathlib.Path(__file__).resolve().parent))
+from show import seconds_of  # noqa: E402
 
 CLASS = "scenario 1\nclass\naccount 1\ninstance 3 0\nvalue /3/0/9 integer 100\n"
 SESSIONS = {
@@ -24,15 +27,6 @@ SESSIONS = {
     + [f"cancel 1 con {it + 25} {it:04X} /3/0/9 any" for it in range(25)],
 }
 EXPECTED = "case reads\n" + "<= 1 read /3/0/9\n" * 50
-
-
-def seconds_of(words, statuses):
-    before = resource.getrusage(resource.RUSAGE_CHILDREN)
-    status = subprocess.run(words, stdout=subprocess.DEVNULL).returncode
-    if status not in statuses:
-        sys.exit(f"{words}: status {status}")
-    after = resource.getrusage(resource.RUSAGE_CHILDREN)
-    return after.ru_utime - before.ru_utime + after.ru_stime - before.ru_stime
 
 
 def main():
@@ -47,11 +41,11 @@ def main():
                 row = "device 0\n" + "".join(f"{it}\n" for it in steps)
                 pathlib.Path(text).write_text(CLASS + row * rows, encoding="ascii")
                 subprocess.run([lwbench, "asm", text, image], stdout=subprocess.DEVNULL, check=True)
-                least = min(seconds_of([lwbench, "lint", image], (0, 3)) for _ in range(times))
+                least = min(seconds_of([lwbench, "lint", image], os.devnull, (0, 3)) for _ in range(times))
                 print(f"lint, {name}, {rows:,} rows: {least:.2f} s", flush=True)
                 if name == "reads":
                     words = [lwbench, "test", expected, "--on", image]
-                    least = min(seconds_of(words, (0,)) for _ in range(times))
+                    least = min(seconds_of(words, os.devnull) for _ in range(times))
                     print(f"test --on, {name}, {rows:,} rows: {least:.2f} s", flush=True)
 
 

@@ -19,10 +19,13 @@ sys.path.insert(0, str(pathlib.Path(__file__).resolve().parent))
 import runs  # noqa: E402
 
 
-def seconds_of(words, out):
+def seconds_of(words, out, statuses=(0,)):
+    """The processor time of a command that ends with one of these statuses; what it prints goes to a file."""
     before = resource.getrusage(resource.RUSAGE_CHILDREN)
     with open(out, "wb") as output:
-        subprocess.run(words, stdout=output, check=True)
+        status = subprocess.run(words, stdout=output).returncode
+    if status not in statuses:
+        sys.exit(f"{words}: status {status}")
     after = resource.getrusage(resource.RUSAGE_CHILDREN)
     return after.ru_utime - before.ru_utime + after.ru_stime - before.ru_stime
 
