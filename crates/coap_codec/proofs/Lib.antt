@@ -5,3 +5,4 @@ pub mod OneReading
 pub mod Decoding
 pub mod Soundness
 pub mod WithoutOptions
+pub mod Fronts

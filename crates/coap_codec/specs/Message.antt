@@ -49,6 +49,11 @@ two_bytes n = n / 256 ∷ n % 256 ∷ []
 abbrev pub header_bytes : Message → List ℕ
 header_bytes m = (64 + 16 * kind_number m.kind + length m.token) ∷ m.code ∷ two_bytes m.mid
 
+-- the header and the token of a message (RFC 7252 section 3)
+abbrev pub start_bytes : Kind → ℕ → ℕ → List ℕ → List ℕ
+start_bytes kind code mid token =
+    (64 + 16 * kind_number kind + length token) ∷ code ∷ (two_bytes mid ++ token)
+
 -- the nibble of a delta or a length: itself below 13, 13 for one byte more, 14 for two (RFC 7252 section 3.1)
 abbrev pub nibble_of : ℕ → ℕ
 nibble_of n = if nat_lt n 13 then n else (if nat_lt n 269 then 13 else 14)

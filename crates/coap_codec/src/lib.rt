@@ -20,5 +20,5 @@ pub use laws::one_reading;
 pub use message::Message;
 pub use number::{uint, uint_bytes};
 pub use option::{Opt, Options};
-pub use reading::{decode, decode_in, message_in};
-pub use writing::{encode, encode_into};
+pub use reading::{Front, decode, decode_in, front_of, message_in};
+pub use writing::{encode, encode_into, put_number_option, put_option, put_payload, put_start};

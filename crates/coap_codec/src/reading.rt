@@ -13,14 +13,19 @@ use crate::{CoapFault, Kind, Message, Opt, Options};
 use octets::Bytes;
 use std::alloc::{AllocError, Global};
 
-/// The header of a message, its token, and what stands after them.
+/// The header of a message, its token, and what stands after them (RFC 7252 section 3).
 #[derive(Drop)]
-struct Start<'a> {
-    kind: Kind,
-    code: u8,
-    mid: u16,
-    token: &'a [u8],
-    rest: &'a [u8],
+pub struct Front<'a> {
+    /// The type.
+    pub kind: Kind,
+    /// The code.
+    pub code: u8,
+    /// The message ID.
+    pub mid: u16,
+    /// The token, of at most 8 bytes.
+    pub token: &'a [u8],
+    /// The bytes after the token, which are not looked at.
+    pub rest: &'a [u8],
 }
 
 /// The number that a nibble and the bytes after it stand for, and what stands after those.
@@ -50,7 +55,7 @@ fn amount_at(nibble: u8, bytes: &[u8]) -> Option<(u32, &[u8])>
 }
 
 /// The header and the token.
-fn start_of(bytes: &[u8]) -> Result<Start<'_>, CoapFault>
+fn start_of(bytes: &[u8]) -> Result<Front<'_>, CoapFault>
     ensures sound { IfOk result (λ s. header_fault bytes.now ≡ None) }
     ensures parts { IfOk result
         (λ s. bytes.now ≡ ((64 + 16 * kind_number s.kind + length s.token.now) ∷ s.code ∷ two_bytes s.mid)
@@ -79,7 +84,7 @@ fn start_of(bytes: &[u8]) -> Result<Start<'_>, CoapFault>
         return Err(CoapFault::OptionCut);
     }
     let (token, rest) = rest.split_at(length);
-    Ok(Start {
+    Ok(Front {
         kind: kind_of(*first / 16 % 4),
         code: *code,
         mid: 256 * u16::from(*high) + u16::from(*low),
@@ -147,6 +152,24 @@ fn options_at(alloc: Global, spare: Vec<Opt>, bytes: &[u8]) -> Result<(Vec<Opt>,
         rest = behind;
     }
     Ok((found, rest))
+}
+
+/// The header and the token that bytes begin with, or what is wrong there, whatever stands after them. It takes no
+/// memory. Of bytes that spell a message they are that message's (`message`).
+pub fn front_of(bytes: &[u8]) -> Result<Front<'_>, CoapFault>
+    ensures parts { IfOk result
+        (λ s. bytes.now ≡ ((64 + 16 * kind_number s.kind + length s.token.now) ∷ s.code ∷ two_bytes s.mid)
+        ++ (s.token.now ++ s.rest.now)) }
+    ensures token { IfOk result (λ s. length s.token.now ≤ 8) }
+    ensures empty { IfOk result (λ s. s.code ≡ 0 → (s.token.now ≡ []) × (s.rest.now ≡ [])) }
+    ensures range { IfOk result (λ s. (s.code < 256) × (s.mid < 65536)) }
+    ensures sound { IfOk result (λ s. header_fault bytes.now ≡ None) }
+    ensures fault { IfErr result (λ f. header_fault bytes.now ≡ Some f) }
+    ensures message { (m : Message) → Spells bytes.now m → IsOkAnd result
+        (λ s. (s.kind ≡ m.kind) × (s.code ≡ m.code) × (s.mid ≡ m.mid) × (s.token.now ≡ m.token)
+        × (s.rest.now ≡ options_bytes 0 m.options ++ payload_bytes m.payload)) }
+{
+    start_of(bytes)
 }
 
 /// The message that bytes spell (RFC 7252 section 3), extended options included; of bytes that spell none their one

@@ -1,6 +1,7 @@
-ghost use Rattle.std.specs.Prelude.{◌≡◌, ◌≤◌, ◌<◌, ◌+◌, ◌*◌, ◌++◌, length, IfOk, OnOk};
-ghost use Rattle.coap_codec.specs.Message.{Spells, IsWellFormed, MayFollow, IsOptionList, kind_number, header_bytes};
+ghost use Rattle.std.specs.Prelude.{◌≡◌, ◌≤◌, ◌<◌, ◌+◌, ◌*◌, ◌++◌, length, Some, IfOk, OnOk};
+ghost use Rattle.coap_codec.specs.Message.{Spells, MayFollow, IsOptionList, kind_number, start_bytes};
 ghost use Rattle.coap_codec.specs.Message.{nibble_of, extension_of, option_bytes, options_bytes, payload_bytes, spelling};
+ghost use Rattle.coap_codec.specs.Options.{number_option};
 
 use crate::{Kind, Message, Opt};
 use std::alloc::{AllocError, Global};
@@ -24,8 +25,8 @@ pub fn encode_into(out: &mut Vec<u8>, message: &Message) -> Result<(), AllocErro
 {
     // Read first: they come with the promise that the message is well formed.
     let options = message.options();
-    put_header(out, message)?;
-    put_bytes(out, message.token().as_slice())?;
+    let token = message.token().as_slice();
+    put_start(out, message.kind(), message.code(), message.mid(), token)?;
     put_options(out, options.as_slice())?;
     put_payload(out, message.payload().as_slice())
 }
@@ -73,18 +74,22 @@ fn kind_bits(kind: Kind) -> u8
     }
 }
 
-/// The four bytes of the header.
-fn put_header(out: &mut Vec<u8>, message: &Message) -> Result<(), AllocError>
-    requires { IsWellFormed message.now }
-    ensures { OnOk result (out.new.items ≡ out.old.items ++ header_bytes message.now) }
+/// Adds the header and the token of a message to a buffer (RFC 7252 section 3). Its options (`put_option`,
+/// `put_number_option`) and its payload (`put_payload`) come after it: so a message is written without being made. If
+/// an allocation fails, part of the bytes may have been added, here as in these.
+pub fn put_start(
+    out: &mut Vec<u8>,
+    kind: Kind,
+    code: u8,
+    mid: u16,
+    token: &[u8],
+) -> Result<(), AllocError>
+    requires { length token.now ≤ 8 }
+    ensures { OnOk result (out.new.items ≡ out.old.items ++ start_bytes kind code mid token.now) }
 {
-    let first = 64 + 16 * kind_bits(message.kind()) + message.token().len() as u8;
-    let mid = message.mid();
-    out.push(first)?;
-    out.push(message.code())?;
-    out.push((mid / 256) as u8)?;
-    out.push((mid % 256) as u8)?;
-    Ok(())
+    let first = 64 + 16 * kind_bits(kind) + token.len() as u8;
+    out.extend_from_slice(&[first, code, (mid / 256) as u8, (mid % 256) as u8])?;
+    put_bytes(out, token)
 }
 
 /// These bytes, of which there often is none: tokens and values of options are short.
@@ -123,17 +128,70 @@ fn put_extension(out: &mut Vec<u8>, n: u32) -> Result<(), AllocError>
     out.extend_from_slice(&[(behind / 256) as u8, (behind % 256) as u8])
 }
 
-/// An option after one of this number.
-fn put_option(out: &mut Vec<u8>, number: u16, option: &Opt) -> Result<(), AllocError>
-    requires { MayFollow number option.now }
-    ensures { OnOk result (out.new.items ≡ out.old.items ++ option_bytes number option.now) }
+/// Adds an option of this number and value after one of number `before`, 0 where it is the first (RFC 7252 section
+/// 3.1).
+pub fn put_option(
+    out: &mut Vec<u8>,
+    before: u16,
+    number: u16,
+    value: &[u8],
+) -> Result<(), AllocError>
+    requires { MayFollow before (record { number = number; value = value.now }) }
+    ensures { OnOk result (out.new.items
+        ≡ out.old.items ++ option_bytes before (record { number = number; value = value.now })) }
 {
-    let delta = u32::from(option.number - number);
-    let length = option.value.len() as u32;
+    let delta = u32::from(number - before);
+    let length = value.len() as u32;
     out.push(16 * nibble(delta) + nibble(length))?;
     put_extension(out, delta)?;
     put_extension(out, length)?;
-    put_bytes(out, option.value.as_slice())
+    put_bytes(out, value)
+}
+
+/// Adds an option whose value is a number in the fewest bytes after one of number `before`; or nothing, where there is
+/// no value.
+pub fn put_number_option(
+    out: &mut Vec<u8>,
+    before: u16,
+    number: u16,
+    value: Option<u32>,
+) -> Result<(), AllocError>
+    requires { before ≤ number }
+    ensures { OnOk result (out.new.items ≡ out.old.items ++ options_bytes before (number_option number value)) }
+{
+    match value {
+        None => Ok(()),
+        Some(value) => put_uint_option(out, before, number, value),
+    }
+}
+
+/// Adds an option whose value is this number in the fewest bytes after one of number `before`.
+fn put_uint_option(
+    out: &mut Vec<u8>,
+    before: u16,
+    number: u16,
+    value: u32,
+) -> Result<(), AllocError>
+    requires { before ≤ number }
+    ensures { OnOk result (out.new.items ≡ out.old.items ++ options_bytes before (number_option number (Some value))) }
+{
+    if value == 0 {
+        return put_option(out, before, number, &[]);
+    }
+    let low = (value % 256) as u8;
+    if value < 256 {
+        return put_option(out, before, number, &[low]);
+    }
+    let second = (value / 256 % 256) as u8;
+    if value < 65536 {
+        return put_option(out, before, number, &[second, low]);
+    }
+    let third = (value / 65536 % 256) as u8;
+    if value < 16777216 {
+        return put_option(out, before, number, &[third, second, low]);
+    }
+    let fourth = (value / 16777216) as u8;
+    put_option(out, before, number, &[fourth, third, second, low])
 }
 
 /// The options, the first one's number from 0.
@@ -143,14 +201,14 @@ fn put_options(out: &mut Vec<u8>, options: &[Opt]) -> Result<(), AllocError>
 {
     let mut number: u16 = 0;
     for option in options {
-        put_option(out, number, option)?;
+        put_option(out, number, option.number, option.value.as_slice())?;
         number = option.number;
     }
     Ok(())
 }
 
-/// The marker and the payload, or nothing.
-fn put_payload(out: &mut Vec<u8>, payload: &[u8]) -> Result<(), AllocError>
+/// Adds the marker and a payload to a buffer, or nothing where the payload is empty (RFC 7252 section 3).
+pub fn put_payload(out: &mut Vec<u8>, payload: &[u8]) -> Result<(), AllocError>
     ensures { OnOk result (out.new.items ≡ out.old.items ++ payload_bytes payload.now) }
 {
     if payload.is_empty() {
