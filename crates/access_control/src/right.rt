@@ -1,5 +1,6 @@
-ghost use Rattle.std.specs.Prelude.{◌≡◌};
+ghost use Rattle.std.specs.Prelude.{◌≡◌, ◌==◌, if◌then◌else◌};
 ghost use Rattle.lwm2m_values.specs.Value.{is_integer};
+ghost use Rattle.object_defs.specs.Numbers.{access_control_object};
 ghost use Rattle.object_defs.specs.Path.{single_of};
 ghost use Rattle.instance_store.specs.Stored.{value_at, instances_of};
 ghost use Rattle.access_control.specs.Rights.{control, integer_in, names, speaks_of, entry_of, control_of};
@@ -101,18 +102,28 @@ fn right_on_control(store: &Store, server: u16, instance: u16) -> Rights
     }
 }
 
+/// The right of a server on an object instance, in a device that has two accounts or more.
+#[inline(never)]
+fn rights_among(store: &Store, server: u16, object: u16, instance: u16) -> Rights
+    ensures { result ≡ (if object == access_control_object then right_on_control store.now server instance
+        else right_by store.now server (control_of store.now object instance)) }
+{
+    if object == ACCESS_CONTROL {
+        return right_on_control(store, server, instance);
+    }
+    right_by(store, server, control_of(store, object, instance))
+}
+
 /// The right of a server on an object instance, in a device that has this many accounts, by the first case that applies
 /// (OMA LwM2M 1.1 Core; the cases are this profile's). It holds of every store and server, and takes no memory.
+#[inline]
 pub fn rights(store: &Store, accounts: usize, server: u16, object: u16, instance: u16) -> Rights
     ensures { result ≡ right_of store.now accounts server object instance }
 {
     if accounts <= 1 {
         return EVERY;
     }
-    if object == ACCESS_CONTROL {
-        return right_on_control(store, server, instance);
-    }
-    right_by(store, server, control_of(store, object, instance))
+    rights_among(store, server, object, instance)
 }
 
 /// Whether a server may create instances of an object, in a device that has this many accounts: letter C on instance

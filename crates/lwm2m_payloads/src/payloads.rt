@@ -1,7 +1,9 @@
 ghost use Rattle.std.specs.Prelude.{◌≡◌, IfOk};
 ghost use Rattle.lwm2m_values.specs.declared.level.Around.TheVariants.{Top};
 ghost use Rattle.lwm2m_values.specs.Tree.{trees_of, single, part};
+ghost use Rattle.lwm2m_values.specs.Value.{text_of, bytes_of};
 ghost use Rattle.lwm2m_values.specs.Tlv.{AreNested, shortest_tlv};
+ghost use Rattle.lwm2m_payloads.specs.declared.format.Format.TheVariants.{Tlv};
 ghost use Rattle.lwm2m_payloads.specs.Nodes.{shown_in, nodes_of, object_nodes, value_payload, within_limit};
 
 use crate::format::Format;
@@ -36,8 +38,42 @@ fn tlv_of(alloc: Global, nodes: &[Node]) -> Result<Option<Bytes>, AllocError>
     Ok(limited(write_tlv(alloc, nodes)?))
 }
 
+/// The plain text of a value, where it has 1,024 bytes at most.
+fn limited_text(alloc: Global, value: &Value) -> Result<Option<Bytes>, AllocError>
+    ensures { IfOk result (λ b. b ≡ within_limit (text_of value.now)) }
+{
+    Ok(limited(write_text(alloc, value)?))
+}
+
+/// The bytes of a value, where they are 1,024 at most.
+#[inline(never)]
+fn limited_bytes(alloc: Global, value: &Value) -> Result<Option<Bytes>, AllocError>
+    ensures { IfOk result (λ b. b ≡ within_limit (bytes_of value.now)) }
+{
+    Ok(limited(bytes_of(alloc, value)?))
+}
+
+/// The TLV of a single resource's value, where it has 1,024 bytes at most.
+#[inline(never)]
+fn single_tlv(alloc: Global, resource: u16, value: &Value) -> Result<Option<Bytes>, AllocError>
+    ensures { IfOk result (λ b. b ≡ within_limit (value_payload Tlv (single resource) value.now)) }
+{
+    let node = single_node(resource, bytes_of(alloc, value)?);
+    tlv_of(alloc, &[node])
+}
+
+/// The TLV of a part's value, where it has 1,024 bytes at most.
+#[inline(never)]
+fn part_tlv(alloc: Global, number: u16, value: &Value) -> Result<Option<Bytes>, AllocError>
+    ensures { IfOk result (λ b. b ≡ within_limit (value_payload Tlv (part number) value.now)) }
+{
+    let node = part_node(number, bytes_of(alloc, value)?);
+    tlv_of(alloc, &[node])
+}
+
 /// The payload that shows a single resource's value in a format; none where it has more than 1,024 bytes (this
 /// profile).
+#[inline]
 pub fn write_single(
     alloc: Global,
     format: Format,
@@ -47,16 +83,14 @@ pub fn write_single(
     ensures { IfOk result (λ b. b ≡ within_limit (value_payload format (single resource) value.now)) }
 {
     match format {
-        Format::PlainText => Ok(limited(write_text(alloc, value)?)),
-        Format::OctetStream => Ok(limited(bytes_of(alloc, value)?)),
-        Format::Tlv => {
-            let node = single_node(resource, bytes_of(alloc, value)?);
-            tlv_of(alloc, &[node])
-        }
+        Format::PlainText => limited_text(alloc, value),
+        Format::OctetStream => limited_bytes(alloc, value),
+        Format::Tlv => single_tlv(alloc, resource, value),
     }
 }
 
 /// The payload that shows a part's value in a format; none where it has more than 1,024 bytes (this profile).
+#[inline]
 pub fn write_part(
     alloc: Global,
     format: Format,
@@ -66,12 +100,9 @@ pub fn write_part(
     ensures { IfOk result (λ b. b ≡ within_limit (value_payload format (part number) value.now)) }
 {
     match format {
-        Format::PlainText => Ok(limited(write_text(alloc, value)?)),
-        Format::OctetStream => Ok(limited(bytes_of(alloc, value)?)),
-        Format::Tlv => {
-            let node = part_node(number, bytes_of(alloc, value)?);
-            tlv_of(alloc, &[node])
-        }
+        Format::PlainText => limited_text(alloc, value),
+        Format::OctetStream => limited_bytes(alloc, value),
+        Format::Tlv => part_tlv(alloc, number, value),
     }
 }
 

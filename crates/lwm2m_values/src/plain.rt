@@ -1,5 +1,6 @@
 ghost use Rattle.std.specs.Prelude.{◌≡◌, ◌≢◌, ℕ, ◌≤◌, List, Err, length, Some, None, IfSome, IfOk, IfErr, IsErr};
-ghost use Rattle.std.specs.Prelude.{MatchResult, Bool, false};
+ghost use Rattle.std.specs.Prelude.{MatchResult, Bool, false, ◌∷◌, ◌++◌};
+ghost use Rattle.std.specs.Fmt.{decimal};
 ghost use Rattle.std.specs.Str.{IsUtf8};
 ghost use Rattle.base64.specs.GeneralPurpose.{encode_of, IsBytes};
 ghost use Rattle.base64.specs.Engines.{standard};
@@ -110,19 +111,38 @@ pub fn read_text(alloc: Global, kind: ValueKind, text: &[u8]) -> Result<Value, V
     good_of(alloc, kind, text)
 }
 
+/// The padded base64 of bytes. The tables of its alphabet are made in each call, so it stays a call of its own, for
+/// which the other kinds do not pay.
+#[inline(never)]
+fn base64_of(alloc: Global, bytes: &[u8]) -> Result<Bytes, AllocError>
+    ensures { IfOk result (λ b. b ≡ encode_of standard bytes.now) }
+{
+    let text = STANDARD.encode(alloc, bytes)?;
+    Ok(Bytes::from_vec(text.into_bytes()))
+}
+
+/// Two numbers in decimal with a colon between them. A call of its own, so that the other kinds do not pay for its
+/// buffers.
+#[inline(never)]
+fn link_text(alloc: Global, object: u16, instance: u16) -> Result<Bytes, AllocError>
+    ensures { IfOk result (λ b. b ≡ decimal object ++ 58 ∷ decimal instance) }
+{
+    let text = format!(in alloc; "{object}:{instance}")?;
+    Ok(Bytes::from_vec(text.into_bytes()))
+}
+
 fn shortest_text(alloc: Global, value: &Value) -> Result<Bytes, AllocError>
     ensures { IfOk result (λ b. b ≡ text_of value.now) }
 {
-    let text = match value {
-        Value::Text(text) => return Bytes::from_slice(alloc, text.as_str().as_bytes()),
+    match value {
+        Value::Text(text) => Bytes::from_slice(alloc, text.as_str().as_bytes()),
         Value::Whole(number) | Value::Moment(number) => {
-            return Bytes::from_slice(alloc, Buffer::new().format(*number).as_bytes());
+            Bytes::from_slice(alloc, Buffer::new().format(*number).as_bytes())
         }
-        Value::Flag(flag) => String::from_str(alloc, if *flag { "1" } else { "0" })?,
-        Value::Opaque(bytes) => STANDARD.encode(alloc, bytes.as_slice())?,
-        Value::Link(object, instance) => format!(in alloc; "{object}:{instance}")?,
-    };
-    Ok(Bytes::from_vec(text.into_bytes()))
+        Value::Flag(flag) => Bytes::from_slice(alloc, if *flag { b"1" } else { b"0" }),
+        Value::Opaque(bytes) => base64_of(alloc, bytes.as_slice()),
+        Value::Link(object, instance) => link_text(alloc, *object, *instance),
+    }
 }
 
 /// The shortest plain text of a value: no needless sign, no needless zero. Of a valid value it is read again.
