@@ -1,17 +1,17 @@
 //! Which values may be held at a path, and how one is set.
 
-ghost use Rattle.std.specs.Prelude.{◌≡◌, ◌≢◌, ◌↔◌, IsErrOf, IsFalse, IsTrue, Err, OnOk, OnErr, None, Some};
+ghost use Rattle.std.specs.Prelude.{◌≡◌, ◌≢◌, ◌↔◌, ◌||◌, not, IsErrOf, IsFalse, IsTrue, Err, OnOk, OnErr, None, Some};
 ghost use Rattle.lwm2m_values.specs.Value.{IsGood};
 ghost use Rattle.instance_store.specs.Stored.{has_instance, value_at, with_value};
 ghost use Rattle.device_template.specs.Template.{plain};
-ghost use Rattle.device_template.specs.Values.{fits, fits_resource, has_all_parts, has_kind, has_place, instance_at};
-ghost use Rattle.device_template.specs.Values.{is_one_too_many, is_set_at_start, misses, resource_at};
+ghost use Rattle.device_template.specs.Values.{fits, fits_object, fits_resource, has_all_parts, has_kind, has_place};
+ghost use Rattle.device_template.specs.Values.{instance_at, is_one_too_many, is_set_at_start, misses, resource_at};
 
 use instance_store::{Store, StoreFault};
 use lwm2m_values::{Text, Value, ValueKind};
 use object_defs::object_number::FIRMWARE_UPDATE;
 use object_defs::resource_number::{PACKAGE_URI, UPDATE_RESULT, UPDATE_STATE};
-use object_defs::{Catalog, FullPath, InstancePath, ResourceDef, ResourcePath};
+use object_defs::{Catalog, FullPath, InstancePath, ObjectDef, ResourceDef, ResourcePath};
 use octets::Bytes;
 use std::alloc::Global;
 
@@ -72,6 +72,13 @@ fn fits_resource(path: FullPath, value: &Value, definition: Option<ResourceDef>)
     }
 }
 
+/// Whether the value fits its path and the definition there, in an object that is known.
+fn fits_object(path: FullPath, value: &Value, object: &ObjectDef) -> bool
+    ensures { result ≡ fits_object path value.now (Some object.now) }
+{
+    fits_resource(path, value, object.resource(path.resource).copied()) && !is_set_at_start(path)
+}
+
 /// Whether the value fits its path and the definition there, if its object is known.
 pub fn fits(catalog: &Catalog, path: FullPath, value: &Value) -> bool
     ensures fits { result ≡ fits catalog.now path value.now }
@@ -82,10 +89,7 @@ pub fn fits(catalog: &Catalog, path: FullPath, value: &Value) -> bool
     }
     match catalog.object(path.object) {
         None => true,
-        Some(object) => {
-            fits_resource(path, value, object.resource(path.resource).copied())
-                && !is_set_at_start(path)
-        }
+        Some(object) => fits_object(path, value, object),
     }
 }
 
@@ -93,11 +97,7 @@ pub fn fits(catalog: &Catalog, path: FullPath, value: &Value) -> bool
 pub(crate) fn has_place(catalog: &Catalog, store: &Store, path: FullPath) -> bool
     ensures { result ≡ has_place catalog.now store.now path }
 {
-    let place = InstancePath {
-        object: path.object,
-        instance: path.instance,
-    };
-    catalog.object(path.object).is_some() && store.has_instance(place)
+    catalog.object(path.object).is_some() && store.has_instance(instance_at(path))
 }
 
 /// Whether the resource has the 32 parts that it may have.
@@ -105,6 +105,15 @@ pub(crate) fn has_all_parts(store: &Store, path: FullPath) -> bool
     ensures { result ≡ has_all_parts store.now path }
 {
     path.part.is_some() && store.part_count(resource_at(path)) >= 32
+}
+
+fn instance_at(path: FullPath) -> InstancePath
+    ensures { result ≡ instance_at path }
+{
+    InstancePath {
+        object: path.object,
+        instance: path.instance,
+    }
 }
 
 fn resource_at(path: FullPath) -> ResourcePath
@@ -134,13 +143,27 @@ pub fn put(store: &mut Store, path: FullPath, value: Value) -> Result<(), StoreF
     }
 }
 
+/// Whether a value has no place in the store: its instance is not there, or it would be a 33rd part. One that is held
+/// has its place.
+fn has_no_place(store: &Store, path: FullPath) -> bool
+    ensures { result ≡ (not (has_instance store.now (instance_at path)) || is_one_too_many store.now path) }
+{
+    if store.holds(path) {
+        return false;
+    }
+    !store.has_instance(instance_at(path)) || has_all_parts(store, path)
+}
+
 /// Whether a new value does not fit: its path or kind is wrong, its instance does not exist, or it would be a 33rd
 /// part.
 pub fn misses(catalog: &Catalog, store: &Store, path: FullPath, value: &Value) -> bool
     ensures { result ≡ misses catalog.now store.now (Some path) value.now }
 {
-    if !fits(catalog, path, value) || !has_place(catalog, store, path) {
+    if !value.is_good() {
         return true;
     }
-    store.get(path).is_none() && has_all_parts(store, path)
+    match catalog.object(path.object) {
+        None => true,
+        Some(object) => !fits_object(path, value, object) || has_no_place(store, path),
+    }
 }

@@ -1,5 +1,6 @@
 -- What a store holds, made of its objects: what it has, what it lists, and what changes it.
 use Rattle.std.proofs.Common.{◌≡◌, ℕ, ◌+◌, Bool, true, false, cond, not, ◌&&◌, eqb}
+use Rattle.std.proofs.Common.{◌<◌}
 use Rattle.std.proofs.Common.{List, [], ◌∷◌, ◌++◌, map as map_list}
 use Rattle.std.proofs.Common.{length, drop, Option, None, Some, is_some, refl, sym, ap, subst, ◌∙◌, arith}
 use Rattle.std.proofs.Common.{Ordering, append_assoc}
@@ -324,6 +325,21 @@ pub count-same : (s : Stored) (path : FullPath) (v : Value) → is_some (value_a
     → value_count (with_value s path v) ≡ value_count s
 count-same s path v h = count-with s path v ∙ ap (λ b. cond b (value_count s) (value_count s + 1)) h
 
+-- a value that is new to its instance can be counted
+pub room_for : (s t : Stored) (path : FullPath) (added : Bool) (n : ℕ) → s ≡ t
+    → has_instance s (instance_below path) ≡ true → added ≡ not (is_some (value_at s path)) → added ≡ true
+    → (has_instance t (instance_below path) ≡ true → value_at t path ≡ None → value_count t + 1 < n)
+    → value_count s + 1 < n
+room_for s t path added n e there h a fits =
+    subst (λ u. (has_instance u (instance_below path) ≡ true → value_at u path ≡ None → value_count u + 1 < n)
+    → value_count s + 1 < n) e
+    (λ f. f there (none_from_test (value_at s path) (off added (is_some (value_at s path)) h a))) fits
+  where
+    off : (a b : Bool) → a ≡ not b → a ≡ true → b ≡ false
+    off true true h e = cc
+    off false true h e = cc
+    off a false h e = refl
+
 pub there_unless : (a b : Bool) → a ≡ not b → a ≡ false → b ≡ true
 there_unless true true h e = refl
 there_unless false true h e = refl
@@ -540,6 +556,15 @@ no_instance o at h e = absurd (subst T (sym h ∙ has-tree o at ∙ ap is_some e
 pub none_there : (o : Objects) (at : InstancePath) → has_instance (stored_from o) at ≡ false → map.get (tree o) at
     ≡ None
 none_there o at h = none_from_test (map.get (tree o) at) (sym (has-tree o at) ∙ h)
+
+-- whether there is an instance, by what the objects have
+pub known_instance : (o : Objects) (at : InstancePath) (m : InstanceValues) → map.get (tree o) at ≡ Some m
+    → has_instance (stored_from o) at ≡ true
+known_instance o at m h = has-tree o at ∙ ap is_some h
+
+pub unknown_instance : (o : Objects) (at : InstancePath) → map.get (tree o) at ≡ None
+    → has_instance (stored_from o) at ≡ false
+unknown_instance o at h = has-tree o at ∙ ap is_some h
 
 tree-empty : tree map.empty ≡ map.empty
 tree-empty = map.same_map instance_total instance_exact _ _ (λ q.

@@ -1,13 +1,15 @@
 //! The objects of a store, each with its instances: how a value or an instance is found, set and
 //! removed.
-ghost use Rattle.std.specs.Prelude.{◌≡◌, ◌<◌, ◌+◌, ◌^◌, not, None, IfOk, OnOk, OnErr, IsErr, IsTrue, IsFalse};
+ghost use Rattle.std.specs.Prelude.{◌≡◌, ◌≢◌, ◌<◌, ◌+◌, ◌^◌, ◌↔◌, not, None, Err, IfOk, OnOk, OnErr, IsErrOf};
+ghost use Rattle.std.specs.Prelude.{IsTrue, IsFalse};
 ghost use Rattle.std.specs.FinMap as map;
 ghost use Rattle.std.specs.Option.{option_copied, is_some};
 ghost use Rattle.instance_store.specs.Stored.{value_at, value_count, has_instance, instance_of};
 ghost use Rattle.instance_store.specs.Stored.{resource_path, with_value};
 ghost use Rattle.instance_store.specs.Stored.{without_values, with_instance, without_instance};
-ghost use Rattle.instance_store.specs.Tree.{tree, stored_from, place};
+ghost use Rattle.instance_store.specs.Tree.{tree, stored_from, instance_below};
 
+use crate::fault::StoreFault;
 use crate::instance::Instance;
 use crate::table::Table;
 use lwm2m_values::Value;
@@ -24,25 +26,32 @@ pub(crate) fn find(objects: &Table<Table<Instance>>, at: InstancePath) -> Option
     }
 }
 
-/// Sets a value of an instance, and returns whether there was none. It takes memory only then.
+/// Sets a value of an instance, and returns whether there was none. It takes memory only then. `Absent`: there is no
+/// such instance.
 pub(crate) fn put_value(
     alloc: Global,
     objects: &mut Table<Table<Instance>>,
     path: FullPath,
     value: Value,
-) -> Result<bool, AllocError>
-    requires { IsTrue (has_instance (stored_from objects.old) (place path.object path.instance)) }
+) -> Result<bool, StoreFault>
     ensures ok { OnOk result (stored_from objects.new ≡ with_value (stored_from objects.old) path value) }
     ensures added { IfOk result (λ added. added ≡ not (is_some (value_at (stored_from objects.old) path))) }
-    ensures may_lack_memory { IsErr result → value_at (stored_from objects.old) path ≡ None }
+    ensures absent { IsErrOf result StoreFault.Absent
+        ↔ IsFalse (has_instance (stored_from objects.old) (instance_below path)) }
+    ensures never_exists { result ≢ Err StoreFault.Exists }
+    ensures never_full { result ≢ Err StoreFault.Full }
+    ensures may_lack_memory { IsErrOf result StoreFault.Memory → value_at (stored_from objects.old) path ≡ None }
     ensures err { OnErr result (stored_from objects.new ≡ stored_from objects.old) }
 {
     match objects.get_mut(path.object) {
         Some(object) => match object.get_mut(path.instance) {
-            Some(instance) => instance.put(alloc, path.resource, path.part, value),
-            None => unreachable!(),
+            Some(instance) => {
+                let added = instance.put(alloc, path.resource, path.part, value)?;
+                Ok(added)
+            }
+            None => Err(StoreFault::Absent),
         },
-        None => unreachable!(),
+        None => Err(StoreFault::Absent),
     }
 }
 

@@ -82,6 +82,7 @@ impl Resource {
     }
 
     /// A resource that has one value.
+    #[inline(never)]
     pub(crate) fn with_value(
         alloc: Global,
         part: Option<u16>,

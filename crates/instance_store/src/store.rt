@@ -1,5 +1,5 @@
-ghost use Rattle.std.specs.Prelude.{◌≡◌, ◌≤◌, ◌<◌, ◌↔◌, length, IsTrue, IsFalse, IsErrOf, ◌≢◌, None, Ok, Err};
-ghost use Rattle.std.specs.Prelude.{if◌then◌else◌, IfOk, OnOk, OnErr, IsErr};
+ghost use Rattle.std.specs.Prelude.{◌≡◌, ◌≤◌, ◌<◌, ◌+◌, ◌^◌, ◌↔◌, ◌&&◌, not, length, IsTrue, IsFalse, IsErrOf, ◌≢◌};
+ghost use Rattle.std.specs.Prelude.{[], true, None, Ok, Err, if◌then◌else◌, IfOk, IfSome, OnOk, OnErr};
 ghost use Rattle.std.specs.FinMap as map;
 ghost use Rattle.std.specs.Option.{option_copied, is_some};
 ghost use Rattle.instance_store.specs.Existence.{is_held, has_resource};
@@ -53,6 +53,16 @@ fn place_of(path: ResourcePath) -> InstancePath
     }
 }
 
+/// The instance that a full path is below.
+fn place_above(path: FullPath) -> InstancePath
+    ensures { result ≡ instance_below path }
+{
+    InstancePath {
+        object: path.object,
+        instance: path.instance,
+    }
+}
+
 impl Store {
     /// A store with no instance and no value.
     pub fn new(alloc: Global) -> Store
@@ -76,12 +86,20 @@ impl Store {
     pub fn get(&self, path: FullPath) -> Option<&Value>
         ensures { option_copied result ≡ value_at self.now path }
     {
-        let at = InstancePath {
-            object: path.object,
-            instance: path.instance,
-        };
-        match objects::find(&self.objects, at) {
+        match objects::find(&self.objects, place_above(path)) {
             Some(instance) => instance.get(path.resource, path.part),
+            None => None,
+        }
+    }
+
+    /// The single value of a resource. An instance that holds a value is there, so where this finds one nothing else
+    /// needs to be looked up.
+    pub fn single(&self, path: ResourcePath) -> Option<&Value>
+        ensures value { option_copied result ≡ value_at self.now (single_of path) }
+        ensures there { IfSome result (λ _. has_instance self.now (instance_of path) ≡ true) }
+    {
+        match objects::find(&self.objects, place_of(path)) {
+            Some(instance) => instance.get(path.resource, None),
             None => None,
         }
     }
@@ -143,43 +161,56 @@ impl Store {
         ensures may_lack_memory { IsErrOf result StoreFault.Memory → value_at self.old (single_of path) ≡ None }
         ensures unchanged { OnErr result (self.new ≡ self.old) }
     {
-        if !self.has_instance(place_of(path)) {
-            return Err(StoreFault::Absent);
+        self.set(path.single(), value)
+    }
+
+    /// Sets a value of an instance. `Absent`: there is no such instance. It takes memory only where there is no value.
+    fn set(&mut self, path: FullPath, value: Value) -> Result<(), StoreFault>
+        ensures ok { OnOk result (self.new ≡ with_value self.old path value) }
+        ensures absent { IsErrOf result StoreFault.Absent ↔ IsFalse (has_instance self.old (instance_below path)) }
+        ensures never_exists { result ≢ Err StoreFault.Exists }
+        ensures never_full { result ≢ Err StoreFault.Full }
+        ensures may_lack_memory { IsErrOf result StoreFault.Memory → value_at self.old path ≡ None }
+        ensures err { OnErr result (self.new ≡ self.old) }
+    {
+        if self.is_past_count(path) {
+            return Err(StoreFault::Memory);
         }
-        self.set(path.single(), value)?;
+        if objects::put_value(self.alloc, &mut self.objects, path, value)? {
+            self.count += 1;
+        }
         Ok(())
     }
 
-    /// Sets a value of an instance. It takes memory only where there is none.
-    fn set(&mut self, path: FullPath, value: Value) -> Result<(), AllocError>
-        requires { IsTrue (has_instance self.old (instance_below path)) }
-        ensures ok { OnOk result (self.new ≡ with_value self.old path value) }
-        ensures may_lack_memory { IsErr result → value_at self.old path ≡ None }
-        ensures err { OnErr result (self.new ≡ self.old) }
+    /// Whether a value at a full path would be new to its instance, and one more than can be counted.
+    fn is_past_count(&self, path: FullPath) -> bool
+        ensures new { IsTrue result → (IsTrue (has_instance self.now (instance_below path))
+            × (value_at self.now path ≡ None)) }
+        ensures fits { IsFalse result → IsTrue (has_instance self.now (instance_below path))
+            → value_at self.now path ≡ None → value_count self.now + 1 < 2 ^ 64 }
     {
-        match self.count.checked_add(1) {
-            Some(count) => {
-                if objects::put_value(self.alloc, &mut self.objects, path, value)? {
-                    self.count = count;
-                }
-                Ok(())
-            }
-            None => {
-                if !self.holds(path) {
-                    return Err(AllocError);
-                }
-                objects::put_value(self.alloc, &mut self.objects, path, value)?;
-                Ok(())
-            }
+        if self.count < usize::MAX {
+            return false;
         }
+        self.lacks(path)
     }
 
-    /// Whether there is a value at a full path.
-    fn holds(&self, path: FullPath) -> bool
-        ensures { result ≡ is_some (value_at self.now path) }
+    /// Whether an instance that there is has no value at a full path.
+    #[cold]
+    fn lacks(&self, path: FullPath) -> bool
+        ensures { result ≡ has_instance self.now (instance_below path) && not (is_some (value_at self.now path)) }
     {
-        match self.get(path) {
-            Some(_) => true,
+        self.has_instance(place_above(path)) && !self.holds(path)
+    }
+
+    /// Whether there is a value at a full path. Where there is one, its instance is there.
+    pub fn holds(&self, path: FullPath) -> bool
+        ensures value { result ≡ is_some (value_at self.now path) }
+        ensures instance { IsTrue result
+            → IsTrue (has_instance self.now (record { object = path.object; instance = path.instance })) }
+    {
+        match objects::find(&self.objects, place_above(path)) {
+            Some(instance) => instance.get(path.resource, path.part).is_some(),
             None => false,
         }
     }
@@ -202,24 +233,22 @@ impl Store {
         ensures may_lack_memory { IsErrOf result StoreFault.Memory → value_at self.old (part_of path part) ≡ None }
         ensures unchanged { OnErr result (self.new ≡ self.old) }
     {
-        if !self.has_instance(place_of(path)) {
-            return Err(StoreFault::Absent);
-        }
         if self.is_full(path, part) {
             return Err(StoreFault::Full);
         }
-        self.set(path.part(part), value)?;
-        Ok(())
+        self.set(path.part(part), value)
     }
 
-    /// Whether a part is new to a resource that has 32.
+    /// Whether a part is new to a resource that has 32. The instance of one that has parts is there.
     fn is_full(&self, path: ResourcePath, part: u16) -> bool
-        ensures { result ≡ is_full self.now path part }
+        ensures full { result ≡ is_full self.now path part }
+        ensures instance { IsTrue result → IsTrue (has_instance self.now (instance_of path)) }
     {
         if self.holds(path.part(part)) {
             return false;
         }
-        self.part_count(path) >= 32
+        let parts = self.part_numbers(path);
+        parts.len() >= 32
     }
 
     /// Removes the single value and the parts of a resource; one that holds nothing stays as it is. `Absent`: there is
@@ -284,7 +313,8 @@ impl Store {
 
     /// The numbers of a resource's parts that have a value, ascending, by reference.
     fn part_numbers(&self, path: ResourcePath) -> &[u16]
-        ensures { result.now ≡ parts_of self.now path }
+        ensures parts { result.now ≡ parts_of self.now path }
+        ensures absent { IsFalse (has_instance self.now (instance_of path)) → result.now ≡ [] }
     {
         match objects::find(&self.objects, place_of(path)) {
             Some(instance) => instance.parts(path.resource),

@@ -104,6 +104,7 @@ impl<T> Table<T> {
 
 impl<T: Drop> Table<T> {
     /// Sets the item of a number, and returns whether it had none. It takes memory only then.
+    #[inline(never)]
     pub(crate) fn insert(&mut self, number: u16, item: T) -> Result<bool, AllocError>
         ensures ok { OnOk result (self.new ≡ map.insert self.old number item) }
         ensures added { IfOk result (λ added. added ≡ not (map.contains_key self.old number)) }
