@@ -9,6 +9,8 @@ pub mod LinksExist
 mod Order
 mod PathAlone
 pub mod Paths
+mod PlainPaths
+mod PlainReads
 mod Present
 pub mod Queries
 pub mod ReadBack

@@ -1,7 +1,8 @@
 -- What clauses of private functions name. No promise rests on it.
 use Rattle.std.specs.Prelude.{ℕ, ◌==◌, nat_le, Bool, true, ◌&&◌, not, List, [], ◌∷◌, length, Option, None, Some}
-use Rattle.std.specs.Prelude.{is_some}
+use Rattle.std.specs.Prelude.{is_some, ◌≡◌, All}
 use Rattle.std.specs.List.{list_all}
+use Rattle.coap_codec.specs.Message.{IsOptionList, options_bytes}
 use Rattle.coap_codec.specs.OptionNumber.{uri_path_option}
 use Rattle.coap_codec.specs.declared.option.Opt.{Opt}
 use Rattle.object_defs.specs.Lines.{first_line}
@@ -14,6 +15,8 @@ use Rattle.device_requests.specs.declared.answer.Code.TheVariants.{BadRequest, M
 use Rattle.device_requests.specs.declared.write.NewValues.{NewValues}
 use Rattle.device_requests.specs.Answer.{Outcome}
 use Rattle.device_requests.specs.Client.{Client}
+use Rattle.device_requests.specs.Options.{path_of, segments_of}
+use Rattle.device_requests.specs.PlainRead.{IsSegment}
 use Rattle.device_requests.specs.Refusals.{is_refused_now, unless_taken}
 use Rattle.device_requests.specs.Targets.{place_of}
 use Rattle.device_requests.specs.Write.{after_write_with_event, event_of, exceeds, mode_at, write_unless}
@@ -25,6 +28,14 @@ is_segment o = o.number == uri_path_option && nat_le (length o.value) 255
 -- the options name a path, and say nothing else
 abbrev pub is_path_alone : List Opt → Bool
 is_path_alone options = list_all (λ o. is_segment o) options
+
+-- the bytes are options of Uri-Path alone, and these name the path
+pub record SpellsPath (bytes : List ℕ) (path : Path) : Type 0 where
+  pub options : List Opt
+  pub spelled : bytes ≡ options_bytes 0 options
+  pub is_list : IsOptionList 0 options
+  pub segments : All IsSegment options
+  pub named : path_of (segments_of options) ≡ Some path
 
 -- the numbers of a path; none where there is no path yet
 abbrev pub numbers_in : Option Path → List ℕ

@@ -13,6 +13,7 @@ pub mod Observe
 pub mod Operation
 pub mod Options
 pub mod Order
+pub mod PlainRead
 pub mod Outcomes
 pub mod Read
 pub mod Refusals

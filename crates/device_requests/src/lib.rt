@@ -12,6 +12,7 @@ mod laws;
 mod observe;
 mod operation;
 mod options;
+mod plain;
 mod read;
 mod request;
 mod targets;
@@ -30,6 +31,7 @@ pub use laws::{
 pub use observe::Interest;
 pub use operation::Operation;
 pub use options::{has_known_form, observe_of, path_of, repeats};
+pub use plain::{PlainRead, plain_read};
 pub use request::{Request, RequestResult};
 pub use targets::{defined, definition_at, is_fixed, is_readable};
 pub use write::{given_to_part, given_to_resource, is_writable, mode_at};

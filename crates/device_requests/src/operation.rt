@@ -5,7 +5,7 @@ ghost use Rattle.device_requests.specs.Operation.{asks_for_links, operation_of, 
 
 use object_defs::Path;
 
-const GET: u8 = 1;
+pub(crate) const GET: u8 = 1;
 
 const POST: u8 = 2;
 

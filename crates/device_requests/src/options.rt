@@ -132,7 +132,7 @@ fn has_query(options: &[Opt]) -> bool
 }
 
 /// A path with one number more, where it has three at most; no path is one of no number.
-fn extended(path: Option<Path>, number: u16) -> Option<Path>
+pub(crate) fn extended(path: Option<Path>, number: u16) -> Option<Path>
     ensures { result ≡ path_from (numbers_in path ++ number ∷ []) }
 {
     match path {

@@ -1,14 +1,15 @@
 //! A Read: its rules, and the payload that it answers.
 
-ghost use Rattle.std.specs.Prelude.{◌≡◌, ◌≢◌, true, IfOk, OnErr, Some};
+ghost use Rattle.std.specs.Prelude.{◌≡◌, ◌≢◌, ℕ, true, IfOk, IfSome, OnErr, Some};
 ghost use Rattle.lwm2m_values.specs.Tree.{part, single};
-ghost use Rattle.lwm2m_payloads.specs.Nodes.{within_limit};
+ghost use Rattle.lwm2m_payloads.specs.declared.format.Format.{Format};
+ghost use Rattle.lwm2m_payloads.specs.Nodes.{value_payload, within_limit};
 ghost use Rattle.device_requests.specs.Access.{shown_instances};
 ghost use Rattle.device_requests.specs.Answer.{takes_memory};
 ghost use Rattle.device_requests.specs.Outcomes.{read_answer};
 ghost use Rattle.device_requests.specs.Read.{object_payload, one_payload, payload_in, values_payload};
 ghost use Rattle.device_requests.specs.Refusals.{can_be_read};
-ghost use Rattle.device_requests.specs.Targets.{definition_at};
+ghost use Rattle.device_requests.specs.Targets.{definition_at, exists};
 
 use crate::access::shown_instances;
 use crate::answer::{Answer, Code};
@@ -16,6 +17,7 @@ use crate::client::Client;
 use crate::targets::{defined, definition_at, exists_as, is_multiple, is_readable, resource_place};
 use instance_store::Store;
 use lwm2m_payloads::{Format, format_for, object_tlv, values_tlv, write_part, write_single};
+use lwm2m_values::Value;
 use object_defs::object_number::SECURITY;
 use object_defs::{Catalog, Path, ResourceDef, ResourcePath};
 use octets::Bytes;
@@ -85,7 +87,9 @@ impl Client {
         }
     }
 
-    /// The payload of a Read of a server, where it has 1,024 bytes at most.
+    /// The payload of a Read of a server, where it has 1,024 bytes at most. A call of its own, so that a Read of a
+    /// single value does not pay for the lists of others.
+    #[inline(never)]
     fn shown(
         &self,
         server: u16,
@@ -113,6 +117,29 @@ impl Client {
         }
     }
 
+    /// The number and the value of the single resource that a path names, where it is defined and holds one. The path
+    /// exists then, and the value is all that a Read shows there.
+    fn single_value(&self, path: Path, definition: Option<ResourceDef>) -> Option<(u16, &Value)>
+        requires { definition ≡ definition_at self.now.catalog path }
+        ensures there { IfSome result (λ _. exists self.now.catalog self.now.store path ≡ true) }
+        ensures shown { IfSome result (λ found. (server : ℕ) (format : Format)
+            → payload_in self.now server path format ≡ value_payload format (single found.0) found.1.now) }
+    {
+        let definition = definition?;
+        if definition.multiple {
+            return None;
+        }
+        match path {
+            Path::Resource(object, instance, resource) => {
+                let value = self
+                    .store
+                    .single(resource_place(object, instance, resource))?;
+                Some((resource, value))
+            }
+            Path::Object(_) | Path::Instance(_, _) | Path::Part(_, _, _, _) => None,
+        }
+    }
+
     /// The answer to a Read of a server at a path, with the format that its Accept names; it is also that of a
     /// notification. Only 2.05 and 5.00 may take memory, and only where the target can be read.
     pub fn read(&self, server: u16, path: Path, accept: Option<u16>) -> Result<Answer, AllocError>
@@ -127,7 +154,8 @@ impl Client {
             return Ok(Answer::bare(self.alloc, Code::Unauthorized));
         }
         let definition = definition_at(&self.catalog, path);
-        if !exists_as(&self.catalog, &self.store, path, definition) {
+        let single = self.single_value(path, definition);
+        if single.is_none() && !exists_as(&self.catalog, &self.store, path, definition) {
             return Ok(Answer::bare(self.alloc, Code::NotFound));
         }
         if !self.may_read(server, path) {
@@ -139,7 +167,11 @@ impl Client {
         let Some(format) = format_for(path, definition, accept) else {
             return Ok(Answer::bare(self.alloc, Code::NotAcceptable));
         };
-        match self.shown(server, path, definition, format)? {
+        let payload = match single {
+            Some((resource, value)) => write_single(self.alloc, format, resource, value)?,
+            None => self.shown(server, path, definition, format)?,
+        };
+        match payload {
             None => Ok(Answer::bare(self.alloc, Code::InternalServerError)),
             Some(payload) => Ok(Answer::content(format.number(), payload)),
         }
