@@ -7,6 +7,7 @@ mod Lives
 pub mod Living
 pub mod Naming
 mod Places
+mod Plain
 mod Putting
 mod Recalled
 pub mod Refusing

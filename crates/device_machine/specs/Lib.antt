@@ -1,4 +1,5 @@
 pub mod Acts
+pub mod Asked
 pub mod Items
 pub mod Template
 pub mod Laws

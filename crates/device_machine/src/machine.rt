@@ -17,6 +17,7 @@ ghost use Rattle.device_firmware.specs.Firmware.{firmware_after};
 ghost use Rattle.device_firmware.specs.declared.event.FirmwareEvent.TheVariants.{Ended};
 
 mod notes;
+mod plain;
 mod repeats;
 mod requests;
 

@@ -1,93 +1,149 @@
 //! The datagrams that a device sends.
 
 ghost use Rattle.std.specs.Prelude.{◌≡◌, ◌≤◌, ◌<◌, ◌∷◌, ◌++◌, [], true, is_some, length, option_map, IfOk, OnErr, OnOk};
-ghost use Rattle.coap_codec.specs.Message.{IsOptionList, spelling};
-ghost use Rattle.device_machine.specs.declared.output.Output.TheVariants.{Send};
-ghost use Rattle.device_machine.specs.Reactions.{IsShort, answer_options, location_options, reset, response, sent_to};
 ghost use Rattle.std.specs.Fmt.{decimal};
+ghost use Rattle.coap_codec.specs.Message.{option_bytes, options_bytes, spelling};
+ghost use Rattle.coap_codec.specs.OptionNumber.{location_path_option};
+ghost use Rattle.device_notifications.specs.Message.{format_options};
+ghost use Rattle.device_machine.specs.declared.output.Output.TheVariants.{Send};
+ghost use Rattle.device_machine.specs.Asked.{reply_with};
+ghost use Rattle.device_machine.specs.Reactions.{answer_options, location_options, reset, response, sent_to};
 
 use crate::output::{Output, Outputs};
 use coap_codec::option_number::{CONTENT_FORMAT, LOCATION_PATH, OBSERVE};
-use coap_codec::{Kind, Message, Opt, Options, encode, encode_into};
+use coap_codec::{
+    Kind, Message, Options, encode, put_number_option, put_option, put_payload, put_start,
+};
 use device_requests::Answer;
 use object_defs::InstancePath;
 use octets::Bytes;
 use std::alloc::{AllocError, Global};
 
-/// A segment of Location-Path: a number in decimal.
+/// Adds a segment of Location-Path, a number in decimal, after an option of number `before`.
 #[tactic(auto, using(crate::proofs::Naming::short_decimal))]
-fn segment(alloc: Global, number: u16) -> Result<Opt, AllocError>
-    ensures option { IfOk result (λ o. o ≡ record { number = 8; value = decimal number }) }
-    ensures short { length (decimal number) ≤ 5 }
+fn put_segment(alloc: Global, out: &mut Vec<u8>, before: u16, number: u16) -> Result<(), AllocError>
+    requires { before ≤ location_path_option }
+    ensures { OnOk result (out.new.items ≡ out.old.items
+        ++ option_bytes before (record { number = location_path_option; value = decimal number })) }
 {
     let text = format!(in alloc; "{number}")?;
-    let value = Bytes::from_slice(alloc, text.as_bytes())?;
-    Ok(Opt {
-        number: LOCATION_PATH,
-        value,
-    })
+    put_option(out, before, LOCATION_PATH, text.as_bytes())
 }
 
-/// Adds the Location-Path of an answer that names an instance.
-fn push_location(
+/// Adds the Location-Path of an answer that names an instance, and Content-Format, after an option of number `before`.
+fn put_location_and_format(
     alloc: Global,
-    options: &mut Options,
+    out: &mut Vec<u8>,
+    before: u16,
     location: Option<InstancePath>,
+    format: Option<u16>,
 ) -> Result<(), AllocError>
-    ensures options { OnOk result (options.new ≡ options.old ++ location_options location) }
-    ensures short { OnOk result (IsShort location) }
-    ensures may_lack_memory { OnErr result (is_some location ≡ true) }
+    requires { before ≤ location_path_option }
+    ensures { OnOk result (out.new.items ≡ out.old.items
+        ++ options_bytes before (location_options location ++ format_options format)) }
 {
+    let format = format.map(u32::from);
     let Some(place) = location else {
-        return Ok(());
+        return put_number_option(out, before, CONTENT_FORMAT, format);
     };
-    let object = segment(alloc, place.object)?;
-    let instance = segment(alloc, place.instance)?;
-    options.push(object)?;
-    options.push(instance)?;
-    Ok(())
+    put_segment(alloc, out, before, place.object)?;
+    put_segment(alloc, out, LOCATION_PATH, place.instance)?;
+    put_number_option(out, LOCATION_PATH, CONTENT_FORMAT, format)
 }
 
-/// Observe, Location-Path and Content-Format, in the order of their numbers.
-#[tactic(auto, using(crate::proofs::Naming::in_order))]
-fn answer_options(
+/// Adds Observe, Location-Path and Content-Format, in the order of their numbers.
+fn put_answer_options(
     alloc: Global,
+    out: &mut Vec<u8>,
     number: Option<u32>,
     location: Option<InstancePath>,
     format: Option<u16>,
-) -> Result<Options, AllocError>
-    ensures options { IfOk result (λ o. o ≡ answer_options number location format) }
-    ensures good { IfOk result (λ o. IsOptionList 0 (answer_options number location format)) }
+) -> Result<(), AllocError>
+    ensures { OnOk result (out.new.items ≡ out.old.items
+        ++ options_bytes 0 (answer_options number location format)) }
 {
-    let mut options = Options::new(alloc);
-    options.push_number(alloc, OBSERVE, number)?;
-    push_location(alloc, &mut options, location)?;
-    options.push_short_number(alloc, CONTENT_FORMAT, format)?;
-    Ok(options)
+    let Some(number) = number else {
+        return put_location_and_format(alloc, out, 0, location, format);
+    };
+    put_number_option(out, 0, OBSERVE, Some(number))?;
+    put_location_and_format(alloc, out, OBSERVE, location, format)
 }
 
-/// The message of an answer, with the token of the request and this Observe number.
-pub(crate) fn response(
+/// The datagram of an answer, with the token of the request and this Observe number. It is written to the buffer first,
+/// and copied: a short one takes no memory then.
+fn answer_datagram(
     alloc: Global,
+    buffer: &mut Vec<u8>,
     kind: Kind,
     mid: u16,
-    token: &Bytes,
+    token: &[u8],
     number: Option<u32>,
-    answer: Answer,
-) -> Result<Message, AllocError>
+    answer: &Answer,
+) -> Result<Bytes, AllocError>
     requires { length token.now ≤ 8 }
-    ensures { IfOk result (λ m. m ≡ response kind mid token.now number answer) }
+    ensures { IfOk result (λ b. b ≡ spelling (response kind mid token.now number answer.now)) }
 {
-    let options = answer_options(alloc, number, answer.location, answer.format)?;
-    let token = token.clone()?;
-    Ok(Message::of_parts(
-        kind,
-        answer.code.byte(),
-        mid,
-        token,
-        options,
-        answer.payload,
-    ))
+    buffer.clear();
+    put_start(buffer, kind, answer.code.byte(), mid, token)?;
+    put_answer_options(alloc, buffer, number, answer.location, answer.format)?;
+    put_payload(buffer, answer.payload.as_slice())?;
+    Bytes::from_slice(alloc, buffer.as_slice())
+}
+
+/// What a reply takes over of its request.
+#[derive(Clone, Copy)]
+pub(crate) struct Asked<'a> {
+    /// The type: CON or NON.
+    pub kind: Kind,
+    /// The message ID.
+    pub mid: u16,
+    /// The token.
+    pub token: &'a [u8],
+}
+
+/// What the reply to a message takes over of it.
+pub(crate) fn asked_by(message: &Message) -> Asked<'_>
+    ensures kind { result.kind ≡ message.now.kind }
+    ensures mid { result.mid ≡ message.now.mid }
+    ensures token { result.token.now ≡ message.now.token }
+    ensures short { length result.token.now ≤ 8 }
+{
+    // For the proof alone: a message whose options are read is known to be well formed.
+    let _known = message.options();
+    Asked {
+        kind: message.kind(),
+        mid: message.mid(),
+        token: message.token().as_slice(),
+    }
+}
+
+/// The datagram that replies to a request with this answer and this Observe number, or none to a NON that is rejected.
+/// A NON is replied to with the device's own message ID.
+pub(crate) fn reply_datagram(
+    alloc: Global,
+    buffer: &mut Vec<u8>,
+    next_id: u16,
+    asked: Asked<'_>,
+    is_rejected: bool,
+    number: Option<u32>,
+    answer: &Answer,
+) -> Result<Option<Bytes>, AllocError>
+    requires { length asked.token.now ≤ 8 }
+    ensures { IfOk result (λ d. d ≡ option_map spelling
+        (reply_with next_id asked.entry.kind asked.entry.mid asked.entry.token.now is_rejected number answer.now)) }
+{
+    let (kind, mid) = match asked.kind {
+        Kind::Con => (Kind::Ack, asked.mid),
+        Kind::Non => {
+            if is_rejected {
+                return Ok(None);
+            }
+            (Kind::Non, next_id)
+        }
+        Kind::Ack | Kind::Rst => return Ok(None),
+    };
+    let bytes = answer_datagram(alloc, buffer, kind, mid, asked.token, number, answer)?;
+    Ok(Some(bytes))
 }
 
 /// An empty Reset of this message ID.
@@ -109,23 +165,6 @@ fn datagram(alloc: Global, message: &Message) -> Result<Bytes, AllocError>
     ensures { IfOk result (λ b. b ≡ spelling message.now) }
 {
     Ok(Bytes::from_vec(encode(alloc, message)?))
-}
-
-/// The datagram of a message, where there is one. It is written to the buffer first, and copied: a short one takes no
-/// memory then.
-pub(crate) fn datagram_of(
-    alloc: Global,
-    buffer: &mut Vec<u8>,
-    message: Option<Message>,
-) -> Result<Option<Bytes>, AllocError>
-    ensures { IfOk result (λ d. d ≡ option_map spelling message) }
-{
-    let Some(message) = message else {
-        return Ok(None);
-    };
-    buffer.clear();
-    encode_into(buffer, &message)?;
-    Ok(Some(Bytes::from_slice(alloc, buffer.as_slice())?))
 }
 
 /// A datagram that is sent to a server, alone, or nothing.

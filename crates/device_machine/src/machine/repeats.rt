@@ -1,7 +1,8 @@
 //! The requests that come again within their lifetime.
 
-ghost use Rattle.std.specs.Prelude.{◌≡◌, true, IfOk, OnErr};
+ghost use Rattle.std.specs.Prelude.{◌≡◌, [], true, IfOk, OnErr};
 ghost use Rattle.std.specs.Option.{option_copied};
+ghost use Rattle.device_machine.specs.Asked.{message_with};
 ghost use Rattle.device_machine.specs.Memory.{again_takes_memory};
 ghost use Rattle.device_machine.specs.Reactions.{again, repeat_of};
 
@@ -30,10 +31,17 @@ pub(super) fn again(
 }
 
 impl Machine {
+    /// The first receipt of a request of this type and message ID that is repeated within its lifetime.
+    pub(super) fn first_of(&self, server: u16, kind: Kind, mid: u16) -> Option<&Recorded>
+        ensures { option_copied result ≡ repeat_of self.now.flat server (message_with kind mid []) }
+    {
+        self.recorded.find(server, kind, mid)
+    }
+
     /// The first receipt of a request that is repeated within its lifetime.
     pub(crate) fn repeat_of(&self, server: u16, message: &Message) -> Option<&Recorded>
         ensures { option_copied result ≡ repeat_of self.now.flat server message.now }
     {
-        self.recorded.find(server, message.kind(), message.mid())
+        self.first_of(server, message.kind(), message.mid())
     }
 }

@@ -1,29 +1,29 @@
 //! What a device does with a datagram.
 
-ghost use Rattle.std.specs.Prelude.{◌≡◌, ◌<◌, None, Ok, true, false, is_some, IfOk, OnErr, OnOk};
+ghost use Rattle.std.specs.Prelude.{◌≡◌, ◌<◌, ◌≤◌, None, Ok, true, false, length, IfOk, OnErr, OnOk};
 ghost use Rattle.device_notifications.specs.Outlooks.{IsKnown};
 ghost use Rattle.coap_codec.specs.Fault.{is_empty_message};
 ghost use Rattle.coap_codec.specs.Reading.{reading_of};
 ghost use Rattle.device_machine.specs.declared.event.Event.TheVariants.{Recv};
 ghost use Rattle.device_machine.specs.Reactions.{Gives, claims_confirmable, is_request, on_fresh, on_message, on_noise};
-ghost use Rattle.device_machine.specs.Reactions.{on_outcome, on_request, reaction_to, repeat_of, reply_to};
+ghost use Rattle.device_machine.specs.Reactions.{on_outcome, on_request, reaction_to, repeat_of};
+ghost use Rattle.device_machine.specs.Asked.{message_with, reply_with};
 ghost use Rattle.device_machine.specs.Memory.{KeepsRecords, LeavesOff, event_takes_memory, is_ignored};
 ghost use Rattle.device_machine.specs.Memory.{message_takes_memory};
 ghost use Rattle.device_machine.specs.Memory.{request_takes_memory};
 ghost use Rattle.device_machine.specs.Held.{IsUpToDate};
 ghost use Rattle.device_requests.specs.Answer.{is_change};
 ghost use Rattle.device_machine.specs.State.{lifetime};
-ghost use Rattle.device_requests.specs.Options.{has_unrecognized_critical};
 ghost use Rattle.device_requests.specs.Request.{outcome_of};
 
 use super::repeats::again;
 use crate::machine::Machine;
 use crate::output::Outputs;
 use crate::recorded::Recorded;
-use crate::reply::{datagram_of, reset, response, sent, sent_to};
+use crate::reply::{Asked, asked_by, reply_datagram, reset, sent, sent_to};
 use coap_codec::{CoapFault, Kind, Message, decode_in, header};
 use device_notifications::say_all;
-use device_requests::{Act, Answer, Client, Code};
+use device_requests::{Act, Answer, Client, Code, plain_read};
 use notifier::Observations;
 use std::alloc::AllocError;
 use std::mem;
@@ -70,68 +70,49 @@ fn say_after(client: &Client, observations: &mut Observations, code: Code) -> Re
 }
 
 impl Machine {
-    /// The message that replies to a request with this answer and this Observe number, or none to a NON that is
-    /// rejected.
-    fn reply_to(
-        &self,
-        message: &Message,
-        is_rejected: bool,
-        number: Option<u32>,
-        answer: Answer,
-    ) -> Result<Option<Message>, AllocError>
-        requires { is_rejected ≡ has_unrecognized_critical message.now.options }
-        ensures reply { IfOk result (λ r.
-            r ≡ reply_to self.now.flat.kept.next_id message.now message.now.kind number answer) }
-        ensures may_lack_memory { OnErr result
-            (is_some (reply_to self.now.flat.kept.next_id message.now message.now.kind number answer) ≡ true) }
-    {
-        // For the proof alone: a message whose options are read is known to be well formed.
-        let _known = message.options();
-        let (kind, mid) = match message.kind() {
-            Kind::Con => (Kind::Ack, message.mid()),
-            Kind::Non => {
-                if is_rejected {
-                    return Ok(None);
-                }
-                (Kind::Non, self.next_id)
-            }
-            Kind::Ack | Kind::Rst => return Ok(None),
-        };
-        let reply = response(self.alloc, kind, mid, message.token(), number, answer)?;
-        Ok(Some(reply))
-    }
-
-    /// Records a request with the message that replies to it, sends that, and acts.
-    fn reply(
+    /// Answers a request that is no repeat: records it with the datagram that replies to it, sends that, and acts.
+    pub(super) fn reply(
         &mut self,
         server: u16,
-        message: &Message,
-        reply: Option<Message>,
-        act: Option<Act>,
+        asked: Asked<'_>,
+        is_rejected: bool,
+        number: Option<u32>,
+        answer: &Answer,
     ) -> Result<Outputs, AllocError>
-        requires fresh { repeat_of self.old.flat server message.now ≡ None }
-        requires lives { 0 < lifetime message.now.kind }
+        requires fresh { repeat_of self.old.flat server (message_with asked.kind asked.mid asked.token.now) ≡ None }
+        requires lives { 0 < lifetime asked.kind }
+        requires token { length asked.token.now ≤ 8 }
         requires up_to_date { IsUpToDate self.old }
         ensures gives { IfOk result (λ o. Gives o self.new.flat
-            (on_fresh self.old.flat server message.now self.old.flat.kept reply act)) }
+            (on_fresh self.old.flat server (message_with asked.entry.kind asked.entry.mid asked.entry.token.now)
+            self.old.flat.kept
+            (reply_with self.old.flat.kept.next_id asked.entry.kind asked.entry.mid asked.entry.token.now is_rejected
+            number answer.now)
+            answer.now.act)) }
         ensures up_to_date { OnOk result (IsUpToDate self.new) }
         ensures unchanged { OnErr result (self.new ≡ self.old) }
     {
-        let kind = message.kind();
-        let mid = message.mid();
-        let reply = datagram_of(self.alloc, &mut self.buffer, reply)?;
+        let reply = reply_datagram(
+            self.alloc,
+            &mut self.buffer,
+            self.next_id,
+            asked,
+            is_rejected,
+            number,
+            answer,
+        )?;
         let is_answered = reply.is_some();
         let mut outputs = sent_to(self.alloc, server, &reply)?;
-        outputs.act(act)?;
+        outputs.act(answer.act)?;
         let second = self.clock;
         self.recorded.push(Recorded {
             server,
-            kind,
-            mid,
+            kind: asked.kind,
+            mid: asked.mid,
             second,
             reply,
         })?;
-        if kind == Kind::Non && is_answered {
+        if asked.kind == Kind::Non && is_answered {
             self.next_id = self.next_id.wrapping_add(1);
         }
         Ok(outputs)
@@ -154,9 +135,8 @@ impl Machine {
         let handled = self.client.answer(server, message)?;
         say_after(&self.client, &mut self.observations, handled.answer.code)?;
         let number = self.note(server, message, handled.interest, &handled.answer)?;
-        let act = handled.answer.act;
-        let reply = self.reply_to(message, handled.is_rejected, number, handled.answer)?;
-        self.reply(server, message, reply, act)
+        let asked = asked_by(message);
+        self.reply(server, asked, handled.is_rejected, number, &handled.answer)
     }
 
     /// Takes a request.
@@ -257,8 +237,9 @@ impl Machine {
         }
     }
 
-    /// Takes a datagram.
-    pub(super) fn receive(&mut self, server: u16, bytes: &[u8]) -> Result<Outputs, AllocError>
+    /// Takes a datagram, whatever it is.
+    #[inline(never)]
+    fn receive_any(&mut self, server: u16, bytes: &[u8]) -> Result<Outputs, AllocError>
         requires { IsUpToDate self.old }
         ensures gives { IfOk result (λ o. Gives o self.new.flat (reaction_to self.old.flat (Recv server bytes.now))) }
 
@@ -280,6 +261,22 @@ impl Machine {
             Ok(message) => self.take_owned(server, message),
             Err(CoapFault::Memory) => Err(AllocError),
             Err(_) => self.take_noise(server, bytes),
+        }
+    }
+
+    /// Takes a datagram. A plain Read, as most are, goes the short way.
+    pub(super) fn receive(&mut self, server: u16, bytes: &[u8]) -> Result<Outputs, AllocError>
+        requires { IsUpToDate self.old }
+        ensures gives { IfOk result (λ o. Gives o self.new.flat (reaction_to self.old.flat (Recv server bytes.now))) }
+        ensures may_lack_memory { OnErr result (event_takes_memory self.old.flat.kept (Recv server bytes.now) ≡ true) }
+        ensures up_to_date { OnOk result (IsUpToDate self.new) }
+        ensures left { OnErr result (KeepsRecords self.old.flat self.new.flat) }
+        ensures part { OnErr result (LeavesOff self.old.flat server (reading_of bytes.now)
+            (reaction_to self.old.flat (Recv server bytes.now)).flat.kept self.new.flat.kept) }
+    {
+        match plain_read(bytes) {
+            Some(read) => self.receive_plain(server, bytes, read),
+            None => self.receive_any(server, bytes),
         }
     }
 }
