@@ -18,6 +18,7 @@ use Rattle.fleet_core.specs.Next.{next_of, may_pass}
 use Rattle.fleet_core.specs.Run.{step_at, made_by, posts_to, is_post, posts_of, is_enabled, entry_of, out_at}
 use Rattle.fleet_core.specs.Run.{outputs_before, outputs_with, outputs_in_row}
 use Rattle.fleet_core.specs.Board.{FleetModel, IsBoard, AreParked, HoldsAfter, Holding, IsFleet, posts_after}
+use Rattle.fleet_core.specs.Board.{with_entry}
 use Rattle.fleet_core.proofs.Posts.{one, run_push, made_same, made_other, posts-push, enabled_fits}
 use Rattle.fleet_core.proofs.Valid.{IsStep, step_is, post_group, posts_within}
 use Rattle.fleet_core.proofs.Ends.{enabled_by}
@@ -183,7 +184,7 @@ pub record Reads (s : Scenario) (es : List Entry) (devices : List Holding) (d pl
 
 pub reads : (v : FleetModel) (s : Scenario) (es : List Entry) (spent : Bool) (made posts : List ℕ)
     (devices : List Holding) (d at place : ℕ) (step : Step) (old : Holding)
-    → record { scenario = s; entries = es; spent = spent } ≡ v → IsFleet s es made posts devices spent → spent ≡ false
+    → record { scenario = s; entries = es; spent = spent } ≡ v → IsFleet s es made posts devices spent → v.spent ≡ false
     → Some step ≡ step_at v.scenario d (made_by d v.entries)
     → true ≡ is_enabled v.scenario v.entries d → at ≡ d → place ≡ get_or made at place
     → old ≡ get_or devices at old → Reads s es devices d place step old
@@ -197,13 +198,14 @@ reads v s es spent made posts devices d at place step old view fleet ready next 
     let was : slice_get devices d ≡ Some old =
     slice_get_read devices (length devices) d old refl (omega (arith, is.within, fleet.count))
     (got ∙ ap (λ i. get_or devices i old) from) in
+    let parked : AreParked s es devices = fleet.parked (ap (λ w. w.spent) view ∙ ready) in
     record {
       at = next_is;
       is = is;
       go = subst (λ w. is_enabled w.scenario w.entries d ≡ true) (sym view) (sym go);
       place_is = place_is;
-      holds = subst (λ k. HoldsAfter s d k old) (sym place_is) ((fleet.parked ready).each d old was);
-      parked = fleet.parked ready;
+      holds = subst (λ k. HoldsAfter s d k old) (sym place_is) (parked.each d old was);
+      parked = parked;
     }
 
 pub step_stands_here : (s : Scenario) (es : List Entry) (devices : List Holding) (d place : ℕ) (step : Step)
@@ -238,11 +240,16 @@ pub entry_is : (s : Scenario) (es : List Entry) (devices : List Holding) (worker
 entry_is s es devices worker d place step old e r made =
     made ∙ ap (λ k. record { worker = worker; device = d; step = k; outputs = out_at s d k }) r.place_is
 
+-- the entry of a device's step, with these outputs
+abbrev pub with_outputs : ℕ → ℕ → ℕ → List Output → Entry
+with_outputs worker d place outputs = record { worker = worker; device = d; step = place; outputs = outputs }
+
 pub added : (v : FleetModel) (s : Scenario) (es new : List Entry) (spent : Bool) (worker d : ℕ) (e : Entry)
-    → record { scenario = s; entries = es; spent = spent } ≡ v
-    → new ≡ es ++ e ∷ [] → e ≡ entry_of s worker d es → new ≡ v.entries ++ entry_of v.scenario worker d v.entries ∷ []
+    → record { scenario = s; entries = es; spent = spent } ≡ v → new ≡ es ++ e ∷ [] → e ≡ entry_of s worker d es
+    → record { scenario = s; entries = new; spent = false } ≡ with_entry v worker d
 added v s es new spent worker d e view is same =
-    subst (λ w. new ≡ w.entries ++ entry_of w.scenario worker d w.entries ∷ []) view (is ∙ ap (λ x. es ++ x ∷ []) same)
+    subst (λ w. record { scenario = s; entries = new; spent = false } ≡ with_entry w worker d) view
+    (ap (λ l. record { scenario = s; entries = l; spent = false }) (is ∙ ap (λ x. es ++ x ∷ []) same))
 
 pub fleet_push : (s : Scenario) (es new : List Entry) (made posts posts_then : List ℕ)
     (devices : List Holding) (worker d at place : ℕ) (step : Step) (old then : Holding) (e : Entry)

@@ -1,10 +1,11 @@
 ghost use Rattle.std.specs.Prelude.{◌≡◌, ℕ, ◌<◌, ◌++◌, ◌∷◌, ◌↔◌, [], length, true, false, Err, IfOk, OnOk, OnErr};
-ghost use Rattle.std.specs.Prelude.{IsSome, IsTrue, Some};
+ghost use Rattle.std.specs.Prelude.{IsSome, IsTrue, Some, is_some};
 ghost use Rattle.std.specs.Option.{option_copied};
 ghost use Rattle.fleet_core.specs.Run.{made_by, step_at, posts_of, is_enabled, entry_of, IsRun, CanGo};
+ghost use Rattle.fleet_core.specs.Board.{with_entry};
 
 use crate::fault::CommitFault;
-use crate::held::{Held, held_of_rows, make_entry};
+use crate::held::{Held, held_of_rows, make_outputs};
 use crate::next::{may_pass, next_of};
 use crate::performing::{note_post, step_of};
 use scenario_image::{Scenario, Step};
@@ -44,15 +45,27 @@ impl<'a> Fleet<'a> {
     pub fn new(alloc: Global, scenario: &'a Scenario) -> Result<Fleet<'a>, AllocError>
         ensures { IfOk result (λ f. f ≡ record { scenario = scenario.now; entries = []; spent = false }) }
     {
+        Fleet::with_room(alloc, scenario, 0)
+    }
+
+    /// The same, with room for this many entries, so that none of these is moved to make room for others.
+    pub(crate) fn with_room(
+        alloc: Global,
+        scenario: &'a Scenario,
+        room: usize,
+    ) -> Result<Fleet<'a>, AllocError>
+        ensures { IfOk result (λ f. f ≡ record { scenario = scenario.now; entries = []; spent = false }) }
+    {
         let rows = scenario.rows();
         let devices = held_of_rows(alloc, scenario)?;
+        let entries = Vec::with_capacity(alloc, room)?;
         Ok(Fleet {
             alloc,
             scenario,
             devices,
             made: vec![in alloc; 0u32; rows]?,
             posts: vec![in alloc; 0u32; 256]?,
-            entries: Entries::new(alloc),
+            entries: Entries::from_vec(entries),
             spent: false,
         })
     }
@@ -123,25 +136,68 @@ impl<'a> Fleet<'a> {
         ensures stays_spent { is_enabled self.old.scenario self.old.entries device ≡ true → IsTrue self.old.spent
             → result ≡ Err CommitFault.Spent }
     {
-        if !self.is_enabled(device) {
+        if self.spent {
+            if self.is_enabled(device) {
+                return Err(CommitFault::Spent);
+            }
             return Err(CommitFault::NotEnabled);
         }
-        if self.spent {
-            return Err(CommitFault::Spent);
+        match self.advance(worker, device)? {
+            Some(_) => Ok(()),
+            None => Err(CommitFault::NotEnabled),
+        }
+    }
+
+    /// Lets the device make its next step, under the worker's number, adds just that entry, and returns the step. None,
+    /// and nothing changes, if no entry of the device can be added. Without memory the fleet is spent, with the entries
+    /// as they were. The serial run makes each step by it, so it is a part of that loop.
+    #[inline(always)]
+    pub(crate) fn advance(
+        &mut self,
+        worker: u16,
+        device: u16,
+    ) -> Result<Option<&'a Step>, AllocError>
+        requires ready { self.old.spent ≡ false }
+        ensures can { IfOk result (λ step. is_some step ≡ is_enabled self.old.scenario self.old.entries device) }
+        ensures step { IfOk result (λ step. is_some step ≡ true
+            → option_copied step ≡ step_at self.old.scenario device (made_by device self.old.entries)) }
+        ensures added { IfOk result (λ step. is_some step ≡ true → self.new ≡ with_entry self.old worker device) }
+        ensures unchanged { IfOk result (λ step. is_some step ≡ false → self.new ≡ self.old) }
+        ensures scenario { self.new.scenario ≡ self.old.scenario }
+        ensures entries { OnErr result (self.new.entries ≡ self.old.entries) }
+        ensures memory { OnErr result (IsTrue self.new.spent) }
+        ensures enabled { OnErr result (is_enabled self.old.scenario self.old.entries device ≡ true) }
+    {
+        if !self.is_enabled(device) {
+            return Ok(None);
         }
         let Some(step) = self.next_step(device) else {
             unreachable!()
         };
         let at = usize::from(device);
         let place = self.made[at];
-        self.spent = true;
         let held = &mut self.devices[at];
-        let entry = make_entry(self.alloc, self.scenario, held, worker, device, place, step)?;
         let next = place + 1;
-        self.entries.push(entry)?;
+        let following = step_of(self.scenario, device, next);
+        self.spent = true;
+        let outputs = make_outputs(
+            self.alloc,
+            self.scenario,
+            held,
+            device,
+            place,
+            step,
+            following,
+        )?;
+        self.entries.push(Entry {
+            worker,
+            device,
+            step: place,
+            outputs,
+        })?;
         self.made[at] = next;
         note_post(&mut self.posts, step);
         self.spent = false;
-        Ok(())
+        Ok(Some(step))
     }
 }

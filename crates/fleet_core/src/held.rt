@@ -1,8 +1,12 @@
 //! What is held of a device: its class alone before its first step, and nothing after its last one.
 
-ghost use Rattle.std.specs.Prelude.{◌≡◌, ℕ, ◌+◌, ◌<◌, [], false, Some, length, IfOk, OnOk};
+ghost use Rattle.std.specs.Prelude.{◌≡◌, ℕ, ◌+◌, ◌<◌, List, [], false, Some, length, IfOk, OnOk};
 ghost use Rattle.std.specs.Option.{option_copied};
+ghost use Rattle.device_template.specs.Template.{Template};
+ghost use Rattle.device_machine.specs.State.{Shows};
+ghost use Rattle.scenario_image.specs.declared.step.Step.{Step};
 ghost use Rattle.scenario_image.specs.Scenario.{Scenario};
+ghost use Rattle.scenario_image.specs.Play.{start, IsRowOf};
 ghost use Rattle.fleet_core.specs.Run.{step_at, out_at};
 ghost use Rattle.fleet_core.specs.Board.{ShowsAfter, HoldsAfter, AreParked};
 
@@ -70,11 +74,26 @@ impl Held {
             State::Here(_) => return Ok(()),
             State::Gone(_) => unreachable!(),
         }
+        self.begin(scenario, device)?;
+        Ok(())
+    }
+
+    /// Holds the device at the start of its row. This is done once a device, so it stays out of what a step costs.
+    #[cold]
+    #[inline(never)]
+    fn begin(&mut self, scenario: &Scenario, device: u16) -> Result<(), AllocError>
+        requires { device < length scenario.now.rows }
+        ensures begun { OnOk result ((class : Template) (steps : List Step) → IsRowOf scenario.now device class steps
+            → Shows self.new.shown (start class)) }
+        ensures here { OnOk result ((self.new.fresh ≡ false) × (self.new.gone ≡ false)) }
+    {
         self.state = State::Here(start_of_row(scenario, device)?);
         Ok(())
     }
 
-    /// Lets go of the device's memory.
+    /// Lets go of the device's memory, once, after its last step.
+    #[cold]
+    #[inline(never)]
     fn let_go(&mut self)
         ensures shown { self.new.shown ≡ self.old.shown }
         ensures fresh { self.new.fresh ≡ self.old.fresh }
@@ -134,6 +153,29 @@ pub(crate) fn let_go_at_end(held: &mut Held, next: Option<&Step>)
     }
 }
 
+/// Lets the device make the step of this number in its row, and returns what it outputs. The device is started before
+/// its first step, and its memory is let go of where no step comes next. Only an allocation can fail; nothing is
+/// promised of what is held then.
+pub(crate) fn make_outputs(
+    alloc: Global,
+    scenario: &Scenario,
+    held: &mut Held,
+    device: u16,
+    place: u32,
+    step: &Step,
+    next: Option<&Step>,
+) -> Result<Outputs, AllocError>
+    requires stands { step_at scenario.now device place ≡ Some step.now }
+    requires next { option_copied next ≡ step_at scenario.now device (place + 1) }
+    requires holds { HoldsAfter scenario.now device place held.old }
+    ensures outputs { IfOk result (λ o. o ≡ out_at scenario.now device place) }
+    ensures holds { OnOk result (HoldsAfter scenario.now device (place + 1) held.new) }
+{
+    let outputs = step_held(alloc, scenario, held, device, place, step)?;
+    let_go_at_end(held, next);
+    Ok(outputs)
+}
+
 /// Lets the device make the step of this number in its row, and returns its entry under the worker's number. The device
 /// is started before its first step, and its memory is let go of after its last one. Only an allocation can fail;
 /// nothing is promised of what is held then.
@@ -158,9 +200,9 @@ pub fn make_entry(
 {
     // For the proof alone: a scenario whose rows are counted is known to be valid.
     let _known = scenario.rows();
-    let outputs = step_held(alloc, scenario, held, device, place, step)?;
     let next = place + 1;
-    let_go_at_end(held, step_of(scenario, device, next));
+    let following = step_of(scenario, device, next);
+    let outputs = make_outputs(alloc, scenario, held, device, place, step, following)?;
     Ok(Entry {
         worker,
         device,

@@ -6,6 +6,7 @@ ghost use Rattle.std.specs.Option.{option_copied};
 ghost use Rattle.std.specs.Result.{IsOk};
 ghost use Rattle.device_template.specs.Template.{Template};
 ghost use Rattle.device_machine.specs.State.{Machine, Shows};
+ghost use Rattle.device_machine.specs.Reactions.{is_refused, outputs_of, flat_after};
 ghost use Rattle.scenario_image.specs.Scenario.{Scenario};
 ghost use Rattle.scenario_image.specs.Play.{start, step_outputs, step_after, is_event, is_step_refused, IsRowOf};
 ghost use Rattle.fleet_core.specs.Run.{step_at, out_at};
@@ -13,9 +14,9 @@ ghost use Rattle.fleet_core.specs.Board.{AreStarted, ShowsAfter, posts_after};
 ghost use Rattle.scenario_image.specs.declared.step.Step.{Step};
 ghost use Rattle.scenario_image.specs.declared.step.Step.TheVariants.{Post};
 
-use device_machine::{Device, Outputs, StepFault};
+use device_machine::{Device, Event, Outputs, StepFault};
 use device_template::Template;
-use scenario_image::{Scenario, Step, take_step};
+use scenario_image::{Scenario, Step};
 use std::alloc::{AllocError, Global};
 
 /// A reference to the step of this number, counted from 0, in the device's row; none after its last one.
@@ -64,6 +65,21 @@ pub fn start_devices(alloc: Global, scenario: &Scenario) -> Result<Vec<Device>, 
     Ok(devices)
 }
 
+/// Lets a device take an event that it does not refuse, and gives what it outputs. All that a device does is in here,
+/// so that a post and a need cost nothing of it.
+#[inline(never)]
+fn perform_event(device: &mut Device, event: &Event) -> Result<Outputs, AllocError>
+    requires { is_refused device.old event.now ≡ false }
+    ensures outputs { (f : Machine) → Shows device.old f → IfOk result (λ o. o ≡ outputs_of f event.now) }
+    ensures shows { (f : Machine) → Shows device.old f → OnOk result (Shows device.new (flat_after f event.now)) }
+{
+    match device.step(event) {
+        Ok(outputs) => Ok(outputs),
+        Err(StepFault::Memory) => Err(AllocError),
+        Err(StepFault::Spent) => unreachable!(),
+    }
+}
+
 /// Lets a device take a step that it does not refuse, and gives what it outputs.
 pub(crate) fn perform(
     alloc: Global,
@@ -75,11 +91,9 @@ pub(crate) fn perform(
     ensures shows { (f : Machine) → Shows device.old f → OnOk result (Shows device.new (step_after f step.now)) }
     ensures silent { is_event step.now ≡ false → IsOk result }
 {
-    match take_step(device, step) {
-        Ok(None) => Ok(Outputs::from_vec(Vec::new(alloc))),
-        Ok(Some(outputs)) => Ok(outputs),
-        Err(StepFault::Memory) => Err(AllocError),
-        Err(StepFault::Spent) => unreachable!(),
+    match step {
+        Step::Event(event) => perform_event(device, event),
+        Step::Post(_) | Step::Need(_, _) => Ok(Outputs::from_vec(Vec::new(alloc))),
     }
 }
 

@@ -3,30 +3,13 @@
 ghost use Rattle.std.specs.Prelude.{◌≡◌, ℕ, ◌++◌, ◌∷◌, List, length, true, false, IfOk, OnOk};
 ghost use Rattle.std.specs.Option.{option_copied};
 ghost use Rattle.trace_file.specs.declared.entry.Entry.{Entry};
-ghost use Rattle.fleet_core.specs.Run.{is_enabled, IsComplete, IsSerial, IsSame};
-ghost use Rattle.fleet_core.specs.Board.{with_entry};
+ghost use Rattle.fleet_core.specs.Run.{IsComplete, IsSerial, IsSame};
 ghost use Rattle.fleet_core.specs.Cursor.{cursor_after, marks_after, marks_with};
 
-use crate::fault::CommitFault;
 use crate::fleet::Fleet;
 use scenario_image::{Scenario, Step};
 use std::alloc::{AllocError, Global};
 use trace_file::Entries;
-
-/// Adds the entry of a device, under worker 0, if it can step, and returns whether it can.
-fn add_entry(fleet: &mut Fleet, device: u16) -> Result<bool, AllocError>
-    requires { fleet.old.spent ≡ false }
-    ensures can { IfOk result (λ went. went ≡ is_enabled fleet.old.scenario fleet.old.entries device) }
-    ensures added { IfOk result (λ went. went ≡ true → fleet.new ≡ with_entry fleet.old 0 device) }
-    ensures unchanged { IfOk result (λ went. went ≡ false → fleet.new ≡ fleet.old) }
-{
-    match fleet.commit(0, device) {
-        Ok(()) => Ok(true),
-        Err(CommitFault::NotEnabled) => Ok(false),
-        Err(CommitFault::Memory) => Err(AllocError),
-        Err(CommitFault::Spent) => unreachable!(),
-    }
-}
 
 /// The cursor after a step of the device at it. A post may enable a device that waits for its group, so the cursor
 /// returns to the group's mark, which is removed. No other step enables one.
@@ -67,18 +50,17 @@ fn serial_entries(alloc: Global, scenario: &Scenario) -> Result<Entries, AllocEr
     ensures { IfOk result (λ es. IsSerial scenario.now es) }
 {
     let rows = scenario.rows();
-    let mut fleet = Fleet::new(alloc, scenario)?;
+    let mut fleet = Fleet::with_room(alloc, scenario, scenario.steps())?;
     let mut wake = vec![in alloc; u16::MAX; 256]?;
     let mut low = 0u16;
     'turns: while usize::from(low) < rows {
-        let step = fleet.next_step(low);
-        let went = add_entry(&mut fleet, low)?;
-        if !went {
-            mark(&mut wake, step, low);
+        let made = fleet.advance(0, low)?;
+        if made.is_none() {
+            mark(&mut wake, fleet.next_step(low), low);
             low += 1;
             continue 'turns;
         }
-        low = cursor_after(&mut wake, step, low);
+        low = cursor_after(&mut wake, made, low);
     }
     Ok(fleet.into_entries())
 }

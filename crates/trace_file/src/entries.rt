@@ -60,6 +60,7 @@ impl Entries {
 
     /// Adds an entry after the others. Where memory runs out, the entries stay as they were, and the new one is
     /// dropped.
+    #[inline(always)]
     pub fn push(&mut self, entry: Entry) -> Result<(), AllocError>
         ensures ok { OnOk result (self.new ≡ self.old ++ entry ∷ []) }
         ensures unchanged { OnErr result (self.new ≡ self.old) }

@@ -5,6 +5,6 @@ use Rattle.fleet_core.proofs.held.Held.start.Goals as goal
 
 pub returns-clause-shows : goal.returns-clause-shows
 returns-clause-shows c = λ k holds.
-    started c.args.scenario.now c.args.device k c.args.self.now c.in_ok-start_of_row.field-0
+    started c.args.scenario.now c.args.device k c.args.self.now c.begin.new.self.shown
     holds (sym (ap (λ h. h.fresh) c.self.view_is) ∙ ap (λ s. (holding_of s).fresh) c.in-Fresh.is)
-    c.in_ok-start_of_row.ensures
+    c.in_ok-begin.ensures.begun
