@@ -1,4 +1,4 @@
--- What a reply and a record take over of a request.
+-- What a reply and a record take over of a request. Clauses of private functions name it; no promise rests on it.
 use Rattle.std.specs.Prelude.{ℕ, Bool, List, [], Option, None, Some, if◌then◌else◌}
 use Rattle.coap_codec.specs.declared.kind.Kind.{Kind}
 use Rattle.coap_codec.specs.declared.kind.Kind.TheVariants.{Con, Non, Ack, Rst}
@@ -6,7 +6,7 @@ use Rattle.coap_codec.specs.Message.{Message}
 use Rattle.device_requests.specs.declared.answer.Answer.{Answer}
 use Rattle.device_machine.specs.Reactions.{response}
 
--- a message of this type, message ID and token: a reply and a record take over no more of a request
+-- a message of this type, message ID and token, so that rules of messages can be named: its code is never looked at
 abbrev pub message_with : Kind → ℕ → List ℕ → Message
 message_with kind mid token =
     record { kind = kind; code = 1; mid = mid; token = token; options = []; payload = [] }
