@@ -263,11 +263,23 @@ def show(rows):
     ]
 
 
+def growth(rows):
+    """What a step or a command costs as what it stands on grows, by the program that was measured."""
+    plots = []
+    for name in dict.fromkeys(it["What"] for it in rows):
+        its = where(rows, What=name)
+        programs = dict.fromkeys(it["Program"] for it in its)
+        curves = {it: curve(where(its, Program=it), "Size", "Each µs") for it in programs}
+        plots.append(Plot(name, its[0]["Of"], "µs each (logarithmic)", curves, is_log=True))
+    return "What grows as its work grows", 3, 220 * -(-len(plots) // 3) + 40, plots
+
+
 # The function of each picture; its figures have the same name, or that which stands with it.
 PICTURES = {
     "workers": workers, "beside": beside, "crews": crews, "serial": serial, "steps": (steps, "serial"),
     "waiting": waiting, "backoff": backoff, "debugger": debugger, "seconds": seconds, "notified": notified,
     "live": live, "fleet": fleet, "fleet-notified": fleet_notified, "fleet-rest": fleet_rest, "show": show,
+    "growth": growth,
 }
 
 
