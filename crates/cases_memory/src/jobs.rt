@@ -8,7 +8,7 @@ use crate::gathering::gathered;
 use crate::given::Given;
 use crate::line::Line;
 use crate::marks::Marks;
-use fleet_workers::{claim_job, put_job};
+use fleet_workers::{PutVisit, Visit, claim_job, put_job};
 use scenario_image::Scenario;
 use shared_trace::{AdvanceFault, Claim, Job, Trace};
 use std::alloc::{AllocError, Global};
@@ -40,14 +40,14 @@ pub fn claimed<R: Wait>(
     ensures subject { (pass_view result.0).subject ≡ (pass_view pass).subject }
     ensures knows { IfSome result.1 (λ job. Knows (pass_view result.0) job × (job.spent ≡ false)) }
 {
-    let (pass, claim) = claim_job(rt, lock, pass);
-    match claim {
-        Some(Claim::Got(job)) => (pass, Some(job)),
-        Some(Claim::Busy) => (pass, None),
-        Some(Claim::Done) => (pass, None),
-        Some(Claim::Stalled) => (pass, None),
-        Some(Claim::Stopped) => (pass, None),
-        None => (pass, None),
+    let Visit { pass, next } = claim_job(rt, lock, pass);
+    match next {
+        Ok(Claim::Got(job)) => (pass, Some(job)),
+        Ok(Claim::Busy) => (pass, None),
+        Ok(Claim::Done) => (pass, None),
+        Ok(Claim::Stalled) => (pass, None),
+        Ok(Claim::Stopped) => (pass, None),
+        Err(_) => (pass, None),
     }
 }
 
@@ -109,7 +109,7 @@ fn advance_and_put<R: Wait>(
 {
     match advanced(&pass, scenario, job, marks) {
         Ok(job) => {
-            let (pass, _) = put_job(rt, lock, pass, job);
+            let PutVisit { pass, .. } = put_job(rt, lock, pass, job);
             (pass, false, "advanced,")
         }
         Err((job, AdvanceFault::Memory)) => {

@@ -12,7 +12,7 @@ use crate::given::Given;
 use crate::jobs::{advanced, claimed, locked};
 use crate::line::Line;
 use crate::marks::{Marks, Mode};
-use fleet_workers::{put_job, stop_trace};
+use fleet_workers::{PutVisit, put_job, stop_trace};
 use scenario_image::Scenario;
 use shared_trace::{Job, Trace};
 use std::sync::Wait;
@@ -118,7 +118,7 @@ fn make_one<R: Wait>(
     };
     match advanced(&pass, scenario, job, none) {
         Ok(job) => {
-            let (pass, _) = put_job(rt, lock, pass, job);
+            let PutVisit { pass, .. } = put_job(rt, lock, pass, job);
             pass
         }
         Err((job, _)) => {

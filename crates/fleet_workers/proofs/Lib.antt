@@ -5,3 +5,4 @@ pub mod Blocks
 pub mod Together
 pub mod Ending
 pub mod Crossing
+pub mod Visiting

@@ -1,5 +1,6 @@
 -- What a worker knows by its pass, which has seen the log of a trace.
-use Rattle.std.specs.Prelude.{◌≡◌, ℕ, ◌+◌, ◌<◌, ◌≤◌, Bool, true, false, List, [], ◌++◌, Some, Contains}
+use Rattle.std.specs.Prelude.{◌≡◌, ◌≢◌, ℕ, ◌+◌, ◌<◌, ◌≤◌, ◌⊎◌, Bool, true, false, List, [], ◌++◌, Some, Contains}
+use Rattle.std.specs.Prelude.{Result, Err, IfOk, IfErr, IsOkAnd}
 use Rattle.std.specs.List.{AllByRecursion}
 use Rattle.scenario_image.specs.Scenario.{Scenario}
 use Rattle.trace_file.specs.declared.entry.Entry.{Entry}
@@ -87,3 +88,17 @@ EndsAs v ends.Stalled = (s : Scenario) → v.subject ≡ Some s → IsStalled s 
 EndsAs v ends.Stopped = Unit {0}
 EndsAs v ends.Memory = v.end ≡ false → has_stopped v ≡ true
 EndsAs v ends.Spent = v.end ≡ true
+
+-- what came of a worker's visit to the trace, before which its pass was v, and since which it is w: the next claim, or
+-- why the worker ends
+pub record IsVisit (v w : PassView) (next : Result Claim LoopEnd) : Type 0 where
+  -- the pass is the same, and has seen more of the log
+  pub follows : Follows v w
+  -- it knows of the claim what the trace said
+  pub claimed : IfOk next (λ claim. HasClaimed w claim)
+  -- it knows what the end says
+  pub end : IfErr next (λ e. EndsAs w e)
+  -- unless its worker's memory ran out, it has not stopped the trace
+  pub going : next ≢ Err ends.Memory → has_stopped w ≡ has_stopped v
+  -- no device is out under it that was not before, but the one that the claim got
+  pub out : (d : ℕ) → IsOut w d → IsOut v d ⊎ IsOkAnd next (λ claim. Gets claim d)

@@ -12,4 +12,4 @@ pub use crew::run_crew;
 pub use fleet::{FleetEnd, FleetRun, RunFault, outcome, run_fleet};
 pub use gate::{Gate, OpenGate};
 pub use loops::{LoopEnd, worker_loop};
-pub use visits::{Put, claim_job, put_and_claim, put_job, stop_trace};
+pub use visits::{Put, PutVisit, Visit, claim_job, put_and_claim, put_job, stop_trace};

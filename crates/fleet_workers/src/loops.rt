@@ -1,14 +1,13 @@
 //! The loop of a worker.
 
-ghost use Rattle.std.specs.Prelude.{◌≡◌, ◌≢◌, ◌≤◌, ◌⊎◌, ℕ, [], false, List, Some, Err, IfOk, IfErr, IsOk};
-ghost use Rattle.std.specs.Prelude.{IsOkAnd};
+ghost use Rattle.std.specs.Prelude.{◌≡◌, ◌≢◌, ◌≤◌, ◌⊎◌, ℕ, [], false, List, Some, IsOk};
 ghost use Rattle.ticket_lock.specs.Names.{lock_id, pass_view, IsPass};
 ghost use Rattle.trace_file.specs.declared.entry.Entry.{Entry};
-ghost use Rattle.fleet_workers.specs.Blocks.{HasMade, HasPut, own_entries};
-ghost use Rattle.fleet_workers.specs.Knowing.{Follows, Knows, HasClaimed, EndsAs, has_stopped, IsOut, Gets};
+ghost use Rattle.fleet_workers.specs.Blocks.{HasMade, HasPut};
+ghost use Rattle.fleet_workers.specs.Knowing.{Follows, Knows, HasClaimed, EndsAs, has_stopped, IsOut, Gets, IsVisit};
 
 use crate::gate::Gate;
-use crate::visits::{claim_job, put_and_claim, stop_trace};
+use crate::visits::{Visit, claim_job, put_and_claim, stop_trace};
 use crossbeam_utils::Backoff;
 use scenario_image::Scenario;
 use shared_trace::{Claim, Job, Trace};
@@ -30,8 +29,7 @@ pub enum LoopEnd {
     Spent,
 }
 
-/// Lets the job's device make steps outside the lock, puts them, and claims. The answer is the claim, or why the worker
-/// ends.
+/// Lets the job's device make steps outside the lock, puts them, and claims.
 fn make_steps<R: Wait, G: Gate>(
     rt: &R,
     lock: &TicketLock<Trace>,
@@ -40,34 +38,32 @@ fn make_steps<R: Wait, G: Gate>(
     batch: u32,
     gate: &G,
     mut job: Job,
-) -> (Pass<Trace>, Result<Claim, LoopEnd>)
+) -> Visit
     requires pass { IsPass (lock_id lock.now) pass }
     requires subject { (pass_view pass).subject ≡ Some scenario.now }
     requires batch { 1 ≤ batch }
     requires knows { Knows (pass_view pass) job }
     requires fresh { job.entries ≡ [] }
     requires ready { job.spent ≡ false }
-    ensures pass { IsPass (lock_id lock.now) result.0 }
-    ensures follows { Follows (pass_view pass) (pass_view result.0) }
+    ensures pass { IsPass (lock_id lock.now) result.pass }
+    ensures visit { IsVisit (pass_view pass) (pass_view result.pass) result.next }
     ensures gate { G.came gate.now (pass_view pass).low job.device }
-    ensures made { IsOk result.1 → (block : List Entry)
+    ensures made { IsOk result.next → (block : List Entry)
         × HasMade (G.came gate.now) scenario.now (pass_view pass).low batch
-        (pass_view pass).front block (pass_view result.0).front }
-    ensures claimed { IfOk result.1 (λ claim. HasClaimed (pass_view result.0) claim) }
+        (pass_view pass).front block (pass_view result.pass).front }
     ensures blocks { HasPut (G.came gate.now) scenario.now (pass_view pass).low batch
-        (pass_view pass).front (pass_view result.0).front }
-    ensures end { IfErr result.1 (λ e. EndsAs (pass_view result.0) e) }
-    ensures going { result.1 ≢ Err LoopEnd.Memory
-        → has_stopped (pass_view result.0) ≡ has_stopped (pass_view pass) }
-    ensures out { (d : ℕ) → IsOut (pass_view result.0) d
-        → IsOut (pass_view pass) d ⊎ IsOkAnd result.1 (λ claim. Gets claim d) }
+        (pass_view pass).front (pass_view result.pass).front }
 {
     gate.pass(pass.number(), job.device());
     match job.advance(&pass, scenario, batch) {
         Ok(()) => {}
         Err(_) => {
             job.abandon();
-            return (stop_trace(rt, lock, pass), Err(LoopEnd::Memory));
+            let pass = stop_trace(rt, lock, pass);
+            return Visit {
+                pass,
+                next: Err(LoopEnd::Memory),
+            };
         }
     }
     // For the proof alone: a job whose entries are read is known to have made a run.
@@ -75,32 +71,7 @@ fn make_steps<R: Wait, G: Gate>(
     put_and_claim(rt, lock, pass, job)
 }
 
-/// Claims again after `Busy`.
-fn claim_again<R: Wait>(
-    rt: &R,
-    lock: &TicketLock<Trace>,
-    pass: Pass<Trace>,
-) -> (Pass<Trace>, Result<Claim, LoopEnd>)
-    requires pass { IsPass (lock_id lock.now) pass }
-    ensures pass { IsPass (lock_id lock.now) result.0 }
-    ensures follows { Follows (pass_view pass) (pass_view result.0) }
-    ensures own { own_entries (pass_view pass).low (pass_view result.0).front
-        ≡ own_entries (pass_view pass).low (pass_view pass).front }
-    ensures claimed { IfOk result.1 (λ claim. HasClaimed (pass_view result.0) claim) }
-    ensures end { IfErr result.1 (λ e. EndsAs (pass_view result.0) e) }
-    ensures going { has_stopped (pass_view result.0) ≡ has_stopped (pass_view pass) }
-    ensures out { (d : ℕ) → IsOut (pass_view result.0) d
-        → IsOut (pass_view pass) d ⊎ IsOkAnd result.1 (λ claim. Gets claim d) }
-{
-    let (pass, claim) = claim_job(rt, lock, pass);
-    match claim {
-        None => (pass, Err(LoopEnd::Spent)),
-        Some(claim) => (pass, Ok(claim)),
-    }
-}
-
-/// Does what the claim says: makes the steps of the device that it got, and claims anew. The answer is the next claim,
-/// or why the worker ends.
+/// Does what the claim says: makes the steps of the device that it got, and claims anew, or ends.
 fn one_turn<R: Wait, G: Gate>(
     rt: &R,
     lock: &TicketLock<Trace>,
@@ -110,22 +81,16 @@ fn one_turn<R: Wait, G: Gate>(
     gate: &G,
     backoff: &Backoff,
     claim: Claim,
-) -> (Pass<Trace>, Result<Claim, LoopEnd>)
+) -> Visit
     requires pass { IsPass (lock_id lock.now) pass }
     requires subject { (pass_view pass).subject ≡ Some scenario.now }
     requires batch { 1 ≤ batch }
     requires claimed { HasClaimed (pass_view pass) claim }
-    ensures pass { IsPass (lock_id lock.now) result.0 }
-    ensures follows { Follows (pass_view pass) (pass_view result.0) }
-    ensures claimed { IfOk result.1 (λ claim. HasClaimed (pass_view result.0) claim) }
+    ensures pass { IsPass (lock_id lock.now) result.pass }
+    ensures visit { IsVisit (pass_view pass) (pass_view result.pass) result.next }
     ensures blocks { HasPut (G.came gate.now) scenario.now (pass_view pass).low batch
-        (pass_view pass).front (pass_view result.0).front }
-    ensures end { IfErr result.1 (λ e. EndsAs (pass_view result.0) e) }
+        (pass_view pass).front (pass_view result.pass).front }
     ensures gate { (d : ℕ) → Gets claim d → G.came gate.now (pass_view pass).low d }
-    ensures going { result.1 ≢ Err LoopEnd.Memory
-        → has_stopped (pass_view result.0) ≡ has_stopped (pass_view pass) }
-    ensures out { (d : ℕ) → IsOut (pass_view result.0) d
-        → IsOut (pass_view pass) d ⊎ IsOkAnd result.1 (λ claim. Gets claim d) }
 {
     match claim {
         Claim::Got(job) => {
@@ -134,11 +99,20 @@ fn one_turn<R: Wait, G: Gate>(
         }
         Claim::Busy => {
             backoff.snooze();
-            claim_again(rt, lock, pass)
+            claim_job(rt, lock, pass)
         }
-        Claim::Done => (pass, Err(LoopEnd::Done)),
-        Claim::Stalled => (pass, Err(LoopEnd::Stalled)),
-        Claim::Stopped => (pass, Err(LoopEnd::Stopped)),
+        Claim::Done => Visit {
+            pass,
+            next: Err(LoopEnd::Done),
+        },
+        Claim::Stalled => Visit {
+            pass,
+            next: Err(LoopEnd::Stalled),
+        },
+        Claim::Stopped => Visit {
+            pass,
+            next: Err(LoopEnd::Stopped),
+        },
     }
 }
 
@@ -175,7 +149,9 @@ pub fn worker_loop<R: Wait, G: Gate>(
     // (it begins as a worker that had nothing to claim)
     let (mut pass, mut claim) = (pass, Claim::Busy);
     for _ in rt.forever() {
-        let (back, next) = one_turn(rt, lock, pass, scenario, batch, gate, &backoff, claim);
+        let Visit { pass: back, next } = one_turn(
+            rt, lock, pass, scenario, batch, gate, &backoff, claim,
+        );
         pass = back;
         match next {
             Ok(next) => claim = next,

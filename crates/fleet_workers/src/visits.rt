@@ -1,7 +1,6 @@
 //! What a worker does with the trace while it has the lock: it claims, it puts, it stops.
 
-ghost use Rattle.std.specs.Prelude.{◌≡◌, ◌≢◌, ◌⊎◌, ℕ, ◌++◌, true, false, [], IfSome, IfNone, IfOk, IfErr, IsOk, IsErr};
-ghost use Rattle.std.specs.Prelude.{Err, IsSomeAnd, IsOkAnd};
+ghost use Rattle.std.specs.Prelude.{◌≡◌, ◌≢◌, ◌⊎◌, ℕ, ◌++◌, true, false, Err, IfSome, IfNone, IfErr, IsOk, IsErr};
 ghost use Rattle.ticket_lock.specs.Log.{Adds};
 ghost use Rattle.ticket_lock.specs.Lock.{HasNumber};
 ghost use Rattle.ticket_lock.specs.Names.{lock_id, pass_view, IsPass};
@@ -9,38 +8,46 @@ ghost use Rattle.shared_trace.specs.Trace.{IsShared, with_block, stopped_under, 
 ghost use Rattle.shared_trace.specs.Job.{MayPut};
 ghost use Rattle.shared_trace.specs.Claims.{Claims, ClaimStands};
 ghost use Rattle.fleet_workers.specs.Blocks.{own_entries, IsPut};
-ghost use Rattle.fleet_workers.specs.Knowing.{Follows, Knows, HasClaimed, EndsAs, has_stopped, IsOut, Gets};
+ghost use Rattle.fleet_workers.specs.Knowing.{Follows, Knows, has_stopped, IsOut, IsVisit};
 
 use crate::loops::LoopEnd;
 use shared_trace::{Claim, Job, Trace};
 use std::sync::Wait;
 use ticket_lock::{Pass, TicketLock};
 
-/// Claims under the lowest number of the pass, which then knows the job that it got (`claimed`). No claim is returned
-/// if no ticket is left. It adds nothing.
-pub fn claim_job<R: Wait>(
-    rt: &R,
-    lock: &TicketLock<Trace>,
-    pass: Pass<Trace>,
-) -> (Pass<Trace>, Option<Claim>)
+/// What came of a worker's visit to the trace.
+pub struct Visit {
+    /// The worker's pass, which has left the lock.
+    pub pass: Pass<Trace>,
+    /// What the worker claimed, or why it ends.
+    pub next: Result<Claim, LoopEnd>,
+}
+
+/// Claims under the lowest number of the pass, which then knows the job that it got (`visit`: `claimed`). If no ticket
+/// is left, the worker ends by `Spent` (`spent`). It adds nothing (`own`), and stops nothing (`going`).
+pub fn claim_job<R: Wait>(rt: &R, lock: &TicketLock<Trace>, pass: Pass<Trace>) -> Visit
     requires { IsPass (lock_id lock.now) pass }
-    ensures pass { IsPass (lock_id lock.now) result.0 }
-    ensures follows { Follows (pass_view pass) (pass_view result.0) }
+    ensures pass { IsPass (lock_id lock.now) result.pass }
+    ensures visit { IsVisit (pass_view pass) (pass_view result.pass) result.next }
     ensures own { (n : ℕ) → HasNumber (pass_view pass) n
-        → own_entries n (pass_view result.0).front ≡ own_entries n (pass_view pass).front }
-    ensures claimed { IfSome result.1 (λ claim. HasClaimed (pass_view result.0) claim) }
-    ensures spent { IfNone result.1 ((pass_view result.0).end ≡ true) }
-    ensures going { has_stopped (pass_view result.0) ≡ has_stopped (pass_view pass) }
-    ensures out { (d : ℕ) → IsOut (pass_view result.0) d
-        → IsOut (pass_view pass) d ⊎ IsSomeAnd result.1 (λ claim. Gets claim d) }
+        → own_entries n (pass_view result.pass).front ≡ own_entries n (pass_view pass).front }
+    ensures spent { IfErr result.next (λ e. e ≡ LoopEnd.Spent) }
+    ensures going { has_stopped (pass_view result.pass) ≡ has_stopped (pass_view pass) }
 {
     let worker = pass.number();
     match lock.take(rt, pass) {
         Ok(mut held) => {
             let claim = held.value_mut().claim(worker);
-            (held.give(), Some(claim))
+            let pass = held.give();
+            Visit {
+                pass,
+                next: Ok(claim),
+            }
         }
-        Err((pass, _)) => (pass, None),
+        Err((pass, _)) => Visit {
+            pass,
+            next: Err(LoopEnd::Spent),
+        },
     }
 }
 
@@ -73,39 +80,48 @@ pub enum Put {
     Spent,
 }
 
+/// What came of a visit that was to put a job.
+#[derive(Drop)]
+pub struct PutVisit {
+    /// The worker's pass, which has left the lock.
+    pub pass: Pass<Trace>,
+    /// What became of the job.
+    pub put: Put,
+}
+
 /// Puts the job under the lowest number of the pass: the own entries are those from before, followed by exactly the
 /// job's (`own`). A put that says `Memory` has stopped the trace (`memory`); without a ticket the pass has seen that
 /// none is left (`spent`). Where it is not put, nothing was added (`kept`).
-pub fn put_job<R: Wait>(
-    rt: &R,
-    lock: &TicketLock<Trace>,
-    pass: Pass<Trace>,
-    job: Job,
-) -> (Pass<Trace>, Put)
+pub fn put_job<R: Wait>(rt: &R, lock: &TicketLock<Trace>, pass: Pass<Trace>, job: Job) -> PutVisit
     requires pass { IsPass (lock_id lock.now) pass }
     requires knows { Knows (pass_view pass) job }
     requires ready { job.spent ≡ false }
-    ensures pass { IsPass (lock_id lock.now) result.0 }
-    ensures follows { Follows (pass_view pass) (pass_view result.0) }
-    ensures put { result.1 ≡ Put.Made
-        → IsPut (pass_view pass).low (pass_view pass).front job.entries (pass_view result.0).front }
-    ensures own { result.1 ≡ Put.Made → own_entries (pass_view pass).low (pass_view result.0).front
+    ensures pass { IsPass (lock_id lock.now) result.pass }
+    ensures follows { Follows (pass_view pass) (pass_view result.pass) }
+    ensures put { result.put ≡ Put.Made
+        → IsPut (pass_view pass).low (pass_view pass).front job.entries (pass_view result.pass).front }
+    ensures own { result.put ≡ Put.Made → own_entries (pass_view pass).low (pass_view result.pass).front
         ≡ own_entries (pass_view pass).low (pass_view pass).front ++ job.entries }
-    ensures kept { result.1 ≢ Put.Made → own_entries (pass_view pass).low (pass_view result.0).front
+    ensures kept { result.put ≢ Put.Made → own_entries (pass_view pass).low (pass_view result.pass).front
         ≡ own_entries (pass_view pass).low (pass_view pass).front }
-    ensures spent { result.1 ≡ Put.Spent → (pass_view result.0).end ≡ true }
-    ensures memory { result.1 ≡ Put.Memory → has_stopped (pass_view result.0) ≡ true }
-    ensures going { result.1 ≢ Put.Memory → has_stopped (pass_view result.0) ≡ has_stopped (pass_view pass) }
+    ensures spent { result.put ≡ Put.Spent → (pass_view result.pass).end ≡ true }
+    ensures memory { result.put ≡ Put.Memory → has_stopped (pass_view result.pass) ≡ true }
+    ensures going { result.put ≢ Put.Memory → has_stopped (pass_view result.pass) ≡ has_stopped (pass_view pass) }
 {
     let worker = pass.number();
     match lock.take(rt, pass) {
         Ok(mut held) => {
-            let put = put_or_stop(held.value_mut(), worker, job);
-            (held.give(), if put { Put::Made } else { Put::Memory })
+            let is_put = put_or_stop(held.value_mut(), worker, job);
+            let pass = held.give();
+            let put = if is_put { Put::Made } else { Put::Memory };
+            PutVisit { pass, put }
         }
         Err((pass, _)) => {
             job.abandon();
-            (pass, Put::Spent)
+            PutVisit {
+                pass,
+                put: Put::Spent,
+            }
         }
     }
 }
@@ -128,34 +144,28 @@ fn put_then_claim(trace: &mut Trace, worker: u16, job: Job) -> Option<Claim>
 }
 
 /// Puts the job under the lowest number of the pass, as `put_job` does, and claims in the same visit: a worker whose
-/// device can go on has it again, unless a lower one can step. The answer is the claim, or why the worker ends; a put
-/// that fails says `Memory` or `Spent` (`memory_or_spent`). No device is out afterwards that was not before, but the
-/// one that the claim got (`out`).
+/// device can go on has it again, unless a lower one can step. A put that fails says `Memory` or `Spent`
+/// (`memory_or_spent`). No device is out afterwards that was not before, but the one that the claim got (`visit`:
+/// `out`).
 pub fn put_and_claim<R: Wait>(
     rt: &R,
     lock: &TicketLock<Trace>,
     pass: Pass<Trace>,
     job: Job,
-) -> (Pass<Trace>, Result<Claim, LoopEnd>)
+) -> Visit
     requires pass { IsPass (lock_id lock.now) pass }
     requires knows { Knows (pass_view pass) job }
     requires ready { job.spent ≡ false }
-    ensures pass { IsPass (lock_id lock.now) result.0 }
-    ensures follows { Follows (pass_view pass) (pass_view result.0) }
-    ensures put { IsOk result.1
-        → IsPut (pass_view pass).low (pass_view pass).front job.entries (pass_view result.0).front }
-    ensures own { IsOk result.1 → own_entries (pass_view pass).low (pass_view result.0).front
+    ensures pass { IsPass (lock_id lock.now) result.pass }
+    ensures visit { IsVisit (pass_view pass) (pass_view result.pass) result.next }
+    ensures put { IsOk result.next
+        → IsPut (pass_view pass).low (pass_view pass).front job.entries (pass_view result.pass).front }
+    ensures own { IsOk result.next → own_entries (pass_view pass).low (pass_view result.pass).front
         ≡ own_entries (pass_view pass).low (pass_view pass).front ++ job.entries }
-    ensures claimed { IfOk result.1 (λ claim. HasClaimed (pass_view result.0) claim) }
-    ensures kept { IsErr result.1 → own_entries (pass_view pass).low (pass_view result.0).front
+    ensures kept { IsErr result.next → own_entries (pass_view pass).low (pass_view result.pass).front
         ≡ own_entries (pass_view pass).low (pass_view pass).front }
-    ensures end { IfErr result.1 (λ e. EndsAs (pass_view result.0) e) }
-    ensures memory_or_spent { IfErr result.1 (λ e. (e ≡ LoopEnd.Memory) ⊎ (e ≡ LoopEnd.Spent)) }
-    ensures memory { result.1 ≡ Err LoopEnd.Memory → has_stopped (pass_view result.0) ≡ true }
-    ensures out { (d : ℕ) → IsOut (pass_view result.0) d
-        → IsOut (pass_view pass) d ⊎ IsOkAnd result.1 (λ claim. Gets claim d) }
-    ensures going { result.1 ≢ Err LoopEnd.Memory
-        → has_stopped (pass_view result.0) ≡ has_stopped (pass_view pass) }
+    ensures memory_or_spent { IfErr result.next (λ e. (e ≡ LoopEnd.Memory) ⊎ (e ≡ LoopEnd.Spent)) }
+    ensures memory { result.next ≡ Err LoopEnd.Memory → has_stopped (pass_view result.pass) ≡ true }
 {
     let worker = pass.number();
     match lock.take(rt, pass) {
@@ -163,13 +173,22 @@ pub fn put_and_claim<R: Wait>(
             let claim = put_then_claim(held.value_mut(), worker, job);
             let pass = held.give();
             match claim {
-                Some(claim) => (pass, Ok(claim)),
-                None => (pass, Err(LoopEnd::Memory)),
+                Some(claim) => Visit {
+                    pass,
+                    next: Ok(claim),
+                },
+                None => Visit {
+                    pass,
+                    next: Err(LoopEnd::Memory),
+                },
             }
         }
         Err((pass, _)) => {
             job.abandon();
-            (pass, Err(LoopEnd::Spent))
+            Visit {
+                pass,
+                next: Err(LoopEnd::Spent),
+            }
         }
     }
 }

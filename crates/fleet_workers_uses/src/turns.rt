@@ -5,7 +5,7 @@ ghost use Rattle.ticket_lock.specs.Names.{lock_id, pass_view, IsPass};
 ghost use Rattle.fleet_workers.specs.Knowing.{Knows};
 ghost use Rattle.fleet_workers_uses.specs.Passes.{IsFirst, IsSecond, IsSame};
 
-use fleet_workers::{Put, claim_job, put_job, stop_trace};
+use fleet_workers::{Put, PutVisit, Visit, claim_job, put_job, stop_trace};
 use scenario_image::Scenario;
 use shared_trace::{Claim, Job, Trace};
 use std::alloc::{AllocError, Global};
@@ -58,17 +58,17 @@ pub fn word_of_claim<R: Wait>(
     ensures pass { IsPass (lock_id lock.now) result.0 }
     ensures same { IsSame (pass_view pass) (pass_view result.0) }
 {
-    let (pass, claim) = claim_job(rt, lock, pass);
-    let word = match claim {
-        Some(Claim::Got(job)) => {
+    let Visit { pass, next } = claim_job(rt, lock, pass);
+    let word = match next {
+        Ok(Claim::Got(job)) => {
             job.abandon();
             "got"
         }
-        Some(Claim::Busy) => "busy",
-        Some(Claim::Done) => "done",
-        Some(Claim::Stalled) => "stalled",
-        Some(Claim::Stopped) => "stopped",
-        None => "spent",
+        Ok(Claim::Busy) => "busy",
+        Ok(Claim::Done) => "done",
+        Ok(Claim::Stalled) => "stalled",
+        Ok(Claim::Stopped) => "stopped",
+        Err(_) => "spent",
     };
     (pass, word)
 }
@@ -84,14 +84,14 @@ pub fn claimed<R: Wait>(
     ensures same { IsSame (pass_view pass) (pass_view result.0) }
     ensures knows { IfSome result.1 (λ job. Knows (pass_view result.0) job × (job.spent ≡ false)) }
 {
-    let (pass, claim) = claim_job(rt, lock, pass);
-    match claim {
-        Some(Claim::Got(job)) => (pass, Some(job)),
-        Some(Claim::Busy) => (pass, None),
-        Some(Claim::Done) => (pass, None),
-        Some(Claim::Stalled) => (pass, None),
-        Some(Claim::Stopped) => (pass, None),
-        None => (pass, None),
+    let Visit { pass, next } = claim_job(rt, lock, pass);
+    match next {
+        Ok(Claim::Got(job)) => (pass, Some(job)),
+        Ok(Claim::Busy) => (pass, None),
+        Ok(Claim::Done) => (pass, None),
+        Ok(Claim::Stalled) => (pass, None),
+        Ok(Claim::Stopped) => (pass, None),
+        Err(_) => (pass, None),
     }
 }
 
@@ -125,7 +125,7 @@ pub fn is_put<R: Wait>(
     ensures pass { IsPass (lock_id lock.now) result.0 }
     ensures same { IsSame (pass_view pass) (pass_view result.0) }
 {
-    let (pass, put) = put_job(rt, lock, pass, job);
+    let PutVisit { pass, put } = put_job(rt, lock, pass, job);
     (pass, matches!(put, Put::Made))
 }
 

@@ -11,7 +11,7 @@ pub returns-clause-made : goal.returns-clause-made
 returns-clause-made g c ok = (
   c.advance.new.self.entries,
   made_block (g.G.Gate.came c.args.gate.now) c.args.scenario.now c.args.batch c.args.pass.seat.me.0
-      c.put_and_claim.result.0.seat.me.0 c.args.job
+      c.put_and_claim.result.pass.seat.me.0 c.args.job
       c.advance.new.self c.requires.subject c.requires.knows c.requires.fresh c.in-Ok.ensures.advances
       (c.in-Ok.ensures.fresh c.requires.fresh) c.entries-known.ensures.run c.entries-known.ensures.each
       (subst (λ n. g.G.Gate.came c.args.gate.now n c.args.job.device) c.number.ensures
@@ -23,19 +23,22 @@ pub returns-clause-blocks : goal.returns-clause-blocks
 unfolding returns-clause-made
 returns-clause-blocks g c =
     block_or_nothing (g.G.Gate.came c.args.gate.now) c.args.scenario.now c.args.batch c.args.pass.seat.me.0
-    c.put_and_claim.result.0.seat.me.0
-    c.advance.new.self.entries c.put_and_claim.result.1 c.put_and_claim.ensures.follows
+    c.put_and_claim.result.pass.seat.me.0
+    c.advance.new.self.entries c.put_and_claim.result.next c.put_and_claim.ensures.visit.follows
     (λ ok. (returns-clause-made g c ok).1) c.put_and_claim.ensures.kept
 
 pub returns-in-Err-clause-blocks : goal.returns-in-Err-clause-blocks
 returns-in-Err-clause-blocks g c =
     let v = c.args.pass.seat.me.0 in
-    visit_puts (g.G.Gate.came c.args.gate.now) c.args.scenario.now c.args.batch v c.stop_trace.result.seat.me.0
-    c.stop_trace.ensures.follows
-    (c.stop_trace.ensures.own v.low (has_low v (omega (arith, c.args.pass.within.0, c.args.pass.numbers.1))))
+    visit_puts (g.G.Gate.came c.args.gate.now) c.args.scenario.now c.args.batch v c.stop_trace-pass.result.seat.me.0
+    c.stop_trace-pass.ensures.follows
+    (c.stop_trace-pass.ensures.own v.low (has_low v (omega (arith, c.args.pass.within.0, c.args.pass.numbers.1))))
 
-pub returns-in-Err-clause-going : goal.returns-in-Err-clause-going
-returns-in-Err-clause-going g c not = absurd (not refl)
-
-pub returns-in-Err-clause-out : goal.returns-in-Err-clause-out
-returns-in-Err-clause-out g c d out = inl (c.stop_trace.ensures.out d out)
+pub returns-in-Err-clause-visit : goal.returns-in-Err-clause-visit
+returns-in-Err-clause-visit g c = record {
+  follows = c.stop_trace-pass.ensures.follows;
+  claimed = tt;
+  end = c.stop_trace-pass.ensures.stopped;
+  going = λ not. absurd (not refl);
+  out = λ d out. inl (c.stop_trace-pass.ensures.out d out);
+}

@@ -1,6 +1,9 @@
-use Rattle.std.proofs.Common.{inl, refl}
+use Rattle.std.proofs.Common.{refl, subst, arith}
+use Rattle.fleet_workers.specs.declared.loops.LoopEnd.TheVariants as ends
+use Rattle.fleet_workers.specs.Knowing.{HasClaimed}
 use Rattle.fleet_workers.proofs.Following.{follows_itself}
-use Rattle.fleet_workers.proofs.Blocks.{visit_puts}
+use Rattle.fleet_workers.proofs.Blocks.{visit_puts, has_low}
+use Rattle.fleet_workers.proofs.Visiting.{no_visit}
 use Rattle.fleet_workers.proofs.loops.one_turn.Goals as goal
 
 -- what a worker that ends has put since the claim: nothing
@@ -19,25 +22,22 @@ returns-in-Stopped-clause-blocks g c =
     let v = c.args.pass.seat.me.0 in visit_puts (g.G.Gate.came c.args.gate.now) c.args.scenario.now c.args.batch v v
     (follows_itself v) refl
 
-pub returns-in-Done-clause-follows : goal.returns-in-Done-clause-follows
-returns-in-Done-clause-follows g c = follows_itself c.args.pass.seat.me.0
+pub returns-in-Done-clause-visit : goal.returns-in-Done-clause-visit
+returns-in-Done-clause-visit g c =
+    let v = c.args.pass.seat.me.0 in
+    no_visit v ends.Done (subst (HasClaimed v) c.in-Done.is c.requires.claimed)
 
-pub returns-in-Stalled-clause-follows : goal.returns-in-Stalled-clause-follows
-returns-in-Stalled-clause-follows g c = follows_itself c.args.pass.seat.me.0
+pub returns-in-Stalled-clause-visit : goal.returns-in-Stalled-clause-visit
+returns-in-Stalled-clause-visit g c =
+    let v = c.args.pass.seat.me.0 in
+    no_visit v ends.Stalled (subst (HasClaimed v) c.in-Stalled.is c.requires.claimed)
 
-pub returns-in-Stopped-clause-follows : goal.returns-in-Stopped-clause-follows
-returns-in-Stopped-clause-follows g c = follows_itself c.args.pass.seat.me.0
+pub returns-in-Stopped-clause-visit : goal.returns-in-Stopped-clause-visit
+returns-in-Stopped-clause-visit g c = no_visit c.args.pass.seat.me.0 ends.Stopped tt
 
 pub returns-in-Busy-clause-blocks : goal.returns-in-Busy-clause-blocks
 returns-in-Busy-clause-blocks g c =
-    visit_puts (g.G.Gate.came c.args.gate.now) c.args.scenario.now c.args.batch c.args.pass.seat.me.0
-    c.claim_again.result.0.seat.me.0 c.claim_again.ensures.follows c.claim_again.ensures.own
-
-pub returns-in-Done-clause-out : goal.returns-in-Done-clause-out
-returns-in-Done-clause-out g c d out = inl out
-
-pub returns-in-Stalled-clause-out : goal.returns-in-Stalled-clause-out
-returns-in-Stalled-clause-out g c d out = inl out
-
-pub returns-in-Stopped-clause-out : goal.returns-in-Stopped-clause-out
-returns-in-Stopped-clause-out g c d out = inl out
+    let v = c.args.pass.seat.me.0 in
+    visit_puts (g.G.Gate.came c.args.gate.now) c.args.scenario.now c.args.batch v c.claim_job.result.pass.seat.me.0
+    c.claim_job.ensures.visit.follows
+    (c.claim_job.ensures.own v.low (has_low v (omega (arith, c.args.pass.within.0, c.args.pass.numbers.1))))

@@ -1,6 +1,6 @@
-use Rattle.std.proofs.Common.{◌⊎◌, inl, refl, sym, subst, ◌∙◌}
-use Rattle.std.specs.Prelude.{IfOk, IsOkAnd}
-use Rattle.fleet_workers.specs.Knowing.{HasClaimed, IsOut, Gets}
+use Rattle.std.proofs.Common.{inl, refl, subst, ◌∙◌}
+use Rattle.std.specs.Prelude.{Ok, Err}
+use Rattle.fleet_workers.specs.Knowing.{IsVisit, Gets}
 use Rattle.fleet_workers.proofs.Following.{follows_itself, follows_both, err_is, ok_not}
 use Rattle.fleet_workers.proofs.Outs.{turn_outs, no_more}
 use Rattle.fleet_workers.proofs.Blocks.{visit_puts, puts_both}
@@ -20,42 +20,43 @@ loop-init g c =
 
 pub returns-in-Err-clause-follows : goal.returns-in-Err-clause-follows
 returns-in-Err-clause-follows g c =
-    follows_both _ c.loop.pass.seat.me.0 _ c.loop.invariant.follows c.one_turn-back.ensures.follows
+    follows_both _ c.loop.pass.seat.me.0 _ c.loop.invariant.follows c.one_turn-back.ensures.visit.follows
 
 pub returns-in-Err-clause-blocks : goal.returns-in-Err-clause-blocks
 returns-in-Err-clause-blocks g c =
     puts_both (g.G.Gate.came c.args.gate.now) c.args.scenario.now c.args.batch c.args.pass.seat.me.0
     c.loop.pass.seat.me.0
-    c.one_turn-back.result.0.seat.me.0 c.loop.invariant.blocks c.loop.invariant.follows.low
+    c.one_turn-back.result.pass.seat.me.0 c.loop.invariant.blocks c.loop.invariant.follows.low
     c.one_turn-back.ensures.blocks
+
+pub returns-in-Err-clause-end : goal.returns-in-Err-clause-end
+returns-in-Err-clause-end g c =
+    let v = c.loop.pass.seat.me.0 in let w = c.one_turn-back.result.pass.seat.me.0 in
+    let visit : IsVisit v w (Err c.in-Err.end) = subst (IsVisit v w) c.in-Err.is c.one_turn-back.ensures.visit in
+    visit.end
 
 pub returns-in-Err-clause-going : goal.returns-in-Err-clause-going
 returns-in-Err-clause-going g c not =
-    c.one_turn-back.ensures.going (λ e. not (err_is _ _ _ c.in-Err.is e)) ∙ c.loop.invariant.going
+    c.one_turn-back.ensures.visit.going (λ e. not (err_is _ _ _ c.in-Err.is e)) ∙ c.loop.invariant.going
 
 pub returns-in-Err-clause-gate : goal.returns-in-Err-clause-gate
 returns-in-Err-clause-gate g c d out =
-    no_more (subst (λ x. (IsOut c.args.pass.seat.me.0 d
-    ⊎ g.G.Gate.came c.args.gate.now c.args.pass.seat.me.0.low d) ⊎ IsOkAnd x (λ claim. Gets claim d)) c.in-Err.is
-    (turn_outs (g.G.Gate.came c.args.gate.now) c.args.pass.seat.me.0 c.loop.pass.seat.me.0
-    c.one_turn-back.result.0.seat.me.0 c.loop.claim (λ j. IsOkAnd c.one_turn-back.result.1 (λ claim. Gets claim j))
-    c.loop.invariant.follows.low c.loop.invariant.outs c.one_turn-back.ensures.gate c.one_turn-back.ensures.out d out))
+    let v = c.loop.pass.seat.me.0 in let w = c.one_turn-back.result.pass.seat.me.0 in
+    let visit : IsVisit v w (Err c.in-Err.end) = subst (IsVisit v w) c.in-Err.is c.one_turn-back.ensures.visit in
+    no_more (turn_outs (g.G.Gate.came c.args.gate.now) c.args.pass.seat.me.0 v w c.loop.claim (λ j. ⊥)
+    c.loop.invariant.follows.low c.loop.invariant.outs c.one_turn-back.ensures.gate visit.out d out)
 
 pub loop-preserved : goal.loop-preserved
-loop-preserved g c = record {
-  pass = c.one_turn-back.ensures.pass;
-  follows = follows_both _ c.loop.pass.seat.me.0 _ c.loop.invariant.follows c.one_turn-back.ensures.follows;
-  claimed = subst (λ x. IfOk x (λ claim. HasClaimed c.one_turn-back.result.0.seat.me.0 claim)) c.in-Ok.is
-      c.one_turn-back.ensures.claimed;
-  blocks = puts_both (g.G.Gate.came c.args.gate.now) c.args.scenario.now c.args.batch c.args.pass.seat.me.0
-      c.loop.pass.seat.me.0
-      c.one_turn-back.result.0.seat.me.0 c.loop.invariant.blocks c.loop.invariant.follows.low
-      c.one_turn-back.ensures.blocks;
-  going = c.one_turn-back.ensures.going (λ e. ok_not _ _ _ c.in-Ok.is e) ∙ c.loop.invariant.going;
-  outs = λ d out. subst (λ x. (IsOut c.args.pass.seat.me.0 d
-      ⊎ g.G.Gate.came c.args.gate.now c.args.pass.seat.me.0.low d) ⊎ IsOkAnd x (λ claim. Gets claim d)) c.in-Ok.is
-      (turn_outs (g.G.Gate.came c.args.gate.now) c.args.pass.seat.me.0 c.loop.pass.seat.me.0
-      c.one_turn-back.result.0.seat.me.0 c.loop.claim (λ j. IsOkAnd c.one_turn-back.result.1 (λ claim. Gets claim j))
-      c.loop.invariant.follows.low c.loop.invariant.outs c.one_turn-back.ensures.gate c.one_turn-back.ensures.out d
-      out);
-}
+loop-preserved g c =
+    let v = c.loop.pass.seat.me.0 in let w = c.one_turn-back.result.pass.seat.me.0 in
+    let visit : IsVisit v w (Ok c.in-Ok.next) = subst (IsVisit v w) c.in-Ok.is c.one_turn-back.ensures.visit in
+    record {
+      pass = c.one_turn-back.ensures.pass;
+      follows = follows_both _ v _ c.loop.invariant.follows visit.follows;
+      claimed = visit.claimed;
+      blocks = puts_both (g.G.Gate.came c.args.gate.now) c.args.scenario.now c.args.batch c.args.pass.seat.me.0 v w
+          c.loop.invariant.blocks c.loop.invariant.follows.low c.one_turn-back.ensures.blocks;
+      going = c.one_turn-back.ensures.visit.going (λ e. ok_not _ _ _ c.in-Ok.is e) ∙ c.loop.invariant.going;
+      outs = turn_outs (g.G.Gate.came c.args.gate.now) c.args.pass.seat.me.0 v w c.loop.claim (Gets c.in-Ok.next)
+          c.loop.invariant.follows.low c.loop.invariant.outs c.one_turn-back.ensures.gate visit.out;
+    }
