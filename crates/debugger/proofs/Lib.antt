@@ -14,5 +14,6 @@ pub mod Ending
 pub mod Events
 pub mod Devices
 pub mod Going
-pub mod Places
+pub mod Finding
 pub mod Preceding
+pub mod Placing

@@ -1,5 +1,5 @@
 -- The first entries of a run, and how many are a device's.
-use Rattle.std.proofs.Common.{◌≡◌, ℕ, suc, ◌+◌, List, [], take, drop, Some, slice_get, sym, ap}
+use Rattle.std.proofs.Common.{◌≡◌, ℕ, suc, ◌+◌, List, take, drop, Some, slice_get, sym, ap}
 use Rattle.std.proofs.Common.{subst, ◌∙◌, arith}
 use Rattle.std.proofs.lemmas.List.{take-append-drop}
 use Rattle.lemmas.proofs.Lists.{take_one_more}
@@ -45,31 +45,12 @@ step_counts s es d i e run at own = omega (arith, made_own es d i e at own, step
 pub has_steps : (s : Scenario) (es : List Entry) (d n : ℕ) → IsRun s es → HasSteps s d (made_by d (take n es))
 has_steps s es d n run = made_most s (take n es) d (run_to s es n run)
 
--- the outputs of the entry after which the device has no other
-pub latest_own : (s : Scenario) (es : List Entry) (d i : ℕ) (e : Entry) → IsRun s es → slice_get es i ≡ Some e
-    → e.device ≡ d
-    → made_by d (take (i + 1) es) ≡ made_by d es → e.outputs ≡ latest s d (made_by d es)
-latest_own s es d i e run at own rest =
+-- an entry has the outputs of its device's latest step after it
+pub own_outputs : (s : Scenario) (es : List Entry) (d i : ℕ) (e : Entry) → IsRun s es → slice_get es i ≡ Some e
+    → e.device ≡ d → e.outputs ≡ latest s d (made_by d (take (i + 1) es))
+own_outputs s es d i e run at own =
     let put : e.outputs ≡ out_at s d (made_by d (take i es)) =
     (fits_at s es i e run at).outputs
     ∙ (ap (λ k. out_at s e.device k) (step_before s es d i e run at own) ∙ ap
     (λ j. out_at s j (made_by d (take i es))) own) in
-    put ∙ ap (latest s d) (sym (made_own es d i e at own) ∙ rest)
-
--- ---- from the last entry on
-
-pub rest_else : (es : List Entry) (d n i : ℕ) (e : Entry) → n ≡ i + 1 → slice_get es i ≡ Some e → (e.device ≡ d → ⊥)
-    → made_by d (take n es) ≡ made_by d es → made_by d (take i es) ≡ made_by d es
-rest_else es d n i e next at other rest = sym (made_else es d i e at other) ∙
-    (ap (λ m. made_by d (take m es)) (sym next) ∙ rest)
-
-pub rest_own : (s : Scenario) (es : List Entry) (d n i : ℕ) (e : Entry) → IsRun s es → n ≡ i + 1
-    → slice_get es i ≡ Some e → e.device ≡ d
-    → made_by d (take n es) ≡ made_by d es → e.outputs ≡ latest s d (made_by d es)
-rest_own s es d n i e run next at own rest =
-    latest_own s es d i e run at own (ap (λ m. made_by d (take m es)) (sym next) ∙ rest)
-
-pub rest_none : (s : Scenario) (es : List Entry) (d n : ℕ) → n ≡ 0 → made_by d (take n es) ≡ made_by d es
-    → [] ≡ latest s d (made_by d es)
-rest_none s es d n none rest =
-    let e : 0 ≡ made_by d es = ap (λ m. made_by d (take m es)) (sym none) ∙ rest in ap (latest s d) e
+    put ∙ ap (latest s d) (sym (made_own es d i e at own))

@@ -1,5 +1,6 @@
 pub mod Shown
 pub mod Copies
+pub mod Places
 pub mod Session
 pub mod Replayed
 pub mod Stops

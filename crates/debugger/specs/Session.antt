@@ -8,7 +8,9 @@ use Rattle.fleet_core.specs.Run.{made_by, IsRun}
 use Rattle.fleet_core.specs.Board.{ShowsAfter}
 use Rattle.debugger.specs.declared.breaks.Break.{Break}
 use Rattle.debugger.specs.declared.copies.Copies.{Copies}
+use Rattle.debugger.specs.declared.places.Places.{Places}
 use Rattle.debugger.specs.Copies.{AreCopied}
+use Rattle.debugger.specs.Places.{ArePlaced}
 
 -- what contracts see of a debugger: the scenario, the run, the place in it, the breakpoints (that of number i + 1, or
 -- none, is at i), and how many steps devices made in the last move by a number of entries
@@ -55,8 +57,8 @@ pub record AreCounted (s : Scenario) (es : List Entry) (made : List ℕ) : Type 
   pub rows : length made ≡ length s.rows
   pub is : (d : ℕ) → d < length s.rows → slice_index made d ≡ made_by d es
 
--- what a debugger keeps: a device for each row, in the state after the steps that it has among the entries before the
--- place, and copies of it along all of its entries
+-- what a debugger keeps of devices: one for each row, in the state after the steps that it has among the entries before
+-- the place, and copies of it along all of its entries
 pub record IsKept (s : Scenario) (es : List Entry) (place : ℕ) (made : List ℕ) (devices : List Device)
     (breaks : List (Option Break)) (copies : List Copies) : Type 0 where
   pub run : IsRun s es
@@ -67,3 +69,10 @@ pub record IsKept (s : Scenario) (es : List Entry) (place : ℕ) (made : List �
   pub shown : AreAt s made devices
   pub sources : length copies ≡ length s.rows
   pub copied : AreCopied s es copies
+
+-- what a debugger keeps: the devices, and where in the run each has its entries
+pub record IsDebugger (s : Scenario) (es : List Entry) (place : ℕ) (made : List ℕ) (devices : List Device)
+    (breaks : List (Option Break)) (copies : List Copies) (places : List Places) : Type 0 where
+  pub kept : IsKept s es place made devices breaks copies
+  pub listed : length places ≡ length s.rows
+  pub placed : ArePlaced es (length es) places

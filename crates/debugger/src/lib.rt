@@ -9,6 +9,7 @@ mod fault;
 mod latest;
 mod laws;
 mod moves;
+mod places;
 mod search;
 mod session;
 mod slots;

@@ -2,9 +2,9 @@ ghost use Rattle.std.specs.Prelude.{◌≡◌, ℕ, ◌+◌, ◌-◌, ◌*◌, �
 ghost use Rattle.std.specs.Prelude.{Err, IsSome, IsTrue, IfOk, IfSome, OnOk, OnErr};
 ghost use Rattle.std.specs.Option.{option_copied};
 ghost use Rattle.std.specs.Result.{IsOk, IsErr};
-ghost use Rattle.fleet_core.specs.Run.{made_by, IsRun};
+ghost use Rattle.fleet_core.specs.Run.{IsRun};
 ghost use Rattle.fleet_core.specs.Verdict.{BreaksAt};
-ghost use Rattle.debugger.specs.Shown.{latest, value_shown, observations_shown, outputs_shown, step_shown};
+ghost use Rattle.debugger.specs.Shown.{value_shown, observations_shown, outputs_shown, step_shown};
 ghost use Rattle.debugger.specs.Shown.{ShowsState, before_shown};
 ghost use Rattle.debugger.specs.Session.{IsSession, new_session, at_place, with_replayed};
 ghost use Rattle.debugger.specs.Moves.{steps_to};
@@ -20,6 +20,7 @@ use crate::copies::{Copies, all_copies};
 use crate::fault::{AddFault, BackFault, DeviceFault, ForwardFault, OpenFault, RemoveFault};
 use crate::latest::latest_step;
 use crate::moves::{Moves, count_rows, counts_at, device_before, moved_devices, settle};
+use crate::places::{Places, all_places, latest_outputs};
 use crate::search::{change_in, next_mark};
 use crate::slots::{free_slot, is_taken, no_breaks};
 use device_machine::{Device, Output};
@@ -30,12 +31,12 @@ use object_defs::Path;
 use scenario_image::{Scenario, Step};
 use std::alloc::{AllocError, Global};
 use std::marker::Model;
-use trace_file::{Entries, Entry};
+use trace_file::Entries;
 
 /// A debugger over a run: it stands at a place, from 0 to the count of the entries, and shows each device as it is
 /// after the entries before the place, in their order. It keeps a copy of each device after each 64 of its entries, so
-/// that a move back makes few steps. Contracts see the scenario, the run, the place, the breakpoints, and how many
-/// steps devices took in the last move by a number of entries.
+/// that a move back makes few steps, and where in the run each device has its entries. Contracts see the scenario, the
+/// run, the place, the breakpoints, and how many steps devices took in the last move by a number of entries.
 #[derive(Drop)]
 pub struct Debugger<'a> {
     alloc: Global,
@@ -46,13 +47,14 @@ pub struct Debugger<'a> {
     devices: Vec<Device>,
     breaks: Vec<Option<Break>>,
     copies: Vec<Copies>,
+    places: Vec<Places>,
     replayed: u64,
 }
 
 impl<'a> Model for Debugger<'a> {
     ghost use Rattle.std.specs.Coded.{codes};
     ghost use Rattle.instance_store.specs.Stored.{stored_code};
-    ghost use Rattle.debugger.specs.Session.{Session, IsKept};
+    ghost use Rattle.debugger.specs.Session.{Session, IsDebugger};
 
     ghost Value = { Session };
 
@@ -66,25 +68,8 @@ impl<'a> Model for Debugger<'a> {
       replayed = b.replayed;
     } };
 
-    ghost invariant = { λ b. IsKept b.scenario.now b.entries b.place b.made.items b.devices.items b.breaks.items
-        b.copies.items };
-}
-
-/// The outputs of the device's latest entry; none before its first one. The scenario is for the contract alone, which
-/// says whose run the entries are.
-fn latest_outputs<'a>(_scenario: &Scenario, entries: &'a [Entry], device: u16) -> &'a [Output]
-    requires { IsRun _scenario.now entries.now }
-    ensures { result.now ≡ latest _scenario.now device (made_by device entries.now) }
-{
-    let mut index = entries.len();
-    while index > 0 {
-        index -= 1;
-        let entry = &entries[index];
-        if entry.device == device {
-            return entry.outputs.as_slice();
-        }
-    }
-    &[]
+    ghost invariant = { λ b. IsDebugger b.scenario.now b.entries b.place b.made.items b.devices.items b.breaks.items
+        b.copies.items b.places.items };
 }
 
 impl<'a> Debugger<'a> {
@@ -107,6 +92,7 @@ impl<'a> Debugger<'a> {
         let made = count_rows(alloc, scenario, entries.as_slice(), 0)?;
         let breaks = no_breaks(alloc)?;
         let copies = all_copies(alloc, scenario, entries.as_slice())?;
+        let places = all_places(alloc, scenario, entries.as_slice())?;
         Ok(Debugger {
             alloc,
             scenario,
@@ -116,6 +102,7 @@ impl<'a> Debugger<'a> {
             devices,
             breaks,
             copies,
+            places,
             replayed: 0,
         })
     }
@@ -245,11 +232,15 @@ impl<'a> Debugger<'a> {
             ≡ outputs_shown self.now.scenario self.now.entries self.now.place device) }
         ensures device { IsOk result ↔ (device < length self.now.scenario.rows) }
     {
-        if usize::from(device) >= self.devices.len() {
+        let row = usize::from(device);
+        if row >= self.devices.len() {
             return Err(DeviceFault::NoDevice);
         }
-        let (passed, _) = self.entries.as_slice().split_at(self.place);
-        Ok(latest_outputs(self.scenario, passed, device))
+        let count = self.made[row];
+        let own = &self.places[row];
+        let indexes = own.indexes.as_slice();
+        let entries = self.entries.as_slice();
+        Ok(latest_outputs(self.scenario, entries, indexes, device, count))
     }
 
     /// The step of the device's latest entry before the place; none before its first one. `NoDevice`, exactly if there

@@ -8,7 +8,8 @@ returns-clause-moved c =
     (c.self.inside.place + c.args.count) c.in_ok-steps.steps
     c.self.inside.made.items c.self.inside.devices.items c.self.inside.breaks.items c.self.inside.copies.items
     c.self.inside.replayed
-    (λ n. n + c.args.count) (record { view = c.self.view_is; kept = c.self.invariant }) refl c.in_ok-steps.ensures.moved
+    (λ n. n + c.args.count) (record { view = c.self.view_is; kept = c.self.invariant.kept }) refl
+    c.in_ok-steps.ensures.moved
     c.self-2.view_is
 
 pub returns-clause-replayed : goal.returns-clause-replayed
@@ -18,7 +19,7 @@ returns-clause-replayed c =
     c.in_ok-steps.steps
     c.self.inside.made.items c.self.inside.devices.items c.self.inside.breaks.items c.self.inside.copies.items
     c.self.inside.replayed
-    (record { view = c.self.view_is; kept = c.self.invariant }) refl (omega (arith, c.if-count-left.false)) refl
+    (record { view = c.self.view_is; kept = c.self.invariant.kept }) refl (omega (arith, c.if-count-left.false)) refl
     c.in_ok-steps.ensures.steps
 
 pub returns-clause-few : goal.returns-clause-few
@@ -29,5 +30,5 @@ returns-clause-few c =
     c.in_ok-steps.steps
     c.self.inside.made.items c.self.inside.devices.items c.self.inside.breaks.items c.self.inside.copies.items
     c.self.inside.replayed
-    (record { view = c.self.view_is; kept = c.self.invariant }) refl (omega (arith, c.if-count-left.false)) refl
+    (record { view = c.self.view_is; kept = c.self.invariant.kept }) refl (omega (arith, c.if-count-left.false)) refl
     c.in_ok-steps.ensures.steps)

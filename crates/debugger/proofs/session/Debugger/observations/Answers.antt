@@ -9,7 +9,7 @@ returns-in-Some-clause-observations c =
     c.args.device c.self.inside.made.items c.self.inside.devices.items c.self.inside.breaks.items
     c.self.inside.copies.items c.self.inside.replayed
     c.in-Some.machine.now _
-    (record { view = c.self.view_is; kept = c.self.invariant }) c.rows-known.ensures.valid
+    (record { view = c.self.view_is; kept = c.self.invariant.kept }) c.rows-known.ensures.valid
     (got_at c.self.inside.devices.items c.deref.result.now c.from.result c.args.device c.in-Some.machine.now
     c.deref.ensures.value c.from.ensures c.in-Some.ensures.lookup.0 c.in-Some.ensures.lookup.1)
     c.observations.ensures.left
@@ -19,7 +19,7 @@ returns-in-Some-clause-device c =
     iff_yes refl (row_in c.args.self.now c.self.inside.scenario.now c.self.inside.entries c.self.inside.place
     c.args.device c.self.inside.made.items c.self.inside.devices.items c.self.inside.breaks.items
     c.self.inside.copies.items c.self.inside.replayed
-    (record { view = c.self.view_is; kept = c.self.invariant })
+    (record { view = c.self.view_is; kept = c.self.invariant.kept })
     (slice_get_within c.self.inside.devices.items c.args.device c.in-Some.machine.now
     (got_at c.self.inside.devices.items c.deref.result.now c.from.result c.args.device c.in-Some.machine.now
     c.deref.ensures.value c.from.ensures c.in-Some.ensures.lookup.0 c.in-Some.ensures.lookup.1)))
@@ -29,6 +29,6 @@ returns-in-None-clause-device c =
     iff_no (λ h. cc) (row_out c.args.self.now c.self.inside.scenario.now c.self.inside.entries c.self.inside.place
     c.args.device c.self.inside.made.items c.self.inside.devices.items c.self.inside.breaks.items
     c.self.inside.copies.items c.self.inside.replayed
-    (record { view = c.self.view_is; kept = c.self.invariant })
+    (record { view = c.self.view_is; kept = c.self.invariant.kept })
     (got_none c.self.inside.devices.items c.deref.result.now c.from.result c.args.device c.deref.ensures.value
     c.from.ensures c.in-None.ensures.lookup.0))

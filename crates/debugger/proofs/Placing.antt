@@ -1,0 +1,190 @@
+-- Where in the run a device has its entries.
+use Rattle.std.proofs.Common.{◌≡◌, ℕ, suc, ◌+◌, ◌-◌, ◌<◌, ◌≤◌, ◌⊎◌, inl, inr, List, [], ◌∷◌, ◌++◌, length, take, set}
+use Rattle.std.proofs.Common.{get_or, None, Some, slice_get, slice_index, refl, sym, ap, subst, ◌∙◌, arith}
+use Rattle.std.proofs.lemmas.Bool.{cases_eq}
+use Rattle.std.proofs.lemmas.List.{length-set, get_or_read, take-take, take_all}
+use Rattle.std.proofs.lemmas.Option.{slice_get_within, slice_get_read, slice_get-get_or, same_Some}
+use Rattle.lemmas.proofs.Lists.{pushed_cases, set_gives, set_elsewhere, length_pushed, take_none}
+use Rattle.scenario_image.specs.Scenario.{Scenario}
+use Rattle.trace_file.specs.declared.entry.Entry.{Entry}
+use Rattle.fleet_core.specs.Run.{made_by, IsRun}
+use Rattle.debugger.specs.Session.{AreCounted}
+use Rattle.debugger.specs.Shown.{latest}
+use Rattle.debugger.specs.declared.places.Places.{Places}
+use Rattle.debugger.specs.Places.{IsPlace, HasPlaces, ArePlaced}
+use Rattle.debugger.proofs.Copying.{made_before}
+use Rattle.debugger.proofs.Counting.{entry_at, entry_row}
+use Rattle.debugger.proofs.Runs.{made_own, made_else, own_outputs}
+
+-- before a later place a device has no fewer entries
+pub made_order : (es : List Entry) (d a b : ℕ) → a ≤ b → made_by d (take a es) ≤ made_by d (take b es)
+made_order es d a b order =
+    subst (λ l. made_by d l ≤ made_by d (take b es)) (take-take a b es order) (made_before (take b es) d a)
+
+-- ---- the lists as they are made
+
+pub none_first : (places : List Places) → places ≡ [] → (d : ℕ) (x : Places) → slice_get places d ≡ Some x
+    → x.indexes.items ≡ []
+none_first places none d x h = let e : None ≡ Some x = ap (λ l. slice_get l d) (sym none) ∙ h in absurd cc
+
+none_pushed : (places : List Places) (y : Places) (d : ℕ) (x : Places)
+    → ((k : ℕ) (z : Places) → slice_get places k ≡ Some z → z.indexes.items ≡ []) → y.indexes.items ≡ []
+    → (slice_get places d ≡ Some x) ⊎ ((d ≡ length places) × (y ≡ x)) → x.indexes.items ≡ []
+none_pushed places y d x none empty (inl h) = none d x h
+none_pushed places y d x none empty (inr h) = ap (λ p. p.indexes.items) (sym h.1) ∙ empty
+
+pub none_more : (places more : List Places) (y : Places)
+    → ((k : ℕ) (z : Places) → slice_get places k ≡ Some z → z.indexes.items ≡ []) → y.indexes.items ≡ []
+    → more ≡ places ++ y ∷ [] → (d : ℕ) (x : Places) → slice_get more d ≡ Some x → x.indexes.items ≡ []
+none_more places more y none empty added d x h =
+    none_pushed places y d x none empty (pushed_cases places y d x (ap (λ l. slice_get l d) (sym added) ∙ h))
+
+no_entry : (es : List Entry) (d : ℕ) (indexes : List ℕ) → indexes ≡ [] → HasPlaces es 0 d indexes
+no_entry es d indexes none =
+    let count : length indexes ≡ 0 = ap length none in
+    let made : made_by d (take 0 es) ≡ 0 = ap (made_by d) (take_none es) in
+    record {
+      each = λ k i h. let e : None ≡ Some i = ap (λ l. slice_get l k) (sym none) ∙ h in absurd cc;
+      count = count ∙ sym made;
+    }
+
+pub none_placed : (es : List Entry) (places : List Places)
+    → ((d : ℕ) (x : Places) → slice_get places d ≡ Some x → x.indexes.items ≡ []) → ArePlaced es 0 places
+none_placed es places none = record { each = λ d x h. no_entry es d x.indexes.items (none d x h) }
+
+place_pushed : (es : List Entry) (i d : ℕ) (e : Entry) (indexes : List ℕ) (k j : ℕ) → slice_get es i ≡ Some e
+    → e.device ≡ d → HasPlaces es i d indexes → (slice_get indexes k ≡ Some j) ⊎ ((k ≡ length indexes) × (i ≡ j))
+    → IsPlace es d k j
+place_pushed es i d e indexes k j at own has (inl h) = has.each k j h
+place_pushed es i d e indexes k j at own has (inr h) = record {
+  entry = e;
+  stands = subst (λ n. slice_get es n ≡ Some e) h.1 at;
+  own = own;
+  before = subst (λ n. made_by d (take n es) ≡ k) h.1 (sym (h.0 ∙ has.count));
+}
+
+-- an entry of the device is one more
+own_placed : (es : List Entry) (i d : ℕ) (e : Entry) (indexes more : List ℕ) → slice_get es i ≡ Some e → e.device ≡ d
+    → HasPlaces es i d indexes → more ≡ indexes ++ i ∷ [] → HasPlaces es (i + 1) d more
+own_placed es i d e indexes more at own has added =
+    subst (HasPlaces es (i + 1) d) (sym added) (record {
+      each = λ k j h. place_pushed es i d e indexes k j at own has (pushed_cases indexes i k j h);
+      count = length_pushed indexes i ∙ ap suc has.count ∙ sym (made_own es d i e at own);
+    })
+
+-- another device's entry is none
+else_placed : (es : List Entry) (i d : ℕ) (e : Entry) (indexes : List ℕ) → slice_get es i ≡ Some e
+    → (e.device ≡ d → ⊥) → HasPlaces es i d indexes → HasPlaces es (i + 1) d indexes
+else_placed es i d e indexes at other has =
+    record { each = has.each; count = has.count ∙ sym (made_else es d i e at other) }
+
+next_at : (es : List Entry) (i : ℕ) (e : Entry) (places : List Places) (own new : Places) (d : ℕ) (x : Places)
+    → slice_get es i ≡ Some e → slice_get places e.device ≡ Some own
+    → new.indexes.items ≡ own.indexes.items ++ i ∷ [] → ArePlaced es i places
+    → slice_get (set places e.device new) d ≡ Some x → (e.device ≡ d) ⊎ (e.device ≡ d → ⊥)
+    → HasPlaces es (i + 1) d x.indexes.items
+next_at es i e places own new d x at stands added are h (inl same) =
+    let there : slice_get (set places e.device new) e.device ≡ Some x =
+    subst (λ j. slice_get (set places e.device new) j ≡ Some x) (sym same) h in
+    let is : new ≡ x = set_gives places e.device new x there in
+    subst (λ y. HasPlaces es (i + 1) d y.indexes.items) is
+    (subst (λ j. HasPlaces es (i + 1) j new.indexes.items) same
+    (own_placed es i e.device e own.indexes.items new.indexes.items at refl (are.each e.device own stands) added))
+next_at es i e places own new d x at stands added are h (inr other) =
+    let old : slice_get places d ≡ Some x = sym (set_elsewhere places e.device d new other) ∙ h in
+    else_placed es i d e x.indexes.items at other (are.each d x old)
+
+-- an entry of a run, with the places of those before it
+pub record IsNext (s : Scenario) (es : List Entry) (i : ℕ) (e : Entry) (places : List Places) : Type 0 where
+  pub stands : slice_get es i ≡ Some e
+  pub row : e.device < length places
+  pub count : length places ≡ length s.rows
+  pub placed : ArePlaced es i places
+
+pub next_is : (s : Scenario) (es : List Entry) (i : ℕ) (e : Entry) (places : List Places) → IsRun s es
+    → i < length es → e ≡ get_or es i e → length places ≡ length s.rows → ArePlaced es i places
+    → IsNext s es i e places
+next_is s es i e places run within read count placed =
+    let at : slice_get es i ≡ Some e = entry_at es i e within read in
+    let row : e.device < length s.rows = entry_row s es i e run at in
+    record { stands = at; row = omega (arith, row, count); count = count; placed = placed }
+
+-- with it
+pub next_placed : (s : Scenario) (es : List Entry) (i row : ℕ) (e : Entry) (places : List Places) (own new : Places)
+    → IsNext s es i e places → row ≡ e.device → own ≡ get_or places row own
+    → new.indexes.items ≡ own.indexes.items ++ i ∷ [] → ArePlaced es (i + 1) (set places row new)
+next_placed s es i row e places own new next is read added =
+    let here : own ≡ get_or places e.device own = subst (λ j. own ≡ get_or places j own) is read in
+    let stands : slice_get places e.device ≡ Some own =
+    slice_get_read places (length places) e.device own refl next.row here in
+    subst (λ (j : ℕ). ArePlaced es (i + 1) (set places j new)) (sym is)
+    (record {
+      each = λ d x h. next_at es i e places own new d x next.stands stands added next.placed h (cases_eq e.device d);
+    })
+
+pub next_count : (s : Scenario) (es : List Entry) (i row : ℕ) (e : Entry) (places : List Places) (new : Places)
+    → IsNext s es i e places → length (set places row new) ≡ length s.rows
+next_count s es i row e places new next = length-set places row new ∙ next.count
+
+-- with the last one
+pub placed_end : (es : List Entry) (i : ℕ) (places : List Places) → ArePlaced es i places → length es ≤ i
+    → ArePlaced es (length es) places
+placed_end es i places are past =
+    let same : take i es ≡ take (length es) es =
+    take_all i es past ∙ sym (take_all (length es) es (omega arith)) in
+    record {
+      each = λ d x h.
+          let has = are.each d x h in record { each = has.each; count = has.count ∙ ap (made_by d) same };
+    }
+
+-- ---- what they give
+
+pub place_at : (es : List Entry) (n d k : ℕ) (indexes : List ℕ) → HasPlaces es n d indexes → k < length indexes
+    → IsPlace es d k (slice_index indexes k)
+place_at es n d k indexes has within = has.each k (slice_index indexes k) (slice_get-get_or indexes k 0 within)
+
+pub place_within : (es : List Entry) (d k i : ℕ) → IsPlace es d k i → i < length es
+place_within es d k i is = slice_get_within es i is.entry is.stands
+
+-- the outputs of the entry there
+latest_at : (s : Scenario) (es : List Entry) (d k i : ℕ) (e : Entry) → IsRun s es → IsPlace es d k i
+    → e ≡ get_or es i e → e.outputs ≡ latest s d (k + 1)
+latest_at s es d k i e run is read =
+    let at : slice_get es i ≡ Some e = entry_at es i e (place_within es d k i is) read in
+    let same : is.entry ≡ e = same_Some is.entry e (sym is.stands ∙ at) in
+    let own : e.device ≡ d = subst (λ x. x.device ≡ d) same is.own in
+    let count : made_by d (take (i + 1) es) ≡ k + 1 = omega (arith, made_own es d i e at own, is.before) in
+    own_outputs s es d i e run at own ∙ ap (latest s d) count
+
+pub latest_read : (s : Scenario) (es : List Entry) (n d made : ℕ) (indexes : List ℕ) (e : Entry) → IsRun s es
+    → HasPlaces es n d indexes → (made ≡ 0 → ⊥) → made ≤ length indexes
+    → e ≡ get_or es (slice_index indexes (made - 1)) e → e.outputs ≡ latest s d made
+latest_read s es n d made indexes e run has some within read =
+    let less : made - 1 < length indexes = omega (arith, some, within) in
+    let back : made - 1 + 1 ≡ made = omega (arith, some) in
+    latest_at s es d (made - 1) (slice_index indexes (made - 1)) e run (place_at es n d (made - 1) indexes has less)
+    read
+    ∙ ap (latest s d) back
+
+-- ---- what is read of what is kept
+
+pub places_read : (es : List Entry) (n d row : ℕ) (places : List Places) (x : Places) (indexes : List ℕ)
+    → ArePlaced es n places → d < length places → row ≡ d → x ≡ get_or places row x → indexes ≡ x.indexes.items
+    → HasPlaces es n d indexes
+places_read es n d row places x indexes are within same read is =
+    subst (HasPlaces es n d) (sym is)
+    (are.each d x
+    (slice_get_read places (length places) d x refl within (subst (λ j. x ≡ get_or places j x) same read)))
+
+pub count_read : (s : Scenario) (es : List Entry) (place d row m : ℕ) (made : List ℕ)
+    → AreCounted s (take place es) made
+    → d < length s.rows → row ≡ d → m ≡ get_or made row m → m ≡ made_by d (take place es)
+count_read s es place d row m made counted within same read =
+    let less : d < length made = omega (arith, within, counted.rows) in
+    get_or_read made d m less (subst (λ j. m ≡ get_or made j m) same read) 0 ∙ counted.is d within
+
+-- there are no more entries before a place than there are in all
+pub count_within : (es : List Entry) (place d m : ℕ) (indexes : List ℕ) → HasPlaces es (length es) d indexes
+    → place ≤ length es → m ≡ made_by d (take place es) → m ≤ length indexes
+count_within es place d m indexes has within is =
+    let order = made_order es d place (length es) within in omega (arith, order, has.count, is)

@@ -1,0 +1,83 @@
+//! Where in the run each device has its entries.
+
+ghost use Rattle.std.specs.Prelude.{◌≡◌, ℕ, ◌≤◌, [], ◌∷◌, ◌++◌, Some, length, slice_get, IfOk, OnOk};
+ghost use Rattle.fleet_core.specs.Run.{IsRun};
+ghost use Rattle.debugger.specs.Places.{HasPlaces, ArePlaced};
+ghost use Rattle.debugger.specs.Shown.{latest};
+ghost use Rattle.debugger.specs.declared.places.Places.{Places};
+
+use device_machine::Output;
+use scenario_image::Scenario;
+use std::alloc::{AllocError, Global};
+use trace_file::Entry;
+
+/// The indexes of a device's entries in the run, in their order. So that of its latest entry before a place is found by
+/// the count of those.
+#[derive(Drop)]
+pub(crate) struct Places {
+    /// The indexes.
+    pub(crate) indexes: Vec<usize>,
+}
+
+/// Empty lists for this many rows.
+fn no_places(alloc: Global, rows: usize) -> Result<Vec<Places>, AllocError>
+    ensures count { IfOk result (λ v. length v.items ≡ rows) }
+    ensures none { IfOk result (λ v. (d : ℕ) (x : Places) → slice_get v.items d ≡ Some x → x.indexes.items ≡ []) }
+{
+    let mut places = Vec::with_capacity(alloc, rows)?;
+    for _row in 0..rows {
+        places.push(Places {
+            indexes: Vec::new(alloc),
+        })?;
+    }
+    Ok(places)
+}
+
+/// Adds an index to a device's.
+fn add_place(own: &mut Places, index: usize) -> Result<(), AllocError>
+    ensures { OnOk result (own.new.indexes.items ≡ own.old.indexes.items ++ index ∷ []) }
+{
+    own.indexes.push(index)?;
+    Ok(())
+}
+
+/// The places of each row's device in the run, found in one pass over it.
+pub(crate) fn all_places(
+    alloc: Global,
+    scenario: &Scenario,
+    entries: &[Entry],
+) -> Result<Vec<Places>, AllocError>
+    requires { IsRun scenario.now entries.now }
+    ensures count { IfOk result (λ v. length v.items ≡ length scenario.now.rows) }
+    ensures placed { IfOk result (λ v. ArePlaced entries.now (length entries.now) v.items) }
+{
+    let rows = scenario.rows();
+    let mut places = no_places(alloc, rows)?;
+    for (index, entry) in entries.iter().enumerate() {
+        let own = &mut places[usize::from(entry.device)];
+        add_place(own, index)?;
+    }
+    Ok(places)
+}
+
+/// The outputs of the entry with which a device has this many; nothing where it has none. The scenario and the device
+/// are for the contract alone, which says whose run the entries are, and whose the indexes.
+pub(crate) fn latest_outputs<'a>(
+    _scenario: &Scenario,
+    entries: &'a [Entry],
+    indexes: &[usize],
+    _device: u16,
+    made: u64,
+) -> &'a [Output]
+    requires run { IsRun _scenario.now entries.now }
+    requires places { HasPlaces entries.now (length entries.now) _device indexes.now }
+    requires made { made ≤ length indexes.now }
+    ensures { result.now ≡ latest _scenario.now _device made }
+{
+    if made == 0 {
+        return &[];
+    }
+    let index = indexes[made as usize - 1];
+    let entry = &entries[index];
+    entry.outputs.as_slice()
+}
