@@ -92,7 +92,7 @@ RUNS = {
     "long read": (long_read, "values of 1,024 bytes", (64, 512, 4096)),
     "long discover": (long_discover, "resources", (64, 512, 4096)),
     "observations": (observations, "observations", (1, 8, 32)),
-    "posts": (posts, "devices that wait for others", (64, 1024, 16382)),
+    "posts": (posts, "devices that wait", (64, 1024, 16382)),
 }
 
 

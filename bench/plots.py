@@ -271,7 +271,7 @@ def growth(rows):
         programs = dict.fromkeys(it["Program"] for it in its)
         curves = {it: curve(where(its, Program=it), "Size", "Each µs") for it in programs}
         plots.append(Plot(name, its[0]["Of"], "µs each (logarithmic)", curves, is_log=True))
-    return "What grows as its work grows", 3, 220 * -(-len(plots) // 3) + 40, plots
+    return "What a step or a command costs, by what it stands on", 3, 220 * -(-len(plots) // 3) + 40, plots
 
 
 # The function of each picture; its figures have the same name, or that which stands with it.
