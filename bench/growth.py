@@ -108,7 +108,7 @@ def moves(total):
 
 
 def outputs(total):
-    return [f"forward {total}"], ["out 0"] * 1000, 1000
+    return [f"forward {total}"], ["out 0"] * 200_000, 200_000
 
 
 def resumes(total):
