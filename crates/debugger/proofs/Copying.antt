@@ -16,7 +16,6 @@ use Rattle.fleet_core.specs.Board.{ShowsAfter}
 use Rattle.fleet_core.proofs.Ends.{made_most}
 use Rattle.debugger.specs.declared.copies.Copies.{Copies}
 use Rattle.debugger.specs.Copies.{HasCopies, AreCopiedTo, AreCopied}
-use Rattle.debugger.specs.Session.{AreCounted}
 use Rattle.debugger.specs.Moves.{HasSteps}
 
 -- ---- the copies of one device
@@ -127,11 +126,6 @@ more_copied s counts all more n y before count here added =
     subst (AreCopiedTo s counts) (sym added)
     (record { each = λ d x h. copied_at s counts all n d y x before count here (pushed_cases all y d x h) })
 
--- those of the device at an index
-pub sources_at : (s : Scenario) (counts : List ℕ) (all : List Copies) (d : ℕ) (x : Copies) → AreCopiedTo s counts all
-    → d < length all → x ≡ get_or all d x → HasCopies s d (slice_index counts d) x.devices.items
-sources_at s counts all d x are within read = are.each d x (slice_get_read all (length all) d x refl within read)
-
 -- as the rows' entries are counted
 pub copied_all : (s : Scenario) (es : List Entry) (counts : List ℕ) (all : List Copies) → AreCopiedTo s counts all
     → length all ≡ length s.rows → ((d : ℕ) → d < length s.rows → slice_index counts d ≡ made_by d es)
@@ -151,11 +145,12 @@ all_steps s es counts run made d less = subst (HasSteps s d) (sym (made d less))
 pub made_before : (es : List Entry) (d n : ℕ) → made_by d (take n es) ≤ made_by d es
 made_before es d n = sum_by-take-le (λ e. cond (eqb e.device d) 1 0) es n
 
-pub copied_to : (s : Scenario) (es : List Entry) (n : ℕ) (counts : List ℕ) (all : List Copies) → AreCopied s es all
-    → length all ≡ length s.rows → AreCounted s (take n es) counts → AreCopiedTo s counts all
-copied_to s es n counts all are count counted = record {
-  each = λ d x h.
-      let less : d < length s.rows = omega (arith, slice_get_within all d x h, count) in
-      fewer_copies s d (made_by d es) (slice_index counts d) x.devices.items (are.each d x h)
-      (omega (arith, counted.is d less, made_before es d n));
-}
+-- those of a device, as many as it needs at a place
+pub copies_for : (s : Scenario) (es : List Entry) (d row to count : ℕ) (all : List Copies) (x : Copies)
+    (copies : List Device) → AreCopied s es all → d < length all → row ≡ d → x ≡ get_or all row x
+    → copies ≡ x.devices.items → count ≡ made_by d (take to es) → HasCopies s d count copies
+copies_for s es d row to count all x copies are within same read is made =
+    let less : count ≤ made_by d es = omega (arith, made, made_before es d to) in
+    subst (HasCopies s d count) (sym is)
+    (fewer_copies s d (made_by d es) count x.devices.items
+    (are.each d x (slice_get_read all (length all) d x refl within (subst (λ j. x ≡ get_or all j x) same read))) less)

@@ -17,3 +17,4 @@ pub mod Going
 pub mod Finding
 pub mod Preceding
 pub mod Placing
+pub mod Passing

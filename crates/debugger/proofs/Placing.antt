@@ -1,7 +1,7 @@
 -- Where in the run a device has its entries.
 use Rattle.std.proofs.Common.{◌≡◌, ℕ, suc, ◌+◌, ◌-◌, ◌<◌, ◌≤◌, ◌⊎◌, inl, inr, List, [], ◌∷◌, ◌++◌, length, take, set}
 use Rattle.std.proofs.Common.{get_or, None, Some, slice_get, slice_index, refl, sym, ap, subst, ◌∙◌, arith}
-use Rattle.std.proofs.lemmas.Bool.{cases_eq}
+use Rattle.std.proofs.lemmas.Bool.{cases_eq, cases_lt}
 use Rattle.std.proofs.lemmas.List.{length-set, get_or_read, take-take, take_all}
 use Rattle.std.proofs.lemmas.Option.{slice_get_within, slice_get_read, slice_get-get_or, same_Some}
 use Rattle.lemmas.proofs.Lists.{pushed_cases, set_gives, set_elsewhere, length_pushed, take_none}
@@ -146,6 +146,18 @@ place_at es n d k indexes has within = has.each k (slice_index indexes k) (slice
 pub place_within : (es : List Entry) (d k i : ℕ) → IsPlace es d k i → i < length es
 place_within es d k i is = slice_get_within es i is.entry is.stands
 
+-- an entry before a place is counted there, with those before it
+pub place_before : (es : List Entry) (d k i place : ℕ) → IsPlace es d k i → i < place
+    → k < made_by d (take place es)
+place_before es d k i place is less =
+    let own = made_own es d i is.entry is.stands is.own in
+    let order = made_order es d (i + 1) place (omega (arith, less)) in
+    omega (arith, own, order, is.before)
+
+-- one that is not before it is not
+pub place_after : (es : List Entry) (d k i place : ℕ) → IsPlace es d k i → place ≤ i → made_by d (take place es) ≤ k
+place_after es d k i place is more = let order = made_order es d place i more in omega (arith, order, is.before)
+
 -- the outputs of the entry there
 latest_at : (s : Scenario) (es : List Entry) (d k i : ℕ) (e : Entry) → IsRun s es → IsPlace es d k i
     → e ≡ get_or es i e → e.outputs ≡ latest s d (k + 1)
@@ -177,8 +189,8 @@ places_read es n d row places x indexes are within same read is =
     (slice_get_read places (length places) d x refl within (subst (λ j. x ≡ get_or places j x) same read)))
 
 pub count_read : (s : Scenario) (es : List Entry) (place d row m : ℕ) (made : List ℕ)
-    → AreCounted s (take place es) made
-    → d < length s.rows → row ≡ d → m ≡ get_or made row m → m ≡ made_by d (take place es)
+    → AreCounted s (take place es) made → d < length s.rows → row ≡ d → m ≡ get_or made row m
+    → m ≡ made_by d (take place es)
 count_read s es place d row m made counted within same read =
     let less : d < length made = omega (arith, within, counted.rows) in
     get_or_read made d m less (subst (λ j. m ≡ get_or made j m) same read) 0 ∙ counted.is d within
@@ -188,3 +200,50 @@ pub count_within : (es : List Entry) (place d m : ℕ) (indexes : List ℕ) → 
     → place ≤ length es → m ≡ made_by d (take place es) → m ≤ length indexes
 count_within es place d m indexes has within is =
     let order = made_order es d place (length es) within in omega (arith, order, has.count, is)
+
+-- ---- before another place
+
+rise : (es : List Entry) (d i j a b : ℕ) → IsPlace es d i a → IsPlace es d j b → i ≤ j → (b < a) ⊎ (a ≤ b) → a ≤ b
+rise es d i j a b first second order (inr more) = more
+rise es d i j a b first second order (inl less) =
+    let before = place_before es d j b a second less in
+    absurd (omega (arith, before, first.before, order))
+
+-- the indexes rise
+pub places_rise : (es : List Entry) (n d : ℕ) (indexes : List ℕ) → HasPlaces es n d indexes
+    → (i j : ℕ) → i ≤ j → j < length indexes → slice_index indexes i ≤ slice_index indexes j
+places_rise es n d indexes has i j order within =
+    rise es d i j (slice_index indexes i) (slice_index indexes j)
+    (place_at es n d i indexes has (omega (arith, order, within))) (place_at es n d j indexes has within) order
+    (cases_lt (slice_index indexes j) (slice_index indexes i))
+
+count_most : (es : List Entry) (n d to r m : ℕ) (indexes : List ℕ) → HasPlaces es n d indexes
+    → m ≡ made_by d (take to es) → r ≤ length indexes → ((k : ℕ) → k < r → slice_index indexes k < to)
+    → (m < r) ⊎ (r ≤ m) → r ≤ m
+count_most es n d to r m indexes has is within before (inr less) = less
+count_most es n d to r m indexes has is within before (inl more) =
+    let place = place_at es n d m indexes has (omega (arith, more, within)) in
+    let passed = place_before es d m (slice_index indexes m) to place (before m more) in
+    absurd (omega (arith, passed, is))
+
+count_least : (es : List Entry) (n d to r m : ℕ) (indexes : List ℕ) → HasPlaces es n d indexes
+    → m ≡ made_by d (take to es) → m ≤ length indexes
+    → ((k : ℕ) → r ≤ k → k < length indexes → to ≤ slice_index indexes k) → (r < m) ⊎ (m ≤ r) → m ≤ r
+count_least es n d to r m indexes has is within after (inr more) = more
+count_least es n d to r m indexes has is within after (inl less) =
+    let room : r < length indexes = omega (arith, less, within) in
+    let place = place_at es n d r indexes has room in
+    let left = place_after es d r (slice_index indexes r) to place (after r (omega arith) room) in
+    absurd (omega (arith, left, is, less))
+
+-- as many indexes are before a place as the device has entries before it
+pub count_is : (es : List Entry) (d to r : ℕ) (indexes : List ℕ) → HasPlaces es (length es) d indexes → to ≤ length es
+    → r ≤ length indexes → ((k : ℕ) → k < r → slice_index indexes k < to)
+    → ((k : ℕ) → r ≤ k → k < length indexes → to ≤ slice_index indexes k) → r ≡ made_by d (take to es)
+count_is es d to r indexes has within room before after =
+    let most = count_most es (length es) d to r (made_by d (take to es)) indexes has refl room before
+    (cases_lt (made_by d (take to es)) r) in
+    let least = count_least es (length es) d to r (made_by d (take to es)) indexes has refl
+    (count_within es to d (made_by d (take to es)) indexes has within refl) after
+    (cases_lt r (made_by d (take to es))) in
+    omega (arith, most, least)

@@ -1,6 +1,6 @@
 -- How many events devices take in a move.
 use Rattle.std.proofs.Common.{◌≡◌, ℕ, zero, suc, ◌+◌, ◌-◌, ◌*◌, ◌/◌, ◌<◌, ◌≤◌, ◌⊎◌, inl, inr, nat_lt, cond, List}
-use Rattle.std.proofs.Common.{◌++◌, length, take, drop, filter, Some, slice_get, slice_index, slice_range}
+use Rattle.std.proofs.Common.{◌++◌, length, take, drop, filter, Some, slice_get, slice_range}
 use Rattle.std.proofs.Common.{refl, sym, ap, subst, ◌∙◌, arith, add-one, length-append}
 use Rattle.std.proofs.lemmas.Bool.{le-leb, lt-leb, lt-ltb, cases_lt}
 use Rattle.std.proofs.lemmas.List.{take-append-drop, take-take, drop-take}
@@ -11,15 +11,15 @@ use Rattle.scenario_image.specs.Scenario.{Scenario, IsValid}
 use Rattle.trace_file.specs.declared.entry.Entry.{Entry}
 use Rattle.fleet_core.specs.Run.{made_by, step_at, Fits, IsRun}
 use Rattle.fleet_core.proofs.Sums.{made-append}
-use Rattle.debugger.specs.Session.{Session, AreCounted}
+use Rattle.debugger.specs.Session.{Session}
 use Rattle.debugger.specs.Replayed.{devices_between, events_among, events_by, is_event_at, GoesBack, IsLatestCopy}
 use Rattle.debugger.specs.Replayed.{IsReplayedBack}
-use Rattle.debugger.specs.Moves.{HasSteps, steps_between, steps_of, steps_to}
+use Rattle.debugger.specs.Moves.{HasSteps, steps_between, steps_to}
 use Rattle.debugger.proofs.Runs.{fits_at, made_own, made_else, step_before}
 use Rattle.debugger.proofs.Counting.{entry_row}
 use Rattle.debugger.proofs.Events.{events_apart, events_few, events_next, events_order, few_taken, filter_push}
 use Rattle.debugger.proofs.Moving.{few_steps}
-use Rattle.debugger.proofs.Totals.{total, total_adds, total_more, total_same, total_none, total_plus, total_within}
+use Rattle.debugger.proofs.Totals.{total, total_adds, total_none, total_plus, total_within}
 
 -- ---- one device
 
@@ -66,22 +66,11 @@ back_few s d a b (suc x) same =
     let most : steps_between s d a b ≤ 63 = omega (arith, back, apart) in
     subst (λ n. steps_between s d a b ≤ 63 * n) (sym one) most
 
--- with one device more
-pub steps_more : (s : Scenario) (made counts : List ℕ) (n steps own : ℕ) → steps ≡ steps_of s made counts n
-    → own ≡ steps_between s n (slice_index made n) (slice_index counts n)
-    → steps + own ≡ steps_of s made counts (n + 1)
-steps_more s made counts n steps own before is =
-    ap (λ k. k + own) before ∙ (ap (λ k. steps_of s made counts n + k) is
-    ∙ sym (total_more (λ d. steps_between s d (slice_index made d) (slice_index counts d)) n))
-
-pub steps_same : (s : Scenario) (made counts : List ℕ) (n steps : ℕ) → steps ≡ steps_of s made counts n
-    → slice_index made n ≡ slice_index counts n → steps ≡ steps_of s made counts (n + 1)
-steps_same s made counts n steps before same =
-    let on = on_between s n (slice_index made n) (slice_index counts n) (omega (arith, same)) in
-    let less = events_order s n (slice_index counts n) (slice_index made n) (omega (arith, same)) in
-    let none : 0 ≡ steps_between s n (slice_index made n) (slice_index counts n) = omega (arith, on, less) in
-    let all : steps + 0 ≡ steps_of s made counts (n + 1) = steps_more s made counts n steps 0 before none in
-    omega (arith, all)
+-- none where it makes none
+pub none_between : (s : Scenario) (d from to : ℕ) → from ≡ to → steps_between s d from to ≡ 0
+none_between s d from to same =
+    let on = on_between s d from to (omega (arith, same)) in
+    let less = events_order s d to from (omega (arith, same)) in omega (arith, on, less)
 
 -- ---- the entries between two places
 
@@ -217,14 +206,3 @@ replayed_back v to = record {
   goes = λ d less. goes_back v.scenario d (made_by d (take v.place v.entries)) (made_by d (take to v.entries));
   all = refl;
 }
-
--- as the counts of the rows say
-pub steps_are : (v : Session) (to : ℕ) (made counts : List ℕ) → AreCounted v.scenario (take v.place v.entries) made
-    → AreCounted v.scenario (take to v.entries) counts
-    → steps_of v.scenario made counts (length v.scenario.rows) ≡ steps_to v to
-steps_are v to made counts from there =
-    total_same (λ d. steps_between v.scenario d (slice_index made d) (slice_index counts d))
-    (λ d. steps_between v.scenario d (made_by d (take v.place v.entries)) (made_by d (take to v.entries)))
-    (length v.scenario.rows)
-    (λ d less. ap (λ k. steps_between v.scenario d k (slice_index counts d)) (from.is d less)
-    ∙ ap (steps_between v.scenario d (made_by d (take v.place v.entries))) (there.is d less))

@@ -1,6 +1,6 @@
 -- Sums over the numbers below a limit.
 use Rattle.std.proofs.Common.{◌≡◌, ℕ, zero, suc, ◌+◌, ◌*◌, ◌<◌, ◌≤◌, ◌⊎◌, inl, inr, refl, sym, ap, subst}
-use Rattle.std.proofs.Common.{◌∙◌, arith, add-one}
+use Rattle.std.proofs.Common.{◌∙◌, arith}
 use Rattle.std.specs.List.{range_with_len, sum_by}
 use Rattle.std.proofs.lemmas.Bool.{cases_eq}
 use Rattle.std.proofs.lemmas.List.Sums.{sum_by_push}
@@ -16,9 +16,6 @@ total_suc f n =
     let z : 0 + n ≡ n = omega arith in
     ap (sum_by f) (range_next 0 n)
     ∙ (sum_by_push f (range_with_len 0 n) (0 + n) ∙ ap (λ k. total f n + f k) z)
-
-pub total_more : (f : ℕ → ℕ) (n : ℕ) → total f (n + 1) ≡ total f n + f n
-total_more f n = ap (total f) (add-one n) ∙ total_suc f n
 
 -- functions that agree below n have the same sum
 pub total_same : (f g : ℕ → ℕ) (n : ℕ) → ((d : ℕ) → d < n → f d ≡ g d) → total f n ≡ total g n
@@ -54,6 +51,9 @@ total_within f g (suc n) within =
     within_next (total f n) (total g n) (f n) (g n) (total f (suc n)) (total g (suc n)) (total_suc f n) (total_suc g n)
     (total_within f g n (λ d less. within d (omega (arith, less)))) (within n (omega arith))
 
+few_next : (a x p n : ℕ) → p ≡ a + x → a ≤ 4096 * n → x ≤ 4096 → p ≤ 4096 * suc n
+few_next a x p n e f g = omega arith
+
 next_last : (a x w p q : ℕ) → p ≡ a + x → q ≡ a + (x + w) → q ≡ p + w
 next_last a x w p q e f = omega arith
 
@@ -77,3 +77,10 @@ pub total_adds : (f g : ℕ → ℕ) (w n k : ℕ) → k < n → g k ≡ f k + w
     → total g n ≡ total f n + w
 total_adds f g w zero k less here others = absurd (omega (arith, less))
 total_adds f g w (suc n) k less here others = next_by f g w n k (total_adds f g w n) less here others (cases_eq k n)
+
+-- each at most 4,096
+pub total_few : (f : ℕ → ℕ) (n : ℕ) → ((d : ℕ) → d < n → f d ≤ 4096) → total f n ≤ 4096 * n
+total_few f zero few = omega arith
+total_few f (suc n) few =
+    few_next (total f n) (f n) (total f (suc n)) n (total_suc f n)
+    (total_few f n (λ d less. few d (omega (arith, less)))) (few n (omega arith))

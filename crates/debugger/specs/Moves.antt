@@ -4,6 +4,7 @@ use Rattle.std.specs.Prelude.{slice_get, slice_index}
 use Rattle.std.specs.List.{sum_by, range_with_len}
 use Rattle.device_machine.specs.State.{Device}
 use Rattle.scenario_image.specs.Scenario.{Scenario}
+use Rattle.trace_file.specs.declared.entry.Entry.{Entry}
 use Rattle.fleet_core.specs.Run.{made_by, steps_in}
 use Rattle.fleet_core.specs.Board.{ShowsAfter}
 use Rattle.debugger.specs.declared.moves.Moved.{Moved}
@@ -17,6 +18,7 @@ HasSteps s d k = k ≤ length (steps_in (slice_get s.rows d))
 -- the device of the row was moved to where it has made its first steps, and took this many events for that
 pub record IsMoved (s : Scenario) (d to count : ℕ) (m : Moved) : Type 0 where
   pub device : m.device ≡ d
+  pub made : m.made ≡ to
   pub shows : ShowsAfter s d to m.machine
   pub steps : m.steps ≡ count
 
@@ -27,17 +29,24 @@ pub record IsAmong (moved : List Moved) (d : ℕ) : Type 0 where
   pub stands : slice_get moved index ≡ Some one
   pub own : one.device ≡ d
 
--- it goes to a place that there is, and has made as many steps as its row's device is to make
-pub record IsReady (s : Scenario) (counts : List ℕ) (places : ℕ) (m : Moved) : Type 0 where
-  pub within : m.device < places
-  pub shows : ShowsAfter s m.device (slice_index counts m.device) m.machine
+-- it goes to a row that there is, and has made as many steps as the row's device has entries among these
+pub record IsReady (s : Scenario) (es : List Entry) (m : Moved) : Type 0 where
+  pub row : m.device < length s.rows
+  pub made : m.made ≡ made_by m.device es
+  pub shows : ShowsAfter s m.device (made_by m.device es) m.machine
 
--- each of these is ready, and each of the first devices has made as many steps as it is to make, or is one of these
-pub record AreMoved (s : Scenario) (counts : List ℕ) (devices : List Device) (first : ℕ) (moved : List Moved)
+-- the device has made as many steps as it has entries among these, and they are its count
+pub record IsSettled (s : Scenario) (es : List Entry) (made : List ℕ) (d : ℕ) (x : Device) : Type 0 where
+  pub count : slice_index made d ≡ made_by d es
+  pub shows : ShowsAfter s d (made_by d es) x
+
+-- each of these is ready, and each device of a row is settled, or one of these
+pub record AreMoved (s : Scenario) (es : List Entry) (made : List ℕ) (devices : List Device) (moved : List Moved)
     : Type 0 where
-  pub each : (i : ℕ) (m : Moved) → slice_get moved i ≡ Some m → IsReady s counts (length devices) m
-  pub rest : (d : ℕ) (x : Device) → d < first → slice_get devices d ≡ Some x
-      → ShowsAfter s d (slice_index counts d) x ⊎ IsAmong moved d
+  pub counts : length made ≡ length s.rows
+  pub count : length devices ≡ length s.rows
+  pub each : (i : ℕ) (m : Moved) → slice_get moved i ≡ Some m → IsReady s es m
+  pub rest : (d : ℕ) (x : Device) → slice_get devices d ≡ Some x → IsSettled s es made d x ⊎ IsAmong moved d
 
 -- how many events a device takes in a move from the place after its first steps of the one number to that after those
 -- of the other: on, those between; back, those after the last multiple of 64
@@ -47,13 +56,12 @@ steps_between s d from to =
     then (events_by s d to - events_by s d from)
     else (events_by s d to - events_by s d (64 * (to / 64))))
 
+-- how many all devices take in a move from the one place to the other
+abbrev pub steps_over : Scenario → List Entry → ℕ → ℕ → ℕ
+steps_over s es from to =
+    sum_by (λ d. steps_between s d (made_by d (take from es)) (made_by d (take to es)))
+    (range_with_len 0 (length s.rows))
+
 -- how many all devices take in a move to this place
 abbrev pub steps_to : Session → ℕ → ℕ
-steps_to v to =
-    sum_by (λ d. steps_between v.scenario d (made_by d (take v.place v.entries)) (made_by d (take to v.entries)))
-    (range_with_len 0 (length v.scenario.rows))
-
--- how many the first devices take, if each has made as many steps as its count and is to make as many as its other one
-abbrev pub steps_of : Scenario → List ℕ → List ℕ → ℕ → ℕ
-steps_of s made counts first =
-    sum_by (λ d. steps_between s d (slice_index made d) (slice_index counts d)) (range_with_len 0 first)
+steps_to v to = steps_over v.scenario v.entries v.place to

@@ -1,14 +1,16 @@
 //! How the devices of a debugger are moved to another place of a run.
 
-ghost use Rattle.std.specs.Prelude.{◌≡◌, ℕ, ◌-◌, ◌*◌, ◌/◌, ◌<◌, ◌≤◌, length, take, slice_index, IfOk};
+ghost use Rattle.std.specs.Prelude.{◌≡◌, ◌-◌, ◌*◌, ◌/◌, ◌<◌, ◌≤◌, length, take, IfOk};
 ghost use Rattle.fleet_core.specs.Run.{IsRun};
 ghost use Rattle.fleet_core.specs.Board.{ShowsAfter};
-ghost use Rattle.debugger.specs.Copies.{HasCopies, AreCopiedTo};
+ghost use Rattle.debugger.specs.Copies.{HasCopies, AreCopied};
+ghost use Rattle.debugger.specs.Places.{ArePlaced};
 ghost use Rattle.debugger.specs.Session.{AreAt, AreCounted};
 ghost use Rattle.debugger.specs.Replayed.{events_by};
-ghost use Rattle.debugger.specs.Moves.{HasSteps, IsMoved, AreMoved, steps_between, steps_of};
+ghost use Rattle.debugger.specs.Moves.{HasSteps, IsMoved, AreMoved, steps_between, steps_over};
 
 use crate::copies::{COPY_STEPS, Copies, copy_at};
+use crate::places::{Places, count_before, has_earlier};
 use crate::steps::advance;
 use device_machine::Device;
 use fleet_core::count_entries;
@@ -21,6 +23,8 @@ use trace_file::Entry;
 pub(crate) struct Moved {
     /// Its row.
     pub(crate) device: u16,
+    /// How many steps it has made.
+    pub(crate) made: u64,
     /// The device.
     pub(crate) machine: Device,
     /// How many events it took for this move.
@@ -52,67 +56,6 @@ pub(crate) fn count_rows(
     Ok(made)
 }
 
-/// Takes the counts at a place on to a later one: with an entry, its device has made the step of the entry. The
-/// scenario is for the contract alone, here and in `count_back`: it says whose run the entries are.
-fn count_on(_scenario: &Scenario, entries: &[Entry], counts: &mut Vec<u64>, from: usize, to: usize)
-    requires run { IsRun _scenario.now entries.now }
-    requires order { from ≤ to }
-    requires within { to ≤ length entries.now }
-    requires counted { AreCounted _scenario.now (take from entries.now) counts.old.items }
-    ensures { AreCounted _scenario.now (take to entries.now) counts.new.items }
-{
-    for index in from..to {
-        let entry = &entries[index];
-        counts[usize::from(entry.device)] = u64::from(entry.step) + 1;
-    }
-}
-
-/// Takes the counts at a place back to an earlier one: before an entry, its device has made the steps before its step.
-fn count_back(
-    _scenario: &Scenario,
-    entries: &[Entry],
-    counts: &mut Vec<u64>,
-    from: usize,
-    to: usize,
-)
-    requires run { IsRun _scenario.now entries.now }
-    requires order { to ≤ from }
-    requires within { from ≤ length entries.now }
-    requires counted { AreCounted _scenario.now (take from entries.now) counts.old.items }
-    ensures { AreCounted _scenario.now (take to entries.now) counts.new.items }
-{
-    let mut index = from;
-    while index > to {
-        index -= 1;
-        let entry = &entries[index];
-        counts[usize::from(entry.device)] = u64::from(entry.step);
-    }
-}
-
-/// The counts at another place, from those at a place. Only the entries between the two are looked at.
-pub(crate) fn counts_at(
-    alloc: Global,
-    scenario: &Scenario,
-    entries: &[Entry],
-    made: &[u64],
-    from: usize,
-    to: usize,
-) -> Result<Vec<u64>, AllocError>
-    requires run { IsRun scenario.now entries.now }
-    requires from { from ≤ length entries.now }
-    requires to { to ≤ length entries.now }
-    requires counted { AreCounted scenario.now (take from entries.now) made.now }
-    ensures { IfOk result (λ v. AreCounted scenario.now (take to entries.now) v.items) }
-{
-    let mut counts = Vec::from_slice(alloc, made)?;
-    if from <= to {
-        count_on(scenario, entries, &mut counts, from, to);
-    } else {
-        count_back(scenario, entries, &mut counts, from, to);
-    }
-    Ok(counts)
-}
-
 /// A copy of a device that has made the first steps of its row, after those up to the last of these numbers.
 fn device_after(
     alloc: Global,
@@ -132,6 +75,7 @@ fn device_after(
     let steps = advance(alloc, scenario, &mut later, device, from, to)?;
     Ok(Moved {
         device,
+        made: u64::from(to),
         machine: later,
         steps,
     })
@@ -161,8 +105,10 @@ pub(crate) fn device_before(
         COPY_STEPS * number,
         to,
     )?;
+    let made = u64::from(to);
     Ok(Moved {
         device,
+        made,
         machine: earlier,
         steps,
     })
@@ -196,64 +142,89 @@ fn moved_device(
     Ok(earlier)
 }
 
-/// The devices that take the place of those that have made another number of steps.
+/// The devices that take the place of those that have an entry between the two places. Only the entries between the two
+/// are looked at: the first one of each device moves it.
 pub(crate) fn moved_devices(
     alloc: Global,
     scenario: &Scenario,
+    entries: &[Entry],
+    places: &[Places],
     copies: &[Copies],
     devices: &[Device],
     made: &[u64],
-    counts: &[u64],
+    from: usize,
+    to: usize,
 ) -> Result<Moves, AllocError>
-    requires copied { AreCopiedTo scenario.now counts.now copies.now }
+    requires run { IsRun scenario.now entries.now }
+    requires listed { length places.now ≡ length scenario.now.rows }
+    requires placed { ArePlaced entries.now (length entries.now) places.now }
     requires sources { length copies.now ≡ length scenario.now.rows }
-    requires shown { AreAt scenario.now made.now devices.now }
+    requires copied { AreCopied scenario.now entries.now copies.now }
     requires rows { length devices.now ≡ length scenario.now.rows }
-    requires from { length made.now ≡ length scenario.now.rows }
-    requires to { length counts.now ≡ length scenario.now.rows }
-    requires first { (d : ℕ) → d < length scenario.now.rows → HasSteps scenario.now d (slice_index made.now d) }
-    requires last { (d : ℕ) → d < length scenario.now.rows → HasSteps scenario.now d (slice_index counts.now d) }
-    ensures moved { IfOk result (λ v. AreMoved scenario.now counts.now devices.now (length devices.now) v.moved.items) }
-    ensures steps { IfOk result (λ v. v.steps
-        ≡ steps_of scenario.now made.now counts.now (length scenario.now.rows)) }
+    requires shown { AreAt scenario.now made.now devices.now }
+    requires counted { AreCounted scenario.now (take from entries.now) made.now }
+    requires from { from ≤ length entries.now }
+    requires to { to ≤ length entries.now }
+    ensures moved { IfOk result (λ v. AreMoved scenario.now (take to entries.now) made.now devices.now v.moved.items) }
+    ensures steps { IfOk result (λ v. v.steps ≡ steps_over scenario.now entries.now from to) }
 {
-    let rows = scenario.rows();
+    // For the proof alone: a scenario whose rows are counted is known to be valid.
+    let _known = scenario.rows();
+    let first = from.min(to);
+    let last = from.max(to);
     let mut moved = Vec::new(alloc);
     let mut steps = 0;
-    for device in 0..rows {
-        let from = made[device];
-        let to = counts[device];
-        if from == to {
+    for index in first..last {
+        let entry = &entries[index];
+        let row = usize::from(entry.device);
+        let own = &places[row];
+        let indexes = own.indexes.as_slice();
+        if has_earlier(indexes, entry.step, first) {
             continue;
         }
-        let kept = &copies[device];
+        let count = count_before(indexes, to);
+        let kept = &copies[row];
         let sources = kept.devices.as_slice();
-        let machine = &devices[device];
-        let next = moved_device(alloc, scenario, sources, machine, device as u16, from, to)?;
+        let machine = &devices[row];
+        let next = moved_device(
+            alloc,
+            scenario,
+            sources,
+            machine,
+            entry.device,
+            made[row],
+            count as u64,
+        )?;
         steps += next.steps;
         moved.push(next)?;
     }
     Ok(Moves { moved, steps })
 }
 
-/// Puts the moved devices in the places of others. The scenario and the counts are for the contract alone, which says
-/// where the devices are.
+/// Puts the moved devices and their counts in the places of others. The scenario, the entries and the place are for the
+/// contract alone, which says where the devices are.
 pub(crate) fn settle(
     _scenario: &Scenario,
-    _counts: &[u64],
+    _entries: &[Entry],
+    _to: usize,
+    made: &mut Vec<u64>,
     devices: &mut Vec<Device>,
     mut moved: Vec<Moved>,
 )
-    requires { AreMoved _scenario.now _counts.now devices.old.items (length devices.old.items) moved.items }
+    requires { AreMoved _scenario.now (take _to _entries.now) made.old.items devices.old.items moved.items }
+    ensures counted { AreCounted _scenario.now (take _to _entries.now) made.new.items }
     ensures count { length devices.new.items ≡ length devices.old.items }
-    ensures shown { AreAt _scenario.now _counts.now devices.new.items }
+    ensures shown { AreAt _scenario.now made.new.items devices.new.items }
 {
     while let Some(next) = moved.pop() {
         let Moved {
             device,
+            made: count,
             machine,
             steps: _,
         } = next;
-        devices[usize::from(device)] = machine;
+        let row = usize::from(device);
+        made[row] = count;
+        devices[row] = machine;
     }
 }

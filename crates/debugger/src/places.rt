@@ -1,8 +1,8 @@
 //! Where in the run each device has its entries.
 
-ghost use Rattle.std.specs.Prelude.{◌≡◌, ℕ, ◌≤◌, [], ◌∷◌, ◌++◌, Some, length, slice_get, IfOk, OnOk};
+ghost use Rattle.std.specs.Prelude.{◌≡◌, ℕ, ◌<◌, ◌≤◌, [], ◌∷◌, ◌++◌, Some, length, slice_get, slice_index, IfOk, OnOk};
 ghost use Rattle.fleet_core.specs.Run.{IsRun};
-ghost use Rattle.debugger.specs.Places.{HasPlaces, ArePlaced};
+ghost use Rattle.debugger.specs.Places.{HasPlaces, ArePlaced, has_earlier};
 ghost use Rattle.debugger.specs.Shown.{latest};
 ghost use Rattle.debugger.specs.declared.places.Places.{Places};
 
@@ -11,8 +11,8 @@ use scenario_image::Scenario;
 use std::alloc::{AllocError, Global};
 use trace_file::Entry;
 
-/// The indexes of a device's entries in the run, in their order. So that of its latest entry before a place is found by
-/// the count of those.
+/// The indexes of a device's entries in the run, in their order. Of those, the latest one before a place is found by
+/// how many the device has before it.
 #[derive(Drop)]
 pub(crate) struct Places {
     /// The indexes.
@@ -60,8 +60,27 @@ pub(crate) fn all_places(
     Ok(places)
 }
 
-/// The outputs of the entry with which a device has this many; nothing where it has none. The scenario and the device
-/// are for the contract alone, which says whose run the entries are, and whose the indexes.
+/// How many of these indexes, which rise, are below this one.
+pub(crate) fn count_before(indexes: &[usize], to: usize) -> usize
+    requires { (i : ℕ) (j : ℕ) → i ≤ j → j < length indexes.now
+        → slice_index indexes.now i ≤ slice_index indexes.now j }
+    ensures within { result ≤ length indexes.now }
+    ensures before { (k : ℕ) → k < result → slice_index indexes.now k < to }
+    ensures after { (k : ℕ) → result ≤ k → k < length indexes.now → to ≤ slice_index indexes.now k }
+{
+    indexes.partition_point(|index| *index < to)
+}
+
+/// Whether a device's entry of this step follows another one of the device from a place on.
+pub(crate) fn has_earlier(indexes: &[usize], step: u32, from: usize) -> bool
+    requires { step ≤ length indexes.now }
+    ensures { result ≡ has_earlier indexes.now step from }
+{
+    0 < step && from <= indexes[step as usize - 1]
+}
+
+/// The outputs of a device's latest entry, if this many of its entries are passed; none if it is none. The scenario and
+/// the device are for the contract alone, which says whose run the entries are, and whose the indexes.
 pub(crate) fn latest_outputs<'a>(
     _scenario: &Scenario,
     entries: &'a [Entry],

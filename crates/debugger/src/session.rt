@@ -19,7 +19,7 @@ use crate::changes::next_change;
 use crate::copies::{Copies, all_copies};
 use crate::fault::{AddFault, BackFault, DeviceFault, ForwardFault, OpenFault, RemoveFault};
 use crate::latest::latest_step;
-use crate::moves::{Moves, count_rows, counts_at, device_before, moved_devices, settle};
+use crate::moves::{Moves, count_rows, device_before, moved_devices, settle};
 use crate::places::{Places, all_places, latest_outputs};
 use crate::search::{change_in, next_mark};
 use crate::slots::{free_slot, is_taken, no_breaks};
@@ -131,25 +131,26 @@ impl<'a> Debugger<'a> {
         ensures steps { IfOk result (λ n. n ≡ steps_to self.old to) }
         ensures unchanged { OnErr result (self.new ≡ self.old) }
     {
-        let counts = counts_at(
+        let moves = moved_devices(
             self.alloc,
             self.scenario,
             self.entries.as_slice(),
+            self.places.as_slice(),
+            self.copies.as_slice(),
+            self.devices.as_slice(),
             self.made.as_slice(),
             self.place,
             to,
         )?;
-        let moves = moved_devices(
-            self.alloc,
-            self.scenario,
-            self.copies.as_slice(),
-            self.devices.as_slice(),
-            self.made.as_slice(),
-            counts.as_slice(),
-        )?;
         let Moves { moved, steps } = moves;
-        settle(self.scenario, counts.as_slice(), &mut self.devices, moved);
-        self.made = counts;
+        settle(
+            self.scenario,
+            self.entries.as_slice(),
+            to,
+            &mut self.made,
+            &mut self.devices,
+            moved,
+        );
         self.place = to;
         Ok(steps)
     }

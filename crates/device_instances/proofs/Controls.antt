@@ -1,23 +1,27 @@
 -- The instance of object 2 that a Create adds.
 use Rattle.std.proofs.Common.{◌≡◌, ◌≢◌, ℕ, Bool, true, false, cond, nat_le, eqb, length, Option, None, Some, pos}
-use Rattle.std.proofs.Common.{refl, sym, ap, ◌∙◌, ◌⊎◌, inl, inr}
+use Rattle.std.proofs.Common.{◌&&◌, ◌||◌, refl, sym, ap, subst, ◌∙◌, ◌⊎◌, inl, inr}
 use Rattle.std.specs.Option.{is_some}
 use Rattle.std.specs.Ordering.{eq_by_cmp}
 use Rattle.std.specs.FinMap as map
 use Rattle.std.proofs.lemmas.Bool.{eqb-true, and_parts, false≢true}
 use Rattle.lemmas.proofs.Tests.{or_first}
+use Rattle.lwm2m_values.specs.declared.value.Value.{Value}
 use Rattle.lwm2m_values.specs.declared.value.Value.TheVariants.{Whole}
-use Rattle.object_defs.specs.Path.{instance_cmp}
+use Rattle.object_defs.specs.Path.{instance_cmp, single_of}
 use Rattle.object_defs.specs.declared.path.FullPath.{FullPath}
 use Rattle.object_defs.specs.declared.path.InstancePath.{InstancePath}
-use Rattle.instance_store.specs.Stored.{Stored, value_at, has_instance, resource_path, with_instance, without_values}
+use Rattle.object_defs.specs.declared.path.ResourcePath.{ResourcePath}
+use Rattle.instance_store.specs.Stored.{Stored, value_at, has_instance, resource_path, with_value, with_instance}
+use Rattle.instance_store.specs.Stored.{without_values}
 use Rattle.access_control.specs.Rights.{control}
 use Rattle.device_instances.specs.Numbers.{instance_at, smallest_free}
 use Rattle.device_instances.specs.Creations.{is_full, with_number, with_control, with_control_at, with_control_for}
 use Rattle.device_instances.specs.Deletions.{instance_in, is_same}
 use Rattle.device_instances.proofs.Found.{found_free}
-use Rattle.device_instances.proofs.Instances.{same_numbers, not_added, behind_added, same_place}
-use Rattle.device_instances.proofs.Within.{Within, then, value_within, resource_within, is_itself}
+use Rattle.device_instances.proofs.Instances.{same_numbers, added, not_added, behind_added, same_place}
+use Rattle.device_instances.specs.Within.{Within}
+use Rattle.device_instances.proofs.Within.{then, value_within, resource_within, is_itself, still_there}
 
 pub one_place : (p q : InstancePath) → is_same p q ≡ true → p ≡ q
 one_place p q h =
@@ -44,6 +48,19 @@ number_within place s r n =
     value_within place s (record { object = place.object; instance = place.instance; resource = r; part = None })
     (Whole (pos n)) (is_itself place)
 
+-- what sets a number in it, or removes its ACL, stays within it
+pub number_set : (s t : Stored) (p : ResourcePath) (j r : ℕ) (v : Value) → p ≡ control j r
+    → t ≡ with_value s (single_of p) v → Within (instance_at 2 j) s t
+number_set s t p j r v is set =
+    subst (Within (instance_at 2 j) s) (sym (set ∙ ap (λ q. with_value s (single_of q) v) is))
+    (value_within (instance_at 2 j) s (single_of (control j r)) v (is_itself (instance_at 2 j)))
+
+pub acl_cleared : (s t : Stored) (p : ResourcePath) (j : ℕ) → p ≡ control j 2
+    → t ≡ without_values s (resource_path p) → Within (instance_at 2 j) s t
+acl_cleared s t p j is cleared =
+    subst (Within (instance_at 2 j) s) (sym (cleared ∙ ap (λ q. without_values s (resource_path q)) is))
+    (resource_within (instance_at 2 j) s 2)
+
 bare : Stored → ℕ → Stored
 bare s j = without_values (with_instance s (instance_at 2 j)) (resource_path (control j 2))
 
@@ -61,6 +78,52 @@ control_within s j server place =
     (number_within (instance_at 2 j) a 0 place.object))
     (number_within (instance_at 2 j) b 1 place.instance))
     (number_within (instance_at 2 j) c 3 server)
+
+pub control_there : (s : Stored) (j server : ℕ) (place : InstancePath)
+    → has_instance (with_control s j server place) (instance_at 2 j) ≡ true
+control_there s j server place =
+    still_there (instance_at 2 j) (with_instance s (instance_at 2 j)) (with_control s j server place)
+    (control_within s j server place) (added s (instance_at 2 j))
+
+-- its number, if one is added
+abbrev pub new_number : Stored → ℕ → Option ℕ
+new_number s accounts = cond (nat_le 2 accounts) (smallest_free s 2) None
+
+by_number : (s : Stored) (b : Bool) (r : Option ℕ) (server : ℕ) (place : InstancePath)
+    → cond b (with_control_at s server place r) s ≡ with_control_at s server place (cond b r None)
+by_number s true r server place = refl
+by_number s false r server place = refl
+
+pub control_by : (s : Stored) (accounts server : ℕ) (place : InstancePath) (r : Option ℕ) → new_number s accounts ≡ r
+    → with_control_for s accounts server place ≡ with_control_at s server place r
+control_by s accounts server place r h =
+    by_number s (nat_le 2 accounts) (smallest_free s 2) server place ∙ ap (with_control_at s server place) h
+
+pub control_made : (s t : Stored) (accounts server : ℕ) (place : InstancePath) (r : Option ℕ) (j : ℕ)
+    → r ≡ new_number s accounts → r ≡ Some j → t ≡ with_control s j server place
+    → t ≡ with_control_for s accounts server place
+control_made s t accounts server place r j number is made =
+    made ∙ sym (control_by s accounts server place (Some j) (sym number ∙ is))
+
+chosen : (b : Bool) (r : Option ℕ) (j : ℕ) → cond b r None ≡ Some j → (b ≡ true) × (r ≡ Some j)
+chosen true r j h = (refl, h)
+chosen false r j h = cc
+
+pub number_free : (s : Stored) (accounts j : ℕ) → new_number s accounts ≡ Some j
+    → has_instance s (instance_at 2 j) ≡ false
+number_free s accounts j h = found_free s 2 j (chosen (nat_le 2 accounts) (smallest_free s 2) j h).1
+
+has_room : (a b c d : Bool) → (a || ((b && c) || d)) ≡ false → b ≡ true → c ≡ false
+has_room true b c d h e = cc
+has_room false true false d h e = refl
+has_room false true true d h e = cc
+has_room false false c d h e = cc
+
+pub number_fits : (s : Stored) (accounts j : ℕ) (a d : Bool)
+    → (a || ((nat_le 2 accounts && is_full s 2) || d)) ≡ false → new_number s accounts ≡ Some j
+    → is_full s 2 ≡ false
+number_fits s accounts j a d h e =
+    has_room a (nat_le 2 accounts) (is_full s 2) d h (chosen (nat_le 2 accounts) (smallest_free s 2) j e).0
 
 -- every other instance is there or not as before
 instances_by : (s : Stored) (b : Bool) (r : Option ℕ) (server : ℕ) (place p : InstancePath) → smallest_free s 2 ≡ r

@@ -2,3 +2,4 @@ pub mod Creations
 pub mod Deletions
 pub mod Laws
 pub mod Numbers
+pub mod Within

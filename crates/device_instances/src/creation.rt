@@ -1,17 +1,19 @@
-ghost use Rattle.std.specs.Prelude.{◌≡◌, ◌≢◌, ◌≤◌, ◌↔◌, true, false, OnOk, OnErr, IsTrue, IsFalse, IsErrOf, Err};
-ghost use Rattle.object_defs.specs.Numbers.{access_control_object};
-ghost use Rattle.object_defs.specs.Path.{single_of};
-ghost use Rattle.instance_store.specs.Stored.{Stored, has_instance, instance_of, resource_path, with_instance};
-ghost use Rattle.instance_store.specs.Stored.{without_values};
+ghost use Rattle.std.specs.Prelude.{◌≡◌, ◌≢◌, ◌↔◌, true, false, nat_le, None, if◌then◌else◌, OnOk, OnErr};
+ghost use Rattle.std.specs.Prelude.{IsTrue, IsFalse, IsErrOf, Err};
+ghost use Rattle.object_defs.specs.Numbers.{access_control_object, object_id, object_instance_id, acl};
+ghost use Rattle.object_defs.specs.Numbers.{access_control_owner};
+ghost use Rattle.instance_store.specs.Stored.{Stored, has_instance, resource_path, with_instance};
+ghost use Rattle.instance_store.specs.Stored.{without_values, without_instance};
 ghost use Rattle.access_control.specs.Rights.{control};
 ghost use Rattle.lwm2m_payloads.specs.Changes.{is_too_many, has_too_many, instance_written};
 ghost use Rattle.object_defs.specs.declared.path.InstancePath.{InstancePath};
 ghost use Rattle.object_defs.specs.declared.path.ResourcePath.{ResourcePath};
 ghost use Rattle.lwm2m_payloads.specs.declared.given.Mode.TheVariants.{Replace};
-ghost use Rattle.device_instances.specs.Numbers.{instance_at};
-ghost use Rattle.device_instances.specs.Creations.{is_full, has_no_room, with_number, with_control, with_control_for};
-ghost use Rattle.device_instances.specs.Creations.{with_created};
+ghost use Rattle.device_instances.specs.Numbers.{instance_at, smallest_free};
+ghost use Rattle.device_instances.specs.Creations.{is_full, has_no_room, with_number, with_control, with_created};
+ghost use Rattle.device_instances.specs.Within.{Within};
 
+use crate::deletion::remove;
 use crate::number::free_number;
 use access_control::control;
 use instance_store::{Store, StoreFault};
@@ -19,7 +21,7 @@ use lwm2m_payloads::{Assignments, Given, Mode, is_kept, write_instance};
 use lwm2m_values::Value;
 use object_defs::object_number::ACCESS_CONTROL;
 use object_defs::resource_number::{ACCESS_CONTROL_OWNER, ACL, OBJECT_ID, OBJECT_INSTANCE_ID};
-use object_defs::{InstancePath, ResourceDef, ResourcePath};
+use object_defs::{InstancePath, ResourceDef};
 use std::alloc::AllocError;
 
 /// Whether an object has 64 instances.
@@ -69,11 +71,13 @@ pub fn has_no_room(
         || has_too_many(resources, given)
 }
 
-/// Adds an instance for which there is room.
+/// Adds an instance for which there is room. Removing it again restores the store; an error changes nothing.
 fn add(store: &mut Store, place: InstancePath) -> Result<(), AllocError>
     requires free { has_instance store.old place ≡ false }
     requires room { is_full store.old place.object ≡ false }
-    ensures { OnOk result (store.new ≡ with_instance store.old place) }
+    ensures ok { OnOk result (store.new ≡ with_instance store.old place) }
+    ensures removal { OnOk result (without_instance store.new place ≡ store.old) }
+    ensures unchanged { OnErr result (store.new ≡ store.old) }
 {
     match store.add_instance(place) {
         Ok(()) => Ok(()),
@@ -82,31 +86,60 @@ fn add(store: &mut Store, place: InstancePath) -> Result<(), AllocError>
     }
 }
 
-/// Sets a number in an instance that is there.
-fn put_number(store: &mut Store, path: ResourcePath, number: u16) -> Result<(), AllocError>
-    requires { has_instance store.old (instance_of path) ≡ true }
-    ensures { OnOk result (store.new ≡ with_number store.old path number) }
+/// Sets a number in an instance of Access Control that is there.
+fn put_number(
+    store: &mut Store,
+    instance: u16,
+    resource: u16,
+    number: u16,
+) -> Result<(), AllocError>
+    requires { has_instance store.old (instance_at access_control_object instance) ≡ true }
+    ensures ok { OnOk result (store.new ≡ with_number store.old (control instance resource) number) }
+    ensures within { Within (instance_at access_control_object instance) store.old store.new }
 {
-    match store.put(path, Value::Whole(i64::from(number))) {
+    match store.put(control(instance, resource), Value::Whole(i64::from(number))) {
         Ok(()) => Ok(()),
         Err(StoreFault::Memory) => Err(AllocError),
         Err(_) => unreachable!(),
     }
 }
 
-/// Removes what a resource of an instance that is there holds.
-fn clear(store: &mut Store, path: ResourcePath)
-    requires { has_instance store.old (instance_of path) ≡ true }
-    ensures { store.new ≡ without_values store.old (resource_path path) }
+/// Removes the entries in the ACL of an instance of Access Control that is there.
+fn clear_acl(store: &mut Store, instance: u16)
+    requires { has_instance store.old (instance_at access_control_object instance) ≡ true }
+    ensures acl { store.new ≡ without_values store.old (resource_path (control instance acl)) }
+    ensures within { Within (instance_at access_control_object instance) store.old store.new }
 {
-    match store.clear_resource(path) {
+    match store.clear_resource(control(instance, ACL)) {
         Ok(()) => {}
         Err(_) => unreachable!(),
     }
 }
 
-/// Adds an instance of Access Control that refers to a place and has a server as owner.
-#[tactic(auto, using(crate::proofs::Instances::added))]
+/// Makes an instance of Access Control that is there refer to a place and have a server as owner. After an error part
+/// of this may be done.
+fn fill_control(
+    store: &mut Store,
+    instance: u16,
+    server: u16,
+    place: InstancePath,
+) -> Result<(), AllocError>
+    requires { has_instance store.old (instance_at access_control_object instance) ≡ true }
+    ensures ok { OnOk result (store.new ≡ with_number (with_number (with_number
+        (without_values store.old (resource_path (control instance acl)))
+        (control instance object_id) place.object) (control instance object_instance_id) place.instance)
+        (control instance access_control_owner) server) }
+    ensures within { Within (instance_at access_control_object instance) store.old store.new }
+{
+    clear_acl(store, instance);
+    put_number(store, instance, OBJECT_ID, place.object)?;
+    put_number(store, instance, OBJECT_INSTANCE_ID, place.instance)?;
+    put_number(store, instance, ACCESS_CONTROL_OWNER, server)?;
+    Ok(())
+}
+
+/// Adds an instance of Access Control that refers to a place and has a server as owner. Removing it again restores the
+/// store; an error changes nothing.
 fn add_control(
     store: &mut Store,
     instance: u16,
@@ -115,42 +148,37 @@ fn add_control(
 ) -> Result<(), AllocError>
     requires free { has_instance store.old (instance_at access_control_object instance) ≡ false }
     requires room { is_full store.old access_control_object ≡ false }
-    ensures { OnOk result (store.new ≡ with_control store.old instance server place) }
+    ensures ok { OnOk result (store.new ≡ with_control store.old instance server place) }
+    ensures removal { OnOk result
+        (without_instance store.new (instance_at access_control_object instance) ≡ store.old) }
+    ensures unchanged { OnErr result (store.new ≡ store.old) }
 {
-    add(
-        store,
-        InstancePath {
-            object: ACCESS_CONTROL,
-            instance,
-        },
-    )?;
-    clear(store, control(instance, ACL));
-    put_number(store, control(instance, OBJECT_ID), place.object)?;
-    put_number(store, control(instance, OBJECT_INSTANCE_ID), place.instance)?;
-    put_number(store, control(instance, ACCESS_CONTROL_OWNER), server)?;
-    Ok(())
+    let at = InstancePath {
+        object: ACCESS_CONTROL,
+        instance,
+    };
+    add(store, at)?;
+    match fill_control(store, instance, server, place) {
+        Ok(()) => Ok(()),
+        Err(refused) => {
+            remove(store, at);
+            Err(refused)
+        }
+    }
 }
 
-/// With two accounts or more, adds the instance of Access Control for a place.
-fn add_control_for(
-    store: &mut Store,
-    accounts: usize,
-    server: u16,
-    place: InstancePath,
-) -> Result<(), AllocError>
-    requires room { 2 ≤ accounts → is_full store.old access_control_object ≡ false }
-    ensures { OnOk result (store.new ≡ with_control_for store.old accounts server place) }
+/// The number of the instance of Access Control that a Create adds: with two accounts or more, the smallest free one.
+fn control_number(store: &Store, accounts: usize) -> Option<u16>
+    ensures { result ≡ (if nat_le 2 accounts then smallest_free store.now access_control_object else None) }
 {
     if accounts < 2 {
-        return Ok(());
+        return None;
     }
-    match free_number(store, ACCESS_CONTROL) {
-        Some(instance) => add_control(store, instance, server, place),
-        None => Ok(()),
-    }
+    free_number(store, ACCESS_CONTROL)
 }
 
-/// Sets what the resources of an instance that is there are given, where there is room for all their parts.
+/// Sets what the resources of an instance that is there are given, where there is room for all their parts. After an
+/// error part of this may be done.
 fn write(
     resources: &[ResourceDef],
     store: &mut Store,
@@ -159,7 +187,8 @@ fn write(
 ) -> Result<(), AllocError>
     requires there { has_instance store.old place ≡ true }
     requires room { has_too_many Replace resources.now store.old place given ≡ false }
-    ensures { OnOk result (store.new ≡ instance_written Replace resources.now store.old place given) }
+    ensures ok { OnOk result (store.new ≡ instance_written Replace resources.now store.old place given) }
+    ensures within { Within place store.old store.new }
 {
     match write_instance(Mode::Replace, resources, store, place, given) {
         Ok(()) => Ok(()),
@@ -168,7 +197,32 @@ fn write(
     }
 }
 
-/// Adds an instance for which there is room, with what it is given, and with its instance of Access Control.
+/// Adds an instance with what it is given, for which there is room. An error changes nothing.
+fn add_given(
+    resources: &[ResourceDef],
+    store: &mut Store,
+    place: InstancePath,
+    given: Assignments,
+) -> Result<(), AllocError>
+    requires free { has_instance store.old place ≡ false }
+    requires room { is_full store.old place.object ≡ false }
+    requires few { has_too_many Replace resources.now store.old place given ≡ false }
+    ensures ok { OnOk result
+        (store.new ≡ instance_written Replace resources.now (with_instance store.old place) place given) }
+    ensures unchanged { OnErr result (store.new ≡ store.old) }
+{
+    add(store, place)?;
+    match write(resources, store, place, given) {
+        Ok(()) => Ok(()),
+        Err(refused) => {
+            remove(store, place);
+            Err(refused)
+        }
+    }
+}
+
+/// Adds an instance for which there is room, with what it is given, and with its instance of Access Control. An error
+/// changes nothing.
 fn make(
     store: &mut Store,
     accounts: usize,
@@ -180,11 +234,24 @@ fn make(
     requires free { has_instance store.old place ≡ false }
     requires room { has_no_room store.old accounts resources.now place given ≡ false }
     requires other { place.object ≢ 2 }
-    ensures { OnOk result (store.new ≡ with_created store.old accounts server resources.now place given) }
+    ensures ok { OnOk result (store.new ≡ with_created store.old accounts server resources.now place given) }
+    ensures unchanged { OnErr result (store.new ≡ store.old) }
 {
-    add_control_for(store, accounts, server, place)?;
-    add(store, place)?;
-    write(resources, store, place, given)
+    let Some(instance) = control_number(store, accounts) else {
+        return add_given(resources, store, place, given);
+    };
+    add_control(store, instance, server, place)?;
+    let control = InstancePath {
+        object: ACCESS_CONTROL,
+        instance,
+    };
+    match add_given(resources, store, place, given) {
+        Ok(()) => Ok(()),
+        Err(refused) => {
+            remove(store, control);
+            Err(refused)
+        }
+    }
 }
 
 /// Creates an instance of an object other than 2 with what its resources are given, for a server of a device that has
@@ -216,8 +283,6 @@ pub fn create(
     if has_no_room(store, accounts, resources, place, &given) {
         return Err(StoreFault::Full);
     }
-    let mut next = store.copy()?;
-    make(&mut next, accounts, server, resources, place, given)?;
-    *store = next;
+    make(store, accounts, server, resources, place, given)?;
     Ok(())
 }

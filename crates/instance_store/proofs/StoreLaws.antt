@@ -65,6 +65,14 @@ mark_known true x None h = let e = h refl in cc
 mark_known true x (Some y) h = refl
 mark_known false x o h = refl
 
+none_out : {X : Type 0} (b : Bool) (o : Option X) → (b ≡ true → o ≡ None) → cond b None o ≡ o
+none_out true o h = sym (h refl)
+none_out false o h = refl
+
+put_out : {X : Type 0} (b : Bool) (x : X) (o : Option X) → (b ≡ true → o ≡ None) → cond b None (cond b (Some x) o) ≡ o
+put_out true x o h = sym (h refl)
+put_out false x o h = refl
+
 abbrev marks : {K X : Type 0} → List (K × X) → List (K × Unit {0})
 marks es = map_list (λ e. (e.0, tt)) es
 
@@ -113,6 +121,18 @@ module _ {K X : Type 0} {R : K → K → Ordering} (total : IsTotalOrder R) (exa
       ∙ mark_out (eq_by_cmp R q k) (map.get m q)
       ∙ ap (cond (eq_by_cmp R q k) None) (sym (get-keys m q))
       ∙ sym (map.get-remove total (keys_as_set m) k q))
+
+  -- a key that is not there is not removed, and one that was added is removed again
+  remove-absent : (m : map.FinMap R X) (k : K) → map.get m k ≡ None → map.remove m k ≡ m
+  remove-absent m k h = map.same_map total exact _ _ (λ q.
+      map.get-remove total m k q
+      ∙ none_out (eq_by_cmp R q k) (map.get m q) (λ e. ap (map.get m) (exact q k (is_equal _ e)) ∙ h))
+
+  remove-insert : (m : map.FinMap R X) (k : K) (v : X) → map.get m k ≡ None → map.remove (map.insert m k v) k ≡ m
+  remove-insert m k v h = map.same_map total exact _ _ (λ q.
+      map.get-remove total (map.insert m k v) k q
+      ∙ ap (cond (eq_by_cmp R q k) None) (map.get-insert total m k v q)
+      ∙ put_out (eq_by_cmp R q k) v (map.get m q) (λ e. ap (map.get m) (exact q k (is_equal _ e)) ∙ h))
 
   below-marks : (k : K) (es : List (K × X)) → T (below_all R k es) → T (below_all R k (marks es))
   below-marks k [] h = tt
@@ -556,6 +576,19 @@ no_instance o at h e = absurd (subst T (sym h ∙ has-tree o at ∙ ap is_some e
 pub none_there : (o : Objects) (at : InstancePath) → has_instance (stored_from o) at ≡ false → map.get (tree o) at
     ≡ None
 none_there o at h = none_from_test (map.get (tree o) at) (sym (has-tree o at) ∙ h)
+
+-- a new instance has no value: removing it again restores the store
+pub removed_again : (o : Objects) (at : InstancePath) → has_instance (stored_from o) at ≡ false
+    → without_instance (with_instance (stored_from o) at) at ≡ stored_from o
+removed_again o at h =
+    let values : map.retain_keys (stored_from o).values (λ q. not (lies_in (instance_path at) q))
+    ≡ (stored_from o).values =
+    sym (ap (λ (s : Stored). s.values) (remove-stored o o at
+    (sym (remove-absent instance_total instance_exact (tree o) at (none_there o at h))))) in
+    let instances : map.remove (map.insert (stored_from o).instances at tt) at ≡ (stored_from o).instances =
+    remove-insert instance_total instance_exact (stored_from o).instances at tt
+    (none_from_test (map.get (stored_from o).instances at) h) in
+    λ i. record { values = values i; instances = instances i }
 
 -- whether there is an instance, by what the objects have
 pub known_instance : (o : Objects) (at : InstancePath) (m : InstanceValues) → map.get (tree o) at ≡ Some m

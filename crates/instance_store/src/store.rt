@@ -128,9 +128,11 @@ impl Store {
         }
     }
 
-    /// Adds an instance. `Exists`, then `Full`: the object has 64.
+    /// Adds an instance, which has no value: removing it again restores the store. `Exists`, then `Full`: the object
+    /// has 64.
     pub fn add_instance(&mut self, place: InstancePath) -> Result<(), StoreFault>
         ensures ok { OnOk result (self.new ≡ with_instance self.old place) }
+        ensures removal { OnOk result (without_instance self.new place ≡ self.old) }
 
         // The instance already exists; or else the object has 64.
         ensures exists { IsErrOf result StoreFault.Exists ↔ IsTrue (has_instance self.old place) }

@@ -3,6 +3,7 @@ pub mod Distinct
 pub mod EachOnce
 pub mod Growth
 pub mod Held
+pub mod Least
 pub mod Nesting
 pub mod New
 pub mod Once

@@ -3,6 +3,7 @@ pub mod Building
 pub mod Changes
 pub mod Formats
 pub mod Given
+pub mod Least
 pub mod Nodes
 pub mod Once
 pub mod PartList

@@ -16,11 +16,14 @@ use object_defs::{Path, ResourceDef};
 use octets::Bytes;
 use std::alloc::{AllocError, Global};
 
+/// The greatest payload, in bytes (this profile).
+const LARGEST_PAYLOAD: usize = 1024;
+
 /// The payload, where it has 1,024 bytes at most.
 fn limited(payload: Bytes) -> Option<Bytes>
     ensures { result ≡ within_limit payload }
 {
-    if payload.len() > 1024 {
+    if payload.len() > LARGEST_PAYLOAD {
         None
     } else {
         Some(payload)
@@ -108,7 +111,8 @@ pub fn write_part(
 
 /// The TLV that shows what is at or below an instance or a multiple resource: the values of readable resources by
 /// number, the parts of one in a Multiple Resource. None where it has more than 1,024 bytes (this profile); by the code
-/// all records are made before that is known.
+/// records are made only until that is certain: each takes two bytes at the least, and those of its value, which are
+/// counted before they are copied.
 pub fn values_tlv(
     alloc: Global,
     store: &Store,
@@ -117,12 +121,15 @@ pub fn values_tlv(
 ) -> Result<Option<Bytes>, AllocError>
     ensures { IfOk result (λ b. b ≡ within_limit (shortest_tlv (nodes_of (shown_in store.now resources.now place)))) }
 {
-    let nodes = records_at(alloc, store, resources, place)?;
+    let mut room = LARGEST_PAYLOAD;
+    let Some(nodes) = records_at(alloc, store, resources, place, &mut room)? else {
+        return Ok(None);
+    };
     tlv_of(alloc, nodes.as_slice())
 }
 
 /// The TLV that shows these instances of an object, an Object Instance for each; none where it has more than 1,024
-/// bytes (this profile).
+/// bytes (this profile), and by the code records are made only until that is certain.
 pub fn object_tlv(
     alloc: Global,
     store: &Store,
@@ -133,6 +140,10 @@ pub fn object_tlv(
     ensures { IfOk result (λ b. b ≡ within_limit
         (shortest_tlv (object_nodes store.now resources.now object instances.now))) }
 {
-    let nodes = instance_records(alloc, store, resources, object, instances)?;
+    let mut room = LARGEST_PAYLOAD;
+    let found = instance_records(alloc, store, resources, object, instances, &mut room)?;
+    let Some(nodes) = found else {
+        return Ok(None);
+    };
     tlv_of(alloc, nodes.as_slice())
 }

@@ -1,6 +1,7 @@
 -- What the answers of several functions need.
-use Rattle.std.proofs.Common.{◌≡◌, ◌∙◌, Bool, true, cond, List, [], ◌∷◌, ◌++◌, map, filter, Result, Ok, Err}
-use Rattle.std.proofs.Common.{MatchResult, IfOk, IfErr, IsErrAnd, IsErrOf, ap, subst, sym}
+use Rattle.std.proofs.Common.{◌≡◌, ◌∙◌, Bool, true, false, cond, List, [], ◌∷◌, ◌++◌, map, filter, Result, Ok, Err}
+use Rattle.std.proofs.Common.{MatchResult, IfOk, IfErr, IsErrAnd, IsErrOf, IsOk, IsSome, OnErr, OnOk, Option, None, Some}
+use Rattle.std.proofs.Common.{is_some, ap, refl, subst, sym, true≢false}
 
 pub if_ok : {X E : Type 0} (r : Result X E) (P S : X → Type 0) (Q : E → Type 0) → MatchResult r P Q
     → ((x : X) → P x → S x) → IfOk r S
@@ -28,3 +29,18 @@ one_found [] f test left rest x is passes none =
     in
     cc
 one_found (y ∷ ys) f test left rest x is passes none = cc
+
+-- an option that is none
+pub none_from : {X : Type 0} (o : Option X) → is_some o ≡ false → o ≡ None
+none_from None h = refl
+none_from (Some x) h = absurd (true≢false h)
+
+-- what a clause on `Ok` says of a result that is one
+pub at_ok : {X E : Type 0} (r : Result X E) (P : Type 0) (x : X) → OnOk r P → r ≡ Ok x → P
+at_ok (Ok y) P x h is = h
+at_ok (Err e) P x h is = cc
+
+-- a call that fails only where there is nothing does not fail where there is something
+pub ok_where_some : {X E Y : Type 0} (r : Result X E) (o : Option Y) → OnErr r (o ≡ None) → IsSome o → IsOk r
+ok_where_some (Ok x) o h some = refl
+ok_where_some (Err e) o h some = absurd (true≢false (sym some ∙ ap is_some h))

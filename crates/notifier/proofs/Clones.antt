@@ -1,20 +1,21 @@
--- A clone of an observation is that observation, and a clone of a key names the same.
-use Rattle.std.proofs.Common.{◌≡◌, List, [], ◌∷◌, Option, None, Some, refl, ap, subst, sym, ◌∙◌, rules}
-use Rattle.std.specs.List.{AllZip, AllByRecursion}
-use Rattle.std.specs.Map.{values_of}
-use Rattle.lemmas.proofs.Lists.{same_list}
+-- A clone of an observation is that observation, and a clone of a key is that key.
+use Rattle.std.proofs.Common.{◌≡◌, List, [], ◌∷◌, Option, None, Some, refl, ap, rules}
+use Rattle.std.specs.List.{AllZip}
 use Rattle.notifier.specs.declared.observation.Observation.{Observation}
 use Rattle.notifier.specs.declared.observation.Report.{Report}
 use Rattle.notifier.specs.declared.observation.Timer.{Timer}
 use Rattle.notifier.specs.declared.entries.Key.{Key}
-use Rattle.notifier.specs.Observed.{HasToken, HasNumber, IsKeyed}
 use Rattle.notifier.specs.contracts.entries.KeyClone.TheImpl.{is_clone-value as key_clone}
 use Rattle.notifier.specs.contracts.observation.ReportClone.TheImpl.{is_clone-value as report_clone}
 use Rattle.notifier.specs.contracts.observation.TimerClone.TheImpl.{is_clone-value as timer_clone}
 use Rattle.notifier.specs.contracts.observation.ObservationClone.TheImpl.{is_clone-value as observation_clone}
 
-same_key : (k j : Key) → key_clone.it k j → (j.server ≡ k.server) × (j.token.items ≡ k.token.items)
-same_key k j h = (h.0, same_list _ (λ x y e. e) _ _ h.1.0)
+same_key : (k j : Key) → key_clone.it k j → j ≡ k
+same_key k j h =
+    let server : j.server ≡ k.server = search rules in
+    let len : j.len ≡ k.len = search rules in
+    let token : j.token ≡ k.token = search rules in
+    λ i. record { server = server i; len = len i; token = token i }
 
 same_report : (r s : Report) → report_clone.it r s → s ≡ r
 same_report r s h =
@@ -63,25 +64,10 @@ same_observation o w h =
 abbrev IsEntryClone : Key × Observation → Key × Observation → Type 0
 IsEntryClone p q = key_clone.it p.0 q.0 × observation_clone.it p.1 q.1
 
-pub same_values : (es fs : List (Key × Observation)) → AllZip IsEntryClone es fs → values_of fs ≡ values_of es
-same_values [] [] h = refl
-same_values [] (f ∷ fs) h = absurd h
-same_values (e ∷ es) [] h = absurd h
-same_values (e ∷ es) (f ∷ fs) h = λ i. same_observation e.1 f.1 h.0.1 i ∷ same_values es fs h.1 i
-
-pub keyed_clones : (es fs : List (Key × Observation)) → AllZip IsEntryClone es fs → AllByRecursion IsKeyed es
-    → AllByRecursion IsKeyed fs
-keyed_clones [] [] h k = tt
-keyed_clones [] (f ∷ fs) h k = absurd h
-keyed_clones (e ∷ es) [] h k = absurd h
-keyed_clones (e ∷ es) (f ∷ fs) h k =
-    let key = same_key e.0 f.0 h.0.0 in
-    let same = same_observation e.1 f.1 h.0.1 in (
-      record {
-        server = key.0 ∙ k.0.server ∙ ap (λ o. o.server) (sym same);
-        token = key.1 ∙ k.0.token ∙ ap (λ o. o.token) (sym same);
-        short = subst HasToken (sym same) k.0.short;
-        number = subst HasNumber (sym same) k.0.number;
-      },
-      keyed_clones es fs h.1 k.1,
-    )
+-- the entries of a clone are those of its source
+pub same_entries : (es fs : List (Key × Observation)) → AllZip IsEntryClone es fs → fs ≡ es
+same_entries [] [] h = refl
+same_entries [] (f ∷ fs) h = absurd h
+same_entries (e ∷ es) [] h = absurd h
+same_entries (e ∷ es) (f ∷ fs) h =
+    λ i. (same_key e.0 f.0 h.0.0 i, same_observation e.1 f.1 h.0.1 i) ∷ same_entries es fs h.1 i

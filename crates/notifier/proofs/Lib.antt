@@ -10,3 +10,4 @@ pub mod QueryLaws
 pub mod Retained
 pub mod SaidLaws
 pub mod Timeouts
+pub mod Tokens

@@ -1,11 +1,14 @@
 -- The observations of an insertion-ordered map whose keys are their names.
-use Rattle.std.proofs.Common.{◌≡◌, ℕ, ◌+◌, ◌<◌, ◌≤◌, length, arith, zero, suc, ◌==◌, Bool, true, false, cond, ◌&&◌}
+use Rattle.std.proofs.Common.{◌≡◌, ℕ, ◌+◌, ◌*◌, ◌<◌, ◌≤◌, length, arith, zero, suc, ◌==◌, Bool, true, false, cond, ◌&&◌}
 use Rattle.std.proofs.Common.{◌||◌, List, [], ◌∷◌, ◌++◌, Option, None, Some, filter, map, remove, slice_get, slice_set}
-use Rattle.std.proofs.Common.{IfSome, refl, sym, ap, subst, ◌∙◌, if◌then◌else◌, eqb-true}
-use Rattle.std.proofs.lemmas.Bool.{and_parts, or_parts}
+use Rattle.std.proofs.Common.{IfSome, refl, sym, ap, subst, ◌∙◌, if◌then◌else◌, eqb-true, eq-eqb, position}
+use Rattle.std.proofs.lemmas.Bool.{and_from, and_parts, and_right, false_from_ne_true, or_parts}
+use Rattle.std.proofs.lemmas.Iterator.Adapters.{position_from-zero}
 use Rattle.std.proofs.lemmas.Nat.{mod_below}
 use Rattle.std.proofs.lemmas.Slice.Eq.{bytes_eq-Decides}
-use Rattle.std.specs.List.{AllByRecursion, IsDistinct, list_any}
+use Rattle.std.specs.Bool.{one_answer}
+use Rattle.std.specs.Int.Digits.{AllBelowBase, number_from_digits_after}
+use Rattle.std.specs.List.{AllByRecursion, IsDistinct, list_any, position_from}
 use Rattle.std.specs.Option.{option_map_or}
 use Rattle.std.specs.Map.{keys_of, values_of, lookup}
 use Rattle.std.specs.Str.{bytes_eq}
@@ -13,6 +16,7 @@ use Rattle.indexmap.specs.IndexMap.{set_value_at}
 use Rattle.lemmas.proofs.Lists.{none_found}
 use Rattle.notifier.specs.declared.observation.Observation.{Observation}
 use Rattle.notifier.specs.declared.entries.Key.{Key}
+use Rattle.notifier.specs.Inside.{name_key, token_number}
 use Rattle.notifier.specs.Observed.{HasNumber, IsKeyed, HaveDistinctNames, is_named, next_number, number_for, as_closed}
 use Rattle.notifier.specs.Observed.{with_registered}
 use Rattle.notifier.proofs.Places.{IsFirst, find_first, passes_first}
@@ -74,11 +78,12 @@ pub keyed_set : (es : List (Key × Observation)) (i : ℕ) (o w : Observation) �
     → AllByRecursion IsKeyed (set_value_at es i w)
 keyed_set [] i o w h at server token number = tt
 keyed_set (e ∷ es) zero o w h at server token number =
-    let same : e.1 ≡ o = cc in (
+    let same : e.1 ≡ o = cc in
+    let text : e.1.token ≡ w.token = ap (λ x. x.token) same ∙ token in (
       record {
-        server = h.0.server ∙ ap (λ x. x.server) same ∙ server;
-        token = h.0.token ∙ ap (λ x. x.token) same ∙ token;
-        short = subst (λ (t : List ℕ). length t ≤ 8) (ap (λ x. x.token) same ∙ token) h.0.short;
+        key = h.0.key ∙ (λ j. name_key ((ap (λ x. x.server) same ∙ server) j) (text j));
+        short = subst (λ (t : List ℕ). length t ≤ 8) text h.0.short;
+        bytes = subst (AllBelowBase 256) text h.0.bytes;
         number = number;
       },
       h.1,
@@ -91,8 +96,8 @@ pub keyed_closed : (test : Observation → Bool) (es : List (Key × Observation)
 keyed_closed test [] h = tt
 keyed_closed test (e ∷ es) h = (
   elim (test e.1) as (λ b. IsKeyed (e.0, if b then as_closed e.1 else e.1)) [
-    | true ↦ record { server = h.0.server; token = h.0.token; short = h.0.short; number = h.0.number }
-    | false ↦ record { server = h.0.server; token = h.0.token; short = h.0.short; number = h.0.number }
+    | true ↦ record { key = h.0.key; short = h.0.short; bytes = h.0.bytes; number = h.0.number }
+    | false ↦ record { key = h.0.key; short = h.0.short; bytes = h.0.bytes; number = h.0.number }
   ],
   keyed_closed test es h.1,
 )
@@ -117,20 +122,93 @@ pub numbers_fit : (es : List (Key × Observation)) → AllByRecursion IsKeyed es
 numbers_fit [] h = tt
 numbers_fit (e ∷ es) h = (h.0.number, numbers_fit es h.1)
 
--- the test by which keys are looked up
-abbrev pub tests_names : (Key → Key → Bool) → Type 0
-tests_names eq = (k j : Key) → eq k j ≡ (k.server == j.server && bytes_eq k.token.items j.token.items)
+-- ---- look-ups
 
--- a name that no observation has is no key
-pub no_key : (eq : Key → Key → Bool) → tests_names eq → (k : Key) (es : List (Key × Observation))
-    → AllByRecursion IsKeyed es → list_any (is_named k.server k.token.items) (values_of es) ≡ false
-    → lookup (eq k) es ≡ None
-no_key eq law k [] h none = refl
-no_key eq law k (e ∷ es) h none =
-    let parts = or_parts (is_named k.server k.token.items e.1) _ none in
-    let at : eq k e.0 ≡ false =
-    law k e.0 ∙ (λ j. k.server == h.0.server j && bytes_eq k.token.items (h.0.token j)) ∙ parts.0 in
-    ap (λ b. cond b (Some e.1) (lookup (eq k) es)) at ∙ no_key eq law k es h.1 parts.1
+-- digits of as many places that have one number are one
+same_digits : (m n : ℕ) (s t : List ℕ) → AllBelowBase 256 s → AllBelowBase 256 t → length s ≡ length t
+    → number_from_digits_after 256 m s ≡ number_from_digits_after 256 n t → (m ≡ n) × (s ≡ t)
+same_digits m n [] [] h k len e = (e, refl)
+same_digits m n [] (y ∷ t) h k len e = absurd (omega arith)
+same_digits m n (x ∷ s) [] h k len e = absurd (omega arith)
+same_digits m n (x ∷ s) (y ∷ t) h k len e =
+    let rest = same_digits (m * 256 + x) (n * 256 + y) s t h.1 k.1 (omega arith) e in
+    let first : x ≡ y = omega (arith, rest.0, h.0, k.0) in
+    (omega (arith, rest.0, h.0, k.0), (λ j. first j ∷ rest.1 j))
+
+-- tokens of one length and one number are one
+token_test : (s t : List ℕ) → AllBelowBase 256 s → AllBelowBase 256 t
+    → (length s == length t && token_number s == token_number t) ≡ bytes_eq s t
+token_test s t h k =
+    one_answer {P = s ≡ t} (length s == length t && token_number s == token_number t) (bytes_eq s t) (
+      (λ e.
+          let parts = and_parts (length s == length t) (token_number s == token_number t) e in
+          (same_digits 0 0 s t h k (eqb-true (length s) (length t) parts.0)
+          (eqb-true (token_number s) (token_number t) parts.1)).1),
+      (λ e. and_from (length s == length t) (token_number s == token_number t)
+          (eq-eqb (length s) (length t) (ap length e)) (eq-eqb (token_number s) (token_number t) (ap token_number e))),
+    ) (bytes_eq-Decides s t)
+
+-- the test by which keys are looked up
+abbrev pub tests_keys : (Key → Key → Bool) → Type 0
+tests_keys eq = (k j : Key) → eq k j ≡ (k.server == j.server && (k.len == j.len && k.token == j.token))
+
+module _ (eq : Key → Key → Bool) (law : tests_keys eq) (server : ℕ) (token : List ℕ) (bytes : AllBelowBase 256 token)
+  where
+    -- an entry has the key of a name where its observation has that name
+    key_test : (e : Key × Observation) → IsKeyed e → eq (name_key server token) e.0 ≡ is_named server token e.1
+    key_test e h =
+        law (name_key server token) e.0
+        ∙ (λ j. server == (h.key j).server && (length token == (h.key j).len && token_number token == (h.key j).token))
+        ∙ ap (λ b. server == e.1.server && b) (token_test token e.1.token bytes h.bytes)
+
+    -- a name that no observation has is no key
+    pub no_key : (es : List (Key × Observation)) → AllByRecursion IsKeyed es
+        → list_any (is_named server token) (values_of es) ≡ false → lookup (eq (name_key server token)) es ≡ None
+    no_key [] h none = refl
+    no_key (e ∷ es) h none =
+        let parts = or_parts (is_named server token e.1) _ none in
+        ap (λ b. cond b (Some e.1) (lookup (eq (name_key server token)) es)) (key_test e h.0 ∙ parts.0)
+        ∙ no_key es h.1 parts.1
+
+    none_named : (es : List (Key × Observation)) → AllByRecursion IsKeyed es
+        → AllByRecursion (λ j. eq (name_key server token) j ≡ false) (keys_of es)
+        → list_any (is_named server token) (values_of es) ≡ false
+    none_named [] h apart = refl
+    none_named (e ∷ es) h apart =
+        ap (λ b. b || list_any (is_named server token) (values_of es)) (sym (key_test e h.0) ∙ apart.0)
+        ∙ none_named es h.1 apart.1
+
+    same_places : (es : List (Key × Observation)) (n : ℕ) → AllByRecursion IsKeyed es
+        → position_from (eq (name_key server token)) n (keys_of es)
+        ≡ position_from (is_named server token) n (values_of es)
+    same_places [] n h = refl
+    same_places (e ∷ es) n h = λ j. cond (key_test e h.0 j) (Some n) (same_places es (n + 1) h.1 j)
+
+    -- the place of the key of a name is that of the observation of the name
+    pub place_found : (es : List (Key × Observation)) → AllByRecursion IsKeyed es
+        → position (eq (name_key server token)) (keys_of es) ≡ position (is_named server token) (values_of es)
+    place_found es h =
+        position_from-zero (eq (name_key server token)) (keys_of es) ∙ same_places es 0 h
+        ∙ sym (position_from-zero (is_named server token) (values_of es))
+
+-- no observation has a token of more than 8 bytes
+too_long : (server : ℕ) (token : List ℕ) (e : Key × Observation) → 8 < length token → IsKeyed e
+    → is_named server token e.1 ≡ false
+too_long server token e long h =
+    and_right (server == e.1.server) (bytes_eq token e.1.token) (false_from_ne_true (bytes_eq token e.1.token) (λ same.
+    let len : length token ≡ length e.1.token = ap length ((bytes_eq-Decides token e.1.token).0 same) in
+    omega (arith, h.short)))
+
+nowhere : (server : ℕ) (token : List ℕ) (es : List (Key × Observation)) (n : ℕ) → 8 < length token
+    → AllByRecursion IsKeyed es → position_from (is_named server token) n (values_of es) ≡ None
+nowhere server token [] n long h = refl
+nowhere server token (e ∷ es) n long h =
+    λ j. cond (too_long server token e long h.0 j) (Some n) (nowhere server token es (n + 1) long h.1 j)
+
+pub no_place : (server : ℕ) (token : List ℕ) (es : List (Key × Observation)) → 8 < length token
+    → AllByRecursion IsKeyed es → position (is_named server token) (values_of es) ≡ None
+no_place server token es long h =
+    position_from-zero (is_named server token) (values_of es) ∙ nowhere server token es 0 long h
 
 -- ---- a registration
 
@@ -187,21 +265,12 @@ kept_at_most q (x ∷ xs) =
       | false ↦ omega (arith, kept_at_most q xs)
     ]
 
-none_named : (eq : Key → Key → Bool) → tests_names eq → (k : Key) (es : List (Key × Observation))
-    → AllByRecursion IsKeyed es → AllByRecursion (λ j. eq k j ≡ false) (keys_of es)
-    → list_any (is_named k.server k.token.items) (values_of es) ≡ false
-none_named eq law k [] h apart = refl
-none_named eq law k (e ∷ es) h apart =
-    let at : is_named k.server k.token.items e.1 ≡ false =
-    sym (λ j. k.server == h.0.server j && bytes_eq k.token.items (h.0.token j)) ∙ sym (law k e.0) ∙ apart.0 in
-    ap (λ b. b || list_any (is_named k.server k.token.items) (values_of es)) at ∙ none_named eq law k es h.1 apart.1
-
-pub names_differ : (eq : Key → Key → Bool) → tests_names eq → (es : List (Key × Observation))
+pub names_differ : (eq : Key → Key → Bool) → tests_keys eq → (es : List (Key × Observation))
     → AllByRecursion IsKeyed es → IsDistinct eq (keys_of es) → HaveDistinctNames (values_of es)
 unfolding IsDistinct
 names_differ eq law [] h apart = tt
 names_differ eq law (e ∷ es) h apart = (
-  (λ j. list_any (is_named (sym h.0.server j) (sym h.0.token j)) (values_of es))
-      ∙ none_named eq law e.0 es h.1 apart.0,
+  none_named eq law e.1.server e.1.token h.0.bytes es h.1
+      (subst (λ k. AllByRecursion (λ j. eq k j ≡ false) (keys_of es)) h.0.key apart.0),
   names_differ eq law es h.1 apart.1,
 )

@@ -1,3 +1,4 @@
+pub mod Inside
 pub mod Observed
 pub mod Said
 pub mod Trigger

@@ -2,12 +2,14 @@
 use Rattle.std.specs.Prelude.{◌≡◌, ℕ, ◌+◌, ◌%◌, ◌<◌, ◌≤◌, ◌==◌, Bool, not, ◌&&◌, if◌then◌else◌, List, [], ◌∷◌}
 use Rattle.std.specs.Prelude.{◌||◌, length, find, filter, map, slice_get, slice_set, bytes_eq, IsFalse, Option, None}
 use Rattle.std.specs.Prelude.{is_none, is_some, option_and_then, option_map}
+use Rattle.std.specs.Int.Digits.{AllBelowBase}
 use Rattle.std.specs.List.{list_any}
 use Rattle.std.specs.Option.{option_map_or}
 use Rattle.notifier.specs.declared.observation.Observation.{Observation}
 use Rattle.notifier.specs.declared.observation.Report.{Report}
 use Rattle.notifier.specs.declared.observation.Timer.{Timer}
 use Rattle.notifier.specs.declared.entries.Key.{Key}
+use Rattle.notifier.specs.Inside.{name_key}
 
 -- whether an observation has this name: its server and its token
 abbrev pub is_named : ℕ → List ℕ → Observation → Bool
@@ -92,9 +94,9 @@ HasToken o = length o.token ≤ 8
 abbrev pub HasNumber : Observation → Type 0
 HasNumber o = o.number < 16777216
 
--- a key is the name of its observation, whose token and Observe number are some
+-- a key is that of its observation, whose token, of bytes, and Observe number are some
 pub record IsKeyed (e : Key × Observation) : Type 0 where
-  pub server : e.0.server ≡ e.1.server
-  pub token : e.0.token.items ≡ e.1.token
+  pub key : e.0 ≡ name_key e.1.server e.1.token
   pub short : HasToken e.1
+  pub bytes : AllBelowBase 256 e.1.token
   pub number : HasNumber e.1

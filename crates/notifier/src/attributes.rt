@@ -1,10 +1,11 @@
 ghost use Rattle.std.specs.Prelude.{◌≡◌, ◌≢◌, ◌↔◌, [], pos, ◌+ℤ◌, ◌*ℤ◌, int_lt, ◌==◌, not, filter, map as map_list};
-ghost use Rattle.std.specs.Prelude.{Err, IfOk, OnOk, OnErr, IsErrOf, IsFalse};
+ghost use Rattle.std.specs.Prelude.{None, Err, IfOk, OnOk, OnErr, IsErrOf, IsSome, IsTrue, IsFalse};
 ghost use Rattle.std.specs.FinMap as map;
 ghost use Rattle.object_defs.specs.declared.path.Path.TheVariants as paths;
 ghost use Rattle.notifier.specs.Attributes.{key_cmp, key_of, path_of, assigned_number, effective, with_number};
 ghost use Rattle.notifier.specs.Attributes.{with_changes, agree, is_consistent, has_number, lies_under, without_under};
 ghost use Rattle.notifier.specs.Attributes.{attributes_of_server};
+ghost use Rattle.notifier.specs.Inside.{AreOfDistinctNames, all_names, change_as_in, changes_as_in, numbers_in};
 
 use crate::attribute::{AttributeKey, Change, Name};
 use crate::fault::WriteFault;
@@ -48,59 +49,62 @@ fn clone_of(
     numbers.clone()
 }
 
-/// Sets the number at a key.
+/// Sets the number at a key. Only a key that has none takes memory.
 fn set(
     numbers: &mut BTreeMap<AttributeKey, i64>,
     key: AttributeKey,
     number: i64,
 ) -> Result<(), AllocError>
-    ensures { OnOk result (map.from_entries {R = key_cmp} numbers.new.entries
-        ≡ map.insert (map.from_entries numbers.old.entries) key number) }
+    ensures ok { OnOk result (numbers_in numbers.new.entries
+        ≡ map.insert (numbers_in numbers.old.entries) key number) }
+    ensures absent { OnErr result (map.get (numbers_in numbers.old.entries) key ≡ None) }
+    ensures err { OnErr result (numbers_in numbers.new.entries ≡ numbers_in numbers.old.entries) }
 {
     numbers.insert(key, number)?;
     Ok(())
 }
 
-/// Sets the number at a key, or unsets it.
-fn put(
+/// Unsets the number at a key.
+fn unset(numbers: &mut BTreeMap<AttributeKey, i64>, key: AttributeKey)
+    ensures { numbers_in numbers.new.entries ≡ map.remove (numbers_in numbers.old.entries) key }
+{
+    numbers.remove(&key);
+}
+
+/// Sets the number at a key that has none, if there is one to set. Returns whether it did: only then it takes memory.
+fn set_absent(
     numbers: &mut BTreeMap<AttributeKey, i64>,
     key: AttributeKey,
     number: Option<i64>,
-) -> Result<(), AllocError>
-    ensures { OnOk result (map.from_entries {R = key_cmp} numbers.new.entries
-        ≡ with_number (map.from_entries numbers.old.entries) key number) }
+) -> Result<bool, AllocError>
+    ensures absent { IfOk result (λ done. IsTrue done → map.get (numbers_in numbers.old.entries) key ≡ None) }
+    ensures made { IfOk result (λ done. IsTrue done → numbers_in numbers.new.entries
+        ≡ with_number (numbers_in numbers.old.entries) key number) }
+    ensures present { IfOk result (λ done. IsFalse done → IsSome number
+        → IsSome (map.get (numbers_in numbers.old.entries) key)) }
+    ensures kept { IfOk result (λ done. IsFalse done → numbers_in numbers.new.entries
+        ≡ numbers_in numbers.old.entries) }
+    ensures err { OnErr result (numbers_in numbers.new.entries ≡ numbers_in numbers.old.entries) }
 {
-    match number {
-        Some(number) => {
-            set(numbers, key, number)?;
-            Ok(())
-        }
-        None => {
-            numbers.remove(&key);
-            Ok(())
-        }
+    let Some(number) = number else {
+        return Ok(false);
+    };
+    if number_at(numbers, key).is_some() {
+        return Ok(false);
     }
+    set(numbers, key, number)?;
+    Ok(true)
 }
 
-/// A copy of the numbers with these changes.
-fn changed(
-    numbers: &BTreeMap<AttributeKey, i64>,
-    server: u16,
-    path: Path,
-    changes: &[Change],
-) -> Result<BTreeMap<AttributeKey, i64>, AllocError>
-    ensures { IfOk result (λ m. map.from_entries {R = key_cmp} m.entries
-        ≡ with_changes (map.from_entries numbers.now.entries) server path changes.now) }
+/// Sets the number at a key that has one, or unsets it. It takes no memory.
+fn replace(numbers: &mut BTreeMap<AttributeKey, i64>, key: AttributeKey, number: Option<i64>)
+    requires { IsSome number → IsSome (map.get (numbers_in numbers.old.entries) key) }
+    ensures { numbers_in numbers.new.entries ≡ with_number (numbers_in numbers.old.entries) key number }
 {
-    let mut next = clone_of(numbers)?;
-    for change in changes {
-        put(
-            &mut next,
-            AttributeKey::new(server, path, change.name),
-            change.number,
-        )?;
+    match number {
+        Some(number) => set(numbers, key, number).unwrap(),
+        None => unset(numbers, key),
     }
-    Ok(next)
 }
 
 /// The number that an attribute has after these changes.
@@ -122,6 +126,89 @@ fn number_after(
         }
     }
     number
+}
+
+/// The change of an attribute to the number that it has after these changes.
+fn change_after(
+    numbers: &BTreeMap<AttributeKey, i64>,
+    server: u16,
+    path: Path,
+    changes: &[Change],
+    name: Name,
+) -> Change
+    ensures { result ≡ change_as_in (with_changes (numbers_in numbers.now.entries) server path changes.now)
+        server path
+        name }
+{
+    Change {
+        name,
+        number: number_after(numbers, server, path, changes, name),
+    }
+}
+
+/// The change of each attribute to the number that it has after these changes.
+fn changes_by_name(
+    numbers: &BTreeMap<AttributeKey, i64>,
+    server: u16,
+    path: Path,
+    changes: &[Change],
+) -> [Change; 5]
+    ensures { result ≡ changes_as_in (with_changes (numbers_in numbers.now.entries) server path changes.now)
+        server path
+        all_names }
+{
+    [
+        change_after(numbers, server, path, changes, Name::Pmin),
+        change_after(numbers, server, path, changes, Name::Pmax),
+        change_after(numbers, server, path, changes, Name::Gt),
+        change_after(numbers, server, path, changes, Name::Lt),
+        change_after(numbers, server, path, changes, Name::St),
+    ]
+}
+
+/// Makes these changes, no two of one name. All that takes memory comes first: a number that is new is set before the
+/// later changes are made, and unset again where one of them runs out of memory. One that is there is replaced after
+/// them. So an error changes nothing.
+fn apply_changes(
+    numbers: &mut BTreeMap<AttributeKey, i64>,
+    server: u16,
+    path: Path,
+    changes: &[Change],
+) -> Result<(), AllocError>
+    requires distinct { AreOfDistinctNames changes.now }
+    ensures ok { OnOk result (numbers_in numbers.new.entries
+        ≡ with_changes (numbers_in numbers.old.entries) server path changes.now) }
+    ensures err { OnErr result (numbers_in numbers.new.entries ≡ numbers_in numbers.old.entries) }
+{
+    let Some((change, later)) = changes.split_first() else {
+        return Ok(());
+    };
+    let key = AttributeKey::new(server, path, change.name);
+    if set_absent(numbers, key, change.number)? {
+        if let Err(error) = apply_changes(numbers, server, path, later) {
+            unset(numbers, key);
+            return Err(error);
+        }
+        return Ok(());
+    }
+    apply_changes(numbers, server, path, later)?;
+    replace(numbers, key, change.number);
+    Ok(())
+}
+
+/// Makes these changes in place, the later over the earlier. An error changes nothing.
+fn write_changes(
+    numbers: &mut BTreeMap<AttributeKey, i64>,
+    server: u16,
+    path: Path,
+    changes: &[Change],
+) -> Result<(), AllocError>
+    ensures ok { OnOk result (numbers_in numbers.new.entries
+        ≡ with_changes (numbers_in numbers.old.entries) server path changes.now) }
+    ensures err { OnErr result (numbers_in numbers.new.entries ≡ numbers_in numbers.old.entries) }
+{
+    let by_name = changes_by_name(numbers, server, path, changes);
+    apply_changes(numbers, server, path, &by_name)
 }
 
 /// The number two steps above lt.
@@ -324,7 +411,7 @@ impl Attributes {
         if changes.is_empty() {
             return Ok(());
         }
-        self.numbers = changed(&self.numbers, server, path, changes)?;
+        write_changes(&mut self.numbers, server, path, changes)?;
         Ok(())
     }
 

@@ -4,29 +4,56 @@ ghost use Rattle.std.specs.Prelude.{◌≡◌, ◌≢◌, ◌+◌, ◌<◌, ◌�
 ghost use Rattle.std.specs.Prelude.{position, remove, slice_get, count_by, Err, None, Some, IfOk, OnOk, OnErr};
 ghost use Rattle.std.specs.Prelude.{if◌then◌else◌};
 ghost use Rattle.std.specs.Option.{option_copied, option_map};
+ghost use Rattle.std.specs.Int.Digits.{AllBelowBase};
 ghost use Rattle.std.specs.List.{AllByRecursion, list_any};
 ghost use Rattle.indexmap.specs.IndexMap.{values, index_map_len, set_value_at};
 ghost use Rattle.notifier.specs.Observed.{is_named, has_name, next_number, number_for, with_registered, was_sent};
 ghost use Rattle.notifier.specs.Observed.{with_sent, as_closed, is_awaited, open_bytes, HasToken, HasNumber, IsKeyed};
+ghost use Rattle.notifier.specs.Inside.{name_key, token_number};
 ghost use Rattle.notifier.specs.declared.observation.Observation.{Observation};
 
 use crate::fault::ObserveFault;
 use crate::observation::{Observation, Report, Timer, next_number};
 use indexmap::IndexMap;
-use std::alloc::{AllocError, Global};
+use std::alloc::AllocError;
 
-/// The name of an observation: its server and its token.
+/// The most bytes of a token (RFC 7252 section 3).
+const LONGEST_TOKEN: usize = 8;
+
+/// The name of an observation, its server and its token, without memory of its own.
 #[derive(Clone, Debug, PartialEq, Eq, Hash, Drop)]
 pub(crate) struct Key {
-    pub(crate) server: u16,
-    pub(crate) token: Vec<u8>,
+    server: u16,
+    /// How many bytes the token has.
+    len: u8,
+    /// The bytes of the token as one number, the highest first.
+    token: u64,
 }
 
-/// Whether an observation has this name.
-fn is_named(observation: &Observation, server: u16, token: &[u8]) -> bool
-    ensures { result ≡ is_named server token.now observation.now }
+/// The bytes of a token, 8 at most, as one number, the highest first.
+fn token_number(token: &[u8]) -> u64
+    requires { length token.now ≤ 8 }
+    ensures { result ≡ token_number token.now }
 {
-    server == observation.server && token == observation.token.as_slice()
+    let mut number: u64 = 0;
+    for byte in token {
+        number = number * 256 + u64::from(*byte);
+    }
+    number
+}
+
+/// The key of this server and this token, of 8 bytes at most.
+fn name_key(server: u16, token: &[u8]) -> Key
+    requires { length token.now ≤ 8 }
+    ensures key { result ≡ name_key server token.now }
+    ensures bytes { AllBelowBase 256 token.now }
+{
+    let number = token_number(token);
+    Key {
+        server,
+        len: token.len() as u8,
+        token: number,
+    }
 }
 
 /// Whether the last message of an observation was a NON to this server with this message ID, or is such
@@ -46,15 +73,20 @@ fn is_awaited(observation: &Observation, server: u16, mid: u16) -> bool
     server == observation.server && observation.timer.is_some() && observation.mid == mid
 }
 
-/// The place of the observation of this name.
+/// The place of the observation of this name. A token that is longer than any is not looked up.
 pub(crate) fn place_of(
     entries: &IndexMap<Key, Observation>,
     server: u16,
     token: &[u8],
 ) -> Option<usize>
+    requires { AllByRecursion IsKeyed entries.now.entries }
     ensures { result ≡ position (is_named server token.now) (values entries.now) }
 {
-    entries.values().position(|o| is_named(o, server, token))
+    if token.len() > LONGEST_TOKEN {
+        return None;
+    }
+    let key = name_key(server, token);
+    entries.get_index_of(&key)
 }
 
 /// The place of the first observation whose last message a Reset of this server with this message ID rejects.
@@ -70,7 +102,6 @@ pub(crate) fn place_sent(
 
 /// Adds an observation of a new name at the end.
 pub(crate) fn add(
-    alloc: Global,
     entries: &mut IndexMap<Key, Observation>,
     observation: Observation,
 ) -> Result<(), ObserveFault>
@@ -84,10 +115,7 @@ pub(crate) fn add(
     ensures never_full { result ≢ Err ObserveFault.Full }
     ensures err { OnErr result (values entries.new ≡ values entries.old) }
 {
-    let key = Key {
-        server: observation.server,
-        token: Vec::from_slice(alloc, observation.token.as_slice())?,
-    };
+    let key = name_key(observation.server, observation.token.as_slice());
     entries.insert(key, observation)?;
     Ok(())
 }

@@ -143,7 +143,7 @@ impl Observations {
                     return Err(ObserveFault::Full);
                 }
                 self.said.push(Outlook::unsaid())?;
-                if let Err(fault) = add(self.alloc, &mut self.entries, observation) {
+                if let Err(fault) = add(&mut self.entries, observation) {
                     self.said.pop();
                     return Err(fault);
                 }

@@ -9,6 +9,7 @@ advance-requires-clause-shows c =
 pub returns : goal.returns
 returns c = record {
   device = refl;
+  made = c.from.ensures;
   shows = c.in_ok-steps.ensures.shows;
   steps = omega (arith, c.in_ok-steps.ensures.count);
 }

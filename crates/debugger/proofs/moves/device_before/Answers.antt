@@ -9,6 +9,7 @@ copy_at-requires-clause-copied c =
 pub returns : goal.returns
 returns c = record {
   device = refl;
+  made = c.from-made.ensures;
   shows = c.in_ok-steps.ensures.shows;
   steps = omega (arith, c.in_ok-steps.ensures.count);
 }

@@ -1,11 +1,10 @@
--- The devices before this one are moved, and the events that they took are counted.
-use Rattle.std.proofs.Common.{◌≡◌, ◌*◌, ◌≤◌}
-use Rattle.debugger.specs.Moves.{AreMoved, steps_of}
+-- The devices of the entries so far are moved, and the events that they took are counted.
+use Rattle.std.proofs.Common.{◌≡◌}
+use Rattle.debugger.proofs.Passing.{AreFound, steps_by}
 use Rattle.debugger.proofs.moves.moved_devices.Given as goal
 
-abbrev pub invariant-loop-device : goal.invariant-loop-device
-invariant-loop-device l = record {
-  moved : AreMoved l.scenario l.counts l.devices l.device l.moved.items;
-  steps : l.steps ≡ steps_of l.scenario l.made l.counts l.device;
-  room : l.steps ≤ 4096 * l.device;
+abbrev pub invariant-loop-index : goal.invariant-loop-index
+invariant-loop-index l = record {
+  found : AreFound l.scenario l.entries l.to l.first l.index l.moved.items;
+  steps : l.steps ≡ steps_by l.scenario l.entries l.from l.to l.first l.index;
 }

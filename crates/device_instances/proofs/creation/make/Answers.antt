@@ -1,28 +1,78 @@
-use Rattle.std.proofs.Common.{ap, ◌∙◌}
+use Rattle.std.proofs.Common.{◌≡◌, None, OnOk, sym, ap, subst, ◌∙◌}
 use Rattle.lemmas.proofs.Tests.{or_first}
-use Rattle.instance_store.specs.Stored.{has_instance}
+use Rattle.lwm2m_payloads.specs.Changes.{instance_written}
+use Rattle.lwm2m_payloads.specs.declared.given.Mode.TheVariants.{Replace}
+use Rattle.instance_store.specs.Stored.{Stored, has_instance, with_instance, without_instance}
+use Rattle.device_instances.specs.Numbers.{instance_at}
 use Rattle.device_instances.specs.Creations.{is_full}
-use Rattle.device_instances.proofs.Controls.{control_free, control_full}
+use Rattle.device_instances.proofs.Controls.{control_free, control_full, control_there, control_by, control_made}
+use Rattle.device_instances.proofs.Controls.{number_free, number_fits}
 use Rattle.device_instances.proofs.Counting.{counts_alike, last_is_false}
-use Rattle.device_instances.proofs.Instances.{added}
 use Rattle.device_instances.proofs.creation.make.Goals as goal
 
-pub add-requires-clause-free : goal.add-requires-clause-free
-add-requires-clause-free c =
-    ap (λ s. has_instance s c.args.place) c.in_ok-add_control_for.ensures
+-- no instance of Access Control is added
+
+pub add_given-requires : goal.add_given-requires
+add_given-requires c = record {
+  free = c.requires.free;
+  room = or_first _ _ c.requires.room;
+  few = last_is_false _ _ _ c.requires.room;
+}
+
+pub returns-in_default-clause-ok : goal.returns-in_default-clause-ok
+returns-in_default-clause-ok c =
+    subst (λ (s : Stored). OnOk c.add_given.result (c.add_given.new.store
+    ≡ instance_written Replace c.args.resources.now (with_instance s c.args.place) c.args.place c.args.given))
+    (sym (control_by c.args.store.now c.args.accounts c.args.server c.args.place None
+    (sym c.control_number.ensures ∙ c.in_default.is)))
+    c.add_given.ensures.ok
+
+-- one is added first
+
+pub add_control-requires-clause-free : goal.add_control-requires-clause-free
+add_control-requires-clause-free c =
+    number_free c.args.store.now c.args.accounts c.in-Some.instance (sym c.control_number.ensures ∙ c.in-Some.is)
+
+pub add_control-requires-clause-room : goal.add_control-requires-clause-room
+add_control-requires-clause-room c =
+    number_fits c.args.store.now c.args.accounts c.in-Some.instance _ _ c.requires.room
+    (sym c.control_number.ensures ∙ c.in-Some.is)
+
+pub add_given-requires-2-clause-free : goal.add_given-requires-2-clause-free
+add_given-requires-2-clause-free c =
+    ap (λ s. has_instance s c.args.place) (control_made c.args.store.now c.add_control.new.store c.args.accounts
+    c.args.server c.args.place c.control_number.result c.in-Some.instance c.control_number.ensures c.in-Some.is
+    c.in_ok-add_control.ensures.ok)
     ∙ control_free c.args.store.now c.args.accounts c.args.server c.args.place c.requires.other ∙ c.requires.free
 
-pub add-requires-clause-room : goal.add-requires-clause-room
-add-requires-clause-room c =
-    ap (λ s. is_full s c.args.place.object) c.in_ok-add_control_for.ensures
+pub add_given-requires-2-clause-room : goal.add_given-requires-2-clause-room
+add_given-requires-2-clause-room c =
+    ap (λ s. is_full s c.args.place.object) (control_made c.args.store.now c.add_control.new.store c.args.accounts
+    c.args.server c.args.place c.control_number.result c.in-Some.instance c.control_number.ensures c.in-Some.is
+    c.in_ok-add_control.ensures.ok)
     ∙ control_full c.args.store.now c.args.accounts c.args.server c.args.place c.requires.other
     ∙ or_first _ _ c.requires.room
 
-pub write-requires-clause-there : goal.write-requires-clause-there
-write-requires-clause-there c =
-    ap (λ s. has_instance s c.args.place) c.in_ok-add.ensures ∙ added c.add_control_for.new.store c.args.place
-
-pub write-requires-clause-room : goal.write-requires-clause-room
-write-requires-clause-room c =
-    counts_alike c.args.resources.now c.add.new.store c.args.store.now c.args.place c.args.given
+pub add_given-requires-2-clause-few : goal.add_given-requires-2-clause-few
+add_given-requires-2-clause-few c =
+    counts_alike c.args.resources.now c.add_control.new.store c.args.store.now c.args.place c.args.given
     ∙ last_is_false _ _ _ c.requires.room
+
+pub returns-in-Ok-clause-ok : goal.returns-in-Ok-clause-ok
+returns-in-Ok-clause-ok c =
+    c.in-Ok.ensures.ok
+    ∙ ap (λ s. instance_written Replace c.args.resources.now (with_instance s c.args.place) c.args.place c.args.given)
+    (control_made c.args.store.now c.add_control.new.store c.args.accounts
+    c.args.server c.args.place c.control_number.result c.in-Some.instance c.control_number.ensures c.in-Some.is
+    c.in_ok-add_control.ensures.ok)
+
+pub remove-requires : goal.remove-requires
+remove-requires c =
+    let at = instance_at 2 c.in-Some.instance in
+    ap (λ s. has_instance s at) (c.in-Err.ensures.unchanged ∙ c.in_ok-add_control.ensures.ok)
+    ∙ control_there c.args.store.now c.in-Some.instance c.args.server c.args.place
+
+pub returns-in-Err-clause-unchanged : goal.returns-in-Err-clause-unchanged
+returns-in-Err-clause-unchanged c =
+    c.remove.ensures ∙ ap (λ s. without_instance s (instance_at 2 c.in-Some.instance)) c.in-Err.ensures.unchanged
+    ∙ c.in_ok-add_control.ensures.removal

@@ -1,10 +1,14 @@
-use Rattle.std.proofs.Common.{◌≡◌, take}
-use Rattle.std.specs.List.{filter}
+use Rattle.std.proofs.Common.{◌≡◌, ◌+◌, take, drop}
 use Rattle.lwm2m_values.specs.Tree.{trees_of}
-use Rattle.instance_store.specs.Listing.{shown_pairs}
-use Rattle.lwm2m_payloads.specs.Nodes.{is_shown, nodes_of}
+use Rattle.lwm2m_payloads.specs.Least.{least_of}
+use Rattle.lwm2m_payloads.specs.Nodes.{nodes_of}
+use Rattle.lwm2m_payloads.proofs.Least.{shown_of}
 use Rattle.lwm2m_payloads.proofs.records.records_of.Given as goal
 
+-- the records so far, and the room that they and those that are left take
 abbrev pub invariant-loop-path : goal.invariant-loop-path
-invariant-loop-path l =
-    trees_of l.nodes.items ≡ nodes_of (filter (λ e. is_shown l.resources e.0) (shown_pairs (take l.path-index l.pairs)))
+invariant-loop-path l = record {
+  records : trees_of l.nodes.items ≡ nodes_of (shown_of l.resources (take l.path-index l.pairs));
+  room : l.room + least_of (shown_of l.resources l.pairs)
+      ≡ l.fn.room + least_of (shown_of l.resources (drop l.path-index l.pairs));
+}

@@ -23,8 +23,7 @@ returns-in-Some-clause-added c =
     c.self.inside.made.items c.self.inside.devices.items c.self.inside.breaks.items c.as_slice.result.now
     c.self.inside.copies.items c.self.inside.replayed
     c.in-Some.slot c.args.point (record { view = c.self.view_is; kept = c.self.invariant.kept })
-    c.as_slice.ensures.value
-    c.in-Some.ensures.free c.in-Some.ensures.least
+    c.as_slice.ensures.value c.in-Some.ensures.free c.in-Some.ensures.least
 
 pub invariant_of-self : goal.invariant_of-self
 invariant_of-self c = record {

@@ -7,8 +7,7 @@ device_before-requires-clause-copied c =
     c.from.result c.index-made.result.now c.from-2.result c.self.inside.made.items c.self.inside.devices.items
     c.self.inside.breaks.items c.self.inside.copies.items c.self.inside.replayed c.index-kept.result.now
     c.as_slice-copies.result.now (record { view = c.self.view_is; kept = c.self.invariant.kept }) c.requires
-    c.from.ensures
-    c.index-made.ensures c.from-2.ensures c.index-kept.ensures c.as_slice-copies.ensures.value
+    c.from.ensures c.index-made.ensures c.from-2.ensures c.index-kept.ensures c.as_slice-copies.ensures.value
 
 pub returns : goal.returns
 returns c =
@@ -16,5 +15,4 @@ returns c =
     c.from.result c.index-made.result.now c.self.inside.made.items c.self.inside.devices.items
     c.self.inside.breaks.items c.self.inside.copies.items c.self.inside.replayed c.in_ok-before.before.machine
     (record { view = c.self.view_is; kept = c.self.invariant.kept }) c.rows-known.ensures.valid c.requires
-    c.from.ensures
-    c.index-made.ensures c.in_ok-before.ensures.shows
+    c.from.ensures c.index-made.ensures c.in_ok-before.ensures.shows

@@ -9,8 +9,7 @@ returns-clause-moved c =
     c.self.inside.made.items c.self.inside.devices.items c.self.inside.breaks.items c.self.inside.copies.items
     c.self.inside.replayed
     (λ n. n + c.args.count) (record { view = c.self.view_is; kept = c.self.invariant.kept }) refl
-    c.in_ok-steps.ensures.moved
-    c.self-2.view_is
+    c.in_ok-steps.ensures.moved c.self-2.view_is
 
 pub returns-clause-replayed : goal.returns-clause-replayed
 returns-clause-replayed c =

@@ -1,0 +1,22 @@
+use Rattle.std.proofs.Common.{◌∙◌, ap, subst, sym}
+use Rattle.std.proofs.lemmas.Result.{on_ok_weaker}
+use Rattle.notifier.specs.Attributes.{with_changes}
+use Rattle.notifier.specs.Inside.{AreOfDistinctNames, numbers_in}
+use Rattle.notifier.proofs.AttributeLaws.{by_name, distinct_names}
+use Rattle.notifier.proofs.attributes.write_changes.Goals as goal
+
+pub apply_changes-requires : goal.apply_changes-requires
+apply_changes-requires c =
+    let after =
+    with_changes (numbers_in c.args.numbers.now.entries) c.args.server c.args.path c.args.changes.now in
+    record {
+      distinct = subst AreOfDistinctNames (sym c.changes_by_name-by_name.ensures)
+          (distinct_names after c.args.server c.args.path);
+    }
+
+pub returns-clause-ok : goal.returns-clause-ok
+returns-clause-ok c =
+    let old = numbers_in c.args.numbers.now.entries in
+    on_ok_weaker c.apply_changes.result
+    (λ h. h ∙ ap (with_changes old c.args.server c.args.path) c.changes_by_name-by_name.ensures
+    ∙ by_name old c.args.server c.args.path c.args.changes.now) c.apply_changes.ensures.ok
