@@ -43,36 +43,40 @@ def numbered(lines):
     return [it.format(number) for number, it in enumerate(lines)]
 
 
+# A device is started at its first step, so each row that is measured begins with one.
+START = ["tick 1"]
+
+
 def create(size):
     """A Create, and the Delete of the instance, in a store of so many values."""
-    own = ["create 1 con {} - /10241 tlv C10007", "delete 1 con {} - /10241/0"] * 200
-    return [scenario(range(64), held(size, 16), [numbered(it)]) for it in ([], own)], 200
+    own = ["create 1 con {} - /10241 tlv C10007", "delete 1 con {} - /10241/0"] * 1000
+    return [scenario(range(64), held(size, 16), [numbered(START + it)]) for it in ([], own)], 1000
 
 
 def attributes(size):
     """A Write-Attributes, where so many numbers are set."""
     first = [f"attr 1 con {{}} - /10242/{it // 64}/{it % 64} pmin=5" for it in range(size)]
-    own = ["attr 1 con {} - /3/0/9 pmin=7", "attr 1 con {} - /3/0/9 pmin=8"] * 250
-    return [scenario(range(64), held(size, 1), [numbered(first + it)]) for it in ([], own)], 500
+    own = ["attr 1 con {} - /3/0/9 pmin=7", "attr 1 con {} - /3/0/9 pmin=8"] * 1000
+    return [scenario(range(64), held(size, 1), [numbered(first + it)]) for it in ([], own)], 2000
 
 
 def long_read(size):
     """A Read of so many values of 1,024 bytes, which is too long."""
-    own = ["read 1 con {} - /10242 any"] * 50
-    return [scenario(range(64), held(size, 1024), [numbered(it)]) for it in ([], own)], 50
+    own = ["read 1 con {} - /10242 any"] * 2000
+    return [scenario(range(64), held(size, 1024), [numbered(START + it)]) for it in ([], own)], 2000
 
 
 def long_discover(size):
     """A Discover of so many resources, which is too long."""
-    own = ["discover 1 con {} - /10242"] * 50
-    return [scenario(range(64), held(size, 1), [numbered(it)]) for it in ([], own)], 50
+    own = ["discover 1 con {} - /10242"] * 2000
+    return [scenario(range(64), held(size, 1), [numbered(START + it)]) for it in ([], own)], 2000
 
 
 def observations(size):
     """An observation that is registered again, where there are so many."""
     first = [f"observe 1 con {{}} {it:016X} /10242/0/{it} any" for it in range(size)]
-    own = [f"observe 1 con {{}} {size - 1:016X} /10242/0/{size - 1} any"] * 1000
-    return [scenario(range(64), held(64, 1), [numbered(first + it)]) for it in ([], own)], 1000
+    own = [f"observe 1 con {{}} {size - 1:016X} /10242/0/{size - 1} any"] * 4000
+    return [scenario(range(64), held(64, 1), [numbered(first + it)]) for it in ([], own)], 4000
 
 
 def posts(size):
@@ -104,7 +108,7 @@ def session(rows):
 
 
 def moves(total):
-    return [f"forward {total // 2}"], ["forward 1", "back 1"] * 1000, 2000
+    return [f"forward {total // 2}"], ["forward 1", "back 1"] * 5000, 10_000
 
 
 def outputs(total):
