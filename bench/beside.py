@@ -25,7 +25,7 @@ OF_TUNED = re.compile(r"workers (\d+) batch (\d+): million steps/s best ([\d.]+)
 
 
 def own(uses, file):
-    """The seconds by the clock and of processors of each run of lwbench, beyond reading the image."""
+    """The seconds by the clock and of processors of each run of lwbench, and of reading the image alone."""
     kinds = {("image", 0): "image", (0, 0): "serial"}
     kinds |= {(count, batch): f"{name}-{batch}" for name, count in WORKERS.items() for batch in BATCHES}
     found = {}
