@@ -21,4 +21,6 @@ pub use message::Message;
 pub use number::{uint, uint_bytes};
 pub use option::{Opt, Options};
 pub use reading::{Front, decode, decode_in, front_of, message_in};
-pub use writing::{encode, encode_into, put_number_option, put_option, put_payload, put_start};
+pub use writing::{
+    encode, encode_into, put_number_option, put_option, put_payload, put_plain_text, put_start,
+};

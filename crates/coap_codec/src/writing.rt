@@ -1,6 +1,7 @@
-ghost use Rattle.std.specs.Prelude.{◌≡◌, ◌≤◌, ◌<◌, ◌+◌, ◌*◌, ◌++◌, length, Some, IfOk, OnOk};
+ghost use Rattle.std.specs.Prelude.{◌≡◌, ◌≢◌, ◌≤◌, ◌<◌, ◌+◌, ◌*◌, [], ◌++◌, length, Some, IfOk, OnOk};
 ghost use Rattle.coap_codec.specs.Message.{Spells, MayFollow, IsOptionList, kind_number, start_bytes};
 ghost use Rattle.coap_codec.specs.Message.{nibble_of, extension_of, option_bytes, options_bytes, payload_bytes, spelling};
+ghost use Rattle.coap_codec.specs.OptionNumber.{content_format_option};
 ghost use Rattle.coap_codec.specs.Options.{number_option};
 
 use crate::{Kind, Message, Opt};
@@ -216,4 +217,16 @@ pub fn put_payload(out: &mut Vec<u8>, payload: &[u8]) -> Result<(), AllocError>
     }
     out.push(255)?;
     out.extend_from_slice(payload)
+}
+
+/// Adds what follows the token of a message whose payload is this plain text: the one option that says so, which is a
+/// Content-Format of 0 (RFC 7252 section 12.3), and the payload, which is not empty.
+pub fn put_plain_text(out: &mut Vec<u8>, text: &[u8]) -> Result<(), AllocError>
+    requires { text.now ≢ [] }
+    ensures { OnOk result (out.new.items
+        ≡ out.old.items ++ (options_bytes 0 (number_option content_format_option (Some 0)) ++ payload_bytes text.now)) }
+{
+    // An option of number 12 without a value, and the payload marker.
+    out.extend_from_slice(&[0xC0, 0xFF])?;
+    out.extend_from_slice(text)
 }

@@ -26,16 +26,6 @@ pub record AreFirst (s : Scenario) (d n : ℕ) (copies : List Device) (machine :
   pub shown : (k : ℕ) (x : Device) → slice_get copies k ≡ Some x → ShowsAfter s d (64 * (k + 1)) x
   pub last : ShowsAfter s d (64 * n) machine
 
-pub first_none : (s : Scenario) (d : ℕ) (copies : List Device) (machine : Device) → copies ≡ []
-    → ((class : Template) (steps : List Step) → IsRowOf s d class steps → Shows machine (start class))
-    → AreFirst s d 0 copies machine
-first_none s d copies machine none started = record {
-  count = ap length none;
-  shown = λ k x h.
-      let e : None ≡ Some x = ap (λ l. slice_get l k) (sym none) ∙ h in absurd cc;
-  last = λ class steps row. started class steps row;
-}
-
 shown_next : (s : Scenario) (d n k : ℕ) (copies : List Device) (x machine old : Device)
     → AreFirst s d n copies old → ShowsAfter s d (64 * n + 64) machine
     → (slice_get copies k ≡ Some x) ⊎ ((k ≡ length copies) × (machine ≡ x)) → ShowsAfter s d (64 * (k + 1)) x
@@ -105,11 +95,6 @@ copy_is s d number copies kept copy has some within read same =
     (has.shown (number - 1) kept (slice_get_read copies (length copies) (number - 1) kept refl within read)))
 
 -- ---- those of all devices
-
-pub none_copied : (s : Scenario) (counts : List ℕ) (all : List Copies) → all ≡ [] → AreCopiedTo s counts all
-none_copied s counts all none = record {
-  each = λ d x h. let e : None ≡ Some x = ap (λ l. slice_get l d) (sym none) ∙ h in absurd cc;
-}
 
 copied_at : (s : Scenario) (counts : List ℕ) (all : List Copies) (n d : ℕ) (y x : Copies) → AreCopiedTo s counts all
     → length all ≡ n → HasCopies s n (slice_index counts n) y.devices.items

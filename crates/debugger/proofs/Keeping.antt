@@ -25,7 +25,7 @@ use Rattle.debugger.specs.Session.{Session, IsSession, IsKept, AreAt, AreCounted
 use Rattle.debugger.specs.Session.{with_replayed}
 use Rattle.debugger.specs.Moves.{steps_to}
 use Rattle.debugger.specs.Replayed.{devices_between, events_among, IsReplayedBack}
-use Rattle.debugger.specs.Breaks.{IsTaken, AreAllTaken, IsAdded, IsRemoved}
+use Rattle.debugger.specs.Breaks.{IsTaken, AreAllTaken, IsAdded}
 use Rattle.debugger.proofs.Rows.{value_is, observations_are}
 use Rattle.debugger.proofs.Numbers.{free_not_all, all_taken}
 use Rattle.debugger.proofs.Replaying.{few_on, replayed_back, steps_back, steps_on}
@@ -224,67 +224,7 @@ added_is v s es place made devices breaks slots copies replayed slot point insid
   is = ap (λ w. with_breaks w (slice_set w.breaks slot (Some point))) inside.view;
 }
 
-pub removed_is : (v : Session) (s : Scenario) (es : List Entry) (place : ℕ) (made : List ℕ) (devices : List Device)
-    (breaks : List (Option Break)) (copies : List Copies) (replayed : ℕ)
-    (id slot : ℕ) → IsInside v s es place made devices breaks copies replayed → 1 ≤ id → slot ≡ id - 1
-    → IsRemoved v (seen s es place (slice_set breaks slot None) replayed) id
-removed_is v s es place made devices breaks copies replayed id slot inside one is = record {
-  slot = slot;
-  number = omega (arith, one, is);
-  is = ap (λ w. with_breaks w (slice_set w.breaks slot None)) inside.view;
-}
-
-pub is_taken_in : (v : Session) (s : Scenario) (es : List Entry) (place : ℕ) (made : List ℕ) (devices : List Device)
-    (breaks slots : List (Option Break)) (copies : List Copies) (replayed : ℕ)
-    (id : ℕ) → IsInside v s es place made devices breaks copies replayed → slots ≡ breaks → IsTaken slots id
-    ↔ IsTaken v.breaks id
-is_taken_in v s es place made devices breaks slots copies replayed id inside same = (
-  (λ h. subst (λ w. IsTaken w.breaks id) inside.view (subst (λ l. IsTaken l id) same h)),
-  (λ h. subst (λ l. IsTaken l id) (sym same) (subst (λ w. IsTaken w.breaks id) (sym inside.view) h)),
-)
-
--- a number that is taken is from 1 to 64
-pub number_in : (v : Session) (s : Scenario) (es : List Entry) (place : ℕ) (made : List ℕ) (devices : List Device)
-    (breaks slots : List (Option Break)) (copies : List Copies) (replayed : ℕ)
-    (id : ℕ) → IsInside v s es place made devices breaks copies replayed → slots ≡ breaks → IsTaken slots id
-    → (1 ≤ id) × (id ≤ length breaks)
-number_in v s es place made devices breaks slots copies replayed id inside same taken =
-    let h : id ≡ taken.slot + 1 = taken.number in
-    let low : taken.slot < length slots = slice_get_within slots taken.slot (Some taken.point) taken.stands in
-    (omega (arith, h), omega (arith, h, low, ap length same))
-
 -- ---- forward and back
-
-pub is_past_end : (v : Session) (s : Scenario) (es : List Entry) (place count left : ℕ) (made : List ℕ)
-    (devices : List Device)
-    (breaks : List (Option Break)) (copies : List Copies) (replayed : ℕ)
-    → IsInside v s es place made devices breaks copies replayed → left ≡ length es - place → left < count
-    → length v.entries < v.place + count
-is_past_end v s es place count left made devices breaks copies replayed inside is less =
-    subst (λ w. length w.entries < w.place + count) inside.view (omega (arith, is, less, inside.kept.within))
-
-pub not_past_end : (v : Session) (s : Scenario) (es : List Entry) (place count left : ℕ) (made : List ℕ)
-    (devices : List Device)
-    (breaks : List (Option Break)) (copies : List Copies) (replayed : ℕ)
-    → IsInside v s es place made devices breaks copies replayed → left ≡ length es - place → count ≤ left
-    → length v.entries < v.place + count → ⊥
-not_past_end v s es place count left made devices breaks copies replayed inside is more past =
-    let h : length es < place + count = subst (λ w. length w.entries < w.place + count) (sym inside.view) past in
-    omega (arith, is, more, h, inside.kept.within)
-
-pub is_past_start : (v : Session) (s : Scenario) (es : List Entry) (place count : ℕ) (made : List ℕ)
-    (devices : List Device)
-    (breaks : List (Option Break)) (copies : List Copies) (replayed : ℕ)
-    → IsInside v s es place made devices breaks copies replayed → place < count → v.place < count
-is_past_start v s es place count made devices breaks copies replayed inside less =
-    subst (λ w. w.place < count) inside.view less
-
-pub not_past_start : (v : Session) (s : Scenario) (es : List Entry) (place count : ℕ) (made : List ℕ)
-    (devices : List Device)
-    (breaks : List (Option Break)) (copies : List Copies) (replayed : ℕ)
-    → IsInside v s es place made devices breaks copies replayed → count ≤ place → v.place < count → ⊥
-not_past_start v s es place count made devices breaks copies replayed inside more past =
-    let h : place < count = subst (λ w. w.place < count) (sym inside.view) past in omega (arith, more, h)
 
 -- where the move was, once its steps are kept
 pub moved_by : (v between fields : Session) (s : Scenario) (es : List Entry) (place to steps : ℕ) (made : List ℕ)

@@ -14,7 +14,8 @@ pub mod Ending
 pub mod Events
 pub mod Devices
 pub mod Going
-pub mod Finding
 pub mod Preceding
 pub mod Placing
 pub mod Passing
+pub mod Setting
+pub mod Watching

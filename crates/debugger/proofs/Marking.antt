@@ -1,9 +1,9 @@
 -- Where a breakpoint holds that looks at one entry.
-use Rattle.std.proofs.Common.{◌≡◌, ℕ, ◌+◌, ◌<◌, ◌≤◌, ◌↔◌, eqb, Bool, true, false, ◌&&◌, ◌⊎◌, inl, inr, IsTrue, List}
-use Rattle.std.proofs.Common.{length, get_or, Option, None, Some, slice_get, refl, sym, ap, subst, ◌∙◌, arith}
+use Rattle.std.proofs.Common.{◌≡◌, ℕ, ◌+◌, ◌<◌, ◌≤◌, ◌↔◌, eqb, true, ◌&&◌, ◌⊎◌, inl, inr, IsTrue, List}
+use Rattle.std.proofs.Common.{Option, None, Some, slice_get, refl, sym, ap, subst, ◌∙◌, arith}
 use Rattle.std.specs.List.{list_any}
 use Rattle.std.proofs.lemmas.Bool.{eq-eqb, eqb-true, and_parts, and_from, cases_lt}
-use Rattle.std.proofs.lemmas.Option.{slice_get_read, some_pair_parts}
+use Rattle.std.proofs.lemmas.Option.{some_pair_parts}
 use Rattle.object_defs.specs.declared.path.Path.{Path}
 use Rattle.scenario_image.specs.Scenario.{Scenario}
 use Rattle.trace_file.specs.declared.entry.Entry.{Entry}
@@ -11,7 +11,7 @@ use Rattle.fleet_core.specs.Run.{step_at, IsRun}
 use Rattle.debugger.specs.declared.breaks.Break.{Break}
 use Rattle.debugger.specs.declared.breaks.Break.TheVariants.{At, DeviceStep, Changed, Code, Notified}
 use Rattle.debugger.specs.Stops.{is_send, has_code, is_tick, Follows, HasStepped, HasSent, HasNotified, Holds}
-use Rattle.debugger.specs.Searches.{IsFirst, IsNowhere, marks, change_in}
+use Rattle.debugger.specs.Searches.{IsNowhere, marks, change_in}
 use Rattle.debugger.proofs.Runs.{step_counts}
 
 follows : (es : List Entry) (d i : ℕ) (e : Entry) → slice_get es i ≡ Some e → e.device ≡ d → Follows es d (i + 1) e
@@ -76,7 +76,7 @@ marks_are s es i e (Changed d path) run at plain = let h : ◌≡◌ {A = Option
 marks_are s es i e (Code d code) run at plain = sent es d code i e at
 marks_are s es i e (Notified d) run at plain = notified s es d i e at
 
--- ---- a search from one place on
+-- ---- from one place on
 
 nowhere_at : (P : ℕ → Type 0) (from i q : ℕ) → IsNowhere P from i → (P (i + 1) → ⊥) → from < q → q ≤ i + 1
     → (q < i + 1) ⊎ (i + 1 ≤ q) → P q → ⊥
@@ -88,43 +88,6 @@ nowhere_at P from i q before here after within (inr more) h =
 pub nowhere_next : (P : ℕ → Type 0) (from i : ℕ) → IsNowhere P from i → (P (i + 1) → ⊥) → IsNowhere P from (i + 1)
 nowhere_next P from i before here = λ q after within. nowhere_at P from i q before here after within
     (cases_lt q (i + 1))
-
-pub first_here : (P : ℕ → Type 0) (from to i : ℕ) → IsNowhere P from i → from ≤ i → i < to → P (i + 1)
-    → IsFirst P from to (i + 1)
-first_here P from to i before low high here = record {
-  later = omega (arith, low);
-  within = omega (arith, high);
-  holds = here;
-  first = λ q after less. before q after (omega (arith, less));
-}
-
-entry_at : (es : List Entry) (i to : ℕ) (e : Entry) → to ≤ length es → i < to → e ≡ get_or es i e
-    → slice_get es i ≡ Some e
-entry_at es i to e within less read = slice_get_read es (length es) i e refl (omega (arith, within, less)) read
-
--- the entry at the index was asked, and makes the breakpoint hold
-pub mark_yes : (s : Scenario) (es : List Entry) (from to i : ℕ) (e : Entry) (b : Break) (r : Bool) → IsRun s es
-    → to ≤ length es
-    → change_in b ≡ None → from ≤ i → i < to → e ≡ get_or es i e → r ≡ marks s e i b → r ≡ true
-    → IsNowhere (Holds s es b) from i
-    → IsFirst (Holds s es b) from to (i + 1)
-mark_yes s es from to i e b r run within plain low high read is holds_so before =
-    first_here (Holds s es b) from to i before low high
-    ((marks_are s es i e b run (entry_at es i to e within high read) plain).0 (sym is ∙ holds_so))
-
--- or it does not
-pub mark_no : (s : Scenario) (es : List Entry) (from to i : ℕ) (e : Entry) (b : Break) (r : Bool) → IsRun s es
-    → to ≤ length es
-    → change_in b ≡ None → i < to → e ≡ get_or es i e → r ≡ marks s e i b → r ≡ false → IsNowhere (Holds s es b) from i
-    → IsNowhere (Holds s es b) from (i + 1)
-mark_no s es from to i e b r run within plain high read is isnt before =
-    nowhere_next (Holds s es b) from i before
-    (λ h. let g : true ≡ false =
-    sym ((marks_are s es i e b run (entry_at es i to e within high read) plain).1 h) ∙ (sym is ∙ isnt) in cc)
-
--- the places that are left are none
-pub nowhere_end : (P : ℕ → Type 0) (from to i : ℕ) → IsNowhere P from i → to ≤ i → IsNowhere P from to
-nowhere_end P from to i before past = λ q after within. before q after (omega (arith, within, past))
 
 pub nowhere_start : (P : ℕ → Type 0) (from : ℕ) → IsNowhere P from from
 nowhere_start P from = λ q after within. absurd (omega (arith, after, within))

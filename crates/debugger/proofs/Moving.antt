@@ -9,7 +9,7 @@ use Rattle.lemmas.proofs.Lists.{item_at, pushed_cases, item_pushed, item_before,
 use Rattle.device_machine.specs.State.{Device}
 use Rattle.scenario_image.specs.Scenario.{Row, Scenario, IsGoodRow, IsValid}
 use Rattle.trace_file.specs.declared.entry.Entry.{Entry}
-use Rattle.fleet_core.specs.Run.{steps_in, step_at, made_by}
+use Rattle.fleet_core.specs.Run.{steps_in, made_by}
 use Rattle.fleet_core.specs.Board.{ShowsAfter}
 use Rattle.debugger.specs.Session.{AreAt, AreCounted}
 use Rattle.debugger.specs.declared.moves.Moved.{Moved}
@@ -99,11 +99,6 @@ settled_counts s es made devices now are none = record {
 }
 
 -- ---- the steps that are made
-
-pub no_step : (s : Scenario) (d k to : ℕ) → HasSteps s d to → k < to → None ≡ step_at s d k → ⊥
-no_step s d k to row less none =
-    let found = item_at (steps_in (slice_get s.rows d)) k (omega (arith, less, row)) in
-    let e : None ≡ Some found.0 = none ∙ found.1 in cc
 
 few_in : (o : Option Row) → ((r : Row) → o ≡ Some r → length r.steps ≤ 4096) → length (steps_in o) ≤ 4096
 few_in None each = omega arith

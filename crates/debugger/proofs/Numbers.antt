@@ -1,19 +1,10 @@
 -- The slots of breakpoints.
-use Rattle.std.proofs.Common.{◌≡◌, ℕ, zero, suc, ◌+◌, ◌-◌, ◌<◌, ◌≤◌, List, [], ◌∷◌, ◌++◌, length, replicate, get_or}
-use Rattle.std.proofs.Common.{Option, None, Some, is_some, true, false, slice_get, refl, sym, ap, subst, ◌∙◌, arith}
-use Rattle.std.proofs.Common.{add-one}
+use Rattle.std.proofs.Common.{◌≡◌, ℕ, ◌+◌, ◌<◌, List, length, get_or}
+use Rattle.std.proofs.Common.{Option, None, Some, is_some, true, false, slice_get, refl, sym, subst, ◌∙◌, arith}
 use Rattle.std.proofs.lemmas.Option.{slice_get_within, slice_get-get_or}
 use Rattle.debugger.specs.declared.breaks.Break.{Break}
 use Rattle.debugger.specs.Session.{most_breaks}
 use Rattle.debugger.specs.Breaks.{IsTaken, AreAllTaken}
-
-replicate_last : {X : Type 0} (n : ℕ) (x : X) → replicate (suc n) x ≡ replicate n x ++ x ∷ []
-replicate_last zero x = refl
-replicate_last (suc n) x = ap (λ l. x ∷ l) (replicate_last n x)
-
--- one copy more
-pub replicate_more : {X : Type 0} (n : ℕ) (x : X) → replicate (n + 1) x ≡ replicate n x ++ x ∷ []
-replicate_more n x = ap (λ k. replicate k x) (add-one n) ∙ replicate_last n x
 
 -- a number is taken exactly if its slot has a breakpoint
 pub taken_slot : (breaks : List (Option Break)) (i : ℕ) → IsTaken breaks (i + 1)
@@ -37,21 +28,6 @@ free_not_all breaks slot count free all =
 pub all_taken : (breaks : List (Option Break)) → length breaks ≡ most_breaks
     → ((k : ℕ) → k < length breaks → IsTaken breaks (k + 1)) → AreAllTaken breaks
 all_taken breaks count each = λ i less. each i (omega (arith, less, count))
-
--- the slot of a number that is taken
-pub taken_number : (breaks : List (Option Break)) (id : ℕ) (taken : IsTaken breaks id)
-    → (1 ≤ id) × (taken.slot ≡ id - 1)
-taken_number breaks id taken = let h : id ≡ taken.slot + 1 = taken.number in (omega (arith, h), omega (arith, h))
-
-pub taken_by : (breaks : List (Option Break)) (id slot : ℕ) (b : Break) → 1 ≤ id → slot ≡ id - 1
-    → slice_get breaks slot ≡ Some (Some b) → IsTaken breaks id
-taken_by breaks id slot b one is at = record { slot = slot; point = b; number = omega (arith, one, is); stands = at }
-
-pub not_taken : (breaks : List (Option Break)) (id slot : ℕ) → slot ≡ id - 1
-    → ((b : Break) → slice_get breaks slot ≡ Some (Some b) → ⊥) → IsTaken breaks id → ⊥
-not_taken breaks id slot is isnt taken =
-    let same : taken.slot ≡ slot = (taken_number breaks id taken).1 ∙ sym is in
-    isnt taken.point (subst (λ j. slice_get breaks j ≡ Some (Some taken.point)) same taken.stands)
 
 some_taken : (breaks : List (Option Break)) (slot : ℕ) (o : Option Break) → slice_get breaks slot ≡ Some o → is_some o
     ≡ true

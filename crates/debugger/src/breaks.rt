@@ -44,3 +44,12 @@ pub enum Stop {
     /// The run ends.
     End,
 }
+
+/// A stop, and its place.
+#[derive(Clone, Copy, Debug)]
+pub(crate) struct StopAt {
+    /// Why the debugger stops.
+    pub(crate) stop: Stop,
+    /// Where.
+    pub(crate) place: usize,
+}

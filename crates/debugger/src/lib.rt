@@ -1,7 +1,6 @@
 //! A debugger over a recorded run: what each device shows at each place of it, and where breakpoints hold.
 #![tactic(auto)]
 
-mod best;
 mod breaks;
 mod changes;
 mod copies;
@@ -10,10 +9,12 @@ mod latest;
 mod laws;
 mod moves;
 mod places;
+mod points;
 mod search;
 mod session;
 mod slots;
 mod steps;
+mod watches;
 
 pub use breaks::{Break, Stop};
 pub use fault::{AddFault, BackFault, DeviceFault, ForwardFault, OpenFault, RemoveFault};

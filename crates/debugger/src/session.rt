@@ -9,20 +9,19 @@ ghost use Rattle.debugger.specs.Shown.{ShowsState, before_shown};
 ghost use Rattle.debugger.specs.Session.{IsSession, new_session, at_place, with_replayed};
 ghost use Rattle.debugger.specs.Moves.{steps_to};
 ghost use Rattle.debugger.specs.Replayed.{devices_between, events_among, IsReplayedBack};
-ghost use Rattle.debugger.specs.Stops.{Holds, IsNextStop};
+ghost use Rattle.debugger.specs.Stops.{IsNextStop};
 ghost use Rattle.debugger.specs.Breaks.{IsTaken, AreAllTaken, IsAdded, IsRemoved};
-ghost use Rattle.debugger.specs.Searches.{IsFound, IsBest};
 
-use crate::best::Best;
-use crate::breaks::{Break, Stop};
-use crate::changes::next_change;
+use crate::breaks::{Break, Stop, StopAt};
 use crate::copies::{Copies, all_copies};
 use crate::fault::{AddFault, BackFault, DeviceFault, ForwardFault, OpenFault, RemoveFault};
 use crate::latest::latest_step;
 use crate::moves::{Moves, count_rows, device_before, moved_devices, settle};
 use crate::places::{Places, all_places, latest_outputs};
-use crate::search::{change_in, next_mark};
+use crate::points::set_points;
+use crate::search::first_stop;
 use crate::slots::{free_slot, is_taken, no_breaks};
+use crate::watches::watch_devices;
 use device_machine::{Device, Output};
 use fleet_core::{Verdict, check, start_devices};
 use lwm2m_values::Value;
@@ -35,8 +34,8 @@ use trace_file::Entries;
 
 /// A debugger over a run: it stands at a place, from 0 to the count of the entries, and shows each device as it is
 /// after the entries before the place, in their order. It keeps a copy of each device after each 64 of its entries, so
-/// that a move back makes few steps, and where in the run each device has its entries. Contracts see the scenario, the
-/// run, the place, the breakpoints, and how many steps devices took in the last move by a number of entries.
+/// that a move back makes few steps, and where each device has its entries. Contracts see the scenario, the run, the
+/// place, the breakpoints, and how many steps devices took in the last move by a number of entries.
 #[derive(Drop)]
 pub struct Debugger<'a> {
     alloc: Global,
@@ -306,68 +305,25 @@ impl<'a> Debugger<'a> {
         Ok(())
     }
 
-    /// The first place after the present one, and at most `to`, at which the breakpoint holds.
-    fn next_place(&self, point: &Break, to: usize) -> Result<Option<usize>, AllocError>
-        requires { to ≤ length self.now.entries }
-        ensures { IfOk result (λ p. IsFound (Holds self.now.scenario self.now.entries point.now) self.now.place to p) }
+    /// The next stop.
+    fn next_stop(&self) -> Result<StopAt, AllocError>
+        ensures stop { IfOk result (λ r. IsNextStop self.now r.stop r.place) }
+        ensures within { IfOk result (λ r. r.place ≤ length self.now.entries) }
     {
-        let Some((device, path)) = change_in(point) else {
-            let entries = self.entries.as_slice();
-            return Ok(next_mark(self.scenario, entries, self.place, to, point));
-        };
-        let Some(machine) = self.devices.get(usize::from(device)) else {
-            return Ok(None);
-        };
-        let machine = machine.copy()?;
-        let found = next_change(
+        // For the proof alone: a scenario whose rows are counted is known to be valid.
+        let _known = self.scenario.rows();
+        let points = set_points(self.alloc, self.breaks.as_slice())?;
+        let watched = watch_devices(self.alloc, self.devices.as_slice(), points.as_slice())?;
+        let next = first_stop(
             self.alloc,
             self.scenario,
             self.entries.as_slice(),
-            machine,
+            self.devices.as_slice(),
+            points.as_slice(),
+            watched,
             self.place,
-            to,
-            device,
-            &path,
         )?;
-        Ok(found)
-    }
-
-    /// The best stop, with one breakpoint more.
-    fn better(&self, slot: usize, point: &Option<Break>, best: Best) -> Result<Best, AllocError>
-        requires best { IsBest self.now slot best }
-        requires point { slice_get self.now.breaks slot ≡ Some point.now }
-        requires slot { slot < 64 }
-        ensures { IfOk result (λ b. IsBest self.now (slot + 1) b) }
-    {
-        let Some(point) = point else {
-            return Ok(best);
-        };
-        let found = self.next_place(point, best.limit)?;
-        let Some(place) = found else {
-            return Ok(best);
-        };
-        Ok(Best {
-            stop: Stop::Break(slot as u8 + 1),
-            place,
-            limit: place - 1,
-        })
-    }
-
-    /// The next stop.
-    fn next_stop(&self) -> Result<Best, AllocError>
-        ensures stop { IfOk result (λ b. IsNextStop self.now b.stop b.place) }
-        ensures within { IfOk result (λ b. b.place ≤ length self.now.entries) }
-    {
-        let last = self.entries.len();
-        let mut best = Best {
-            stop: Stop::End,
-            place: last,
-            limit: last,
-        };
-        for (slot, point) in self.breaks.iter().enumerate() {
-            best = self.better(slot, point, best)?;
-        }
-        Ok(best)
+        Ok(next)
     }
 
     /// Moves to the least later place at which a breakpoint holds, and returns the least number of those that do; or to
@@ -377,8 +333,8 @@ impl<'a> Debugger<'a> {
         ensures moved { OnOk result (self.new ≡ at_place self.old self.new.place) }
         ensures unchanged { OnErr result (self.new ≡ self.old) }
     {
-        let best = self.next_stop()?;
-        let _steps = self.go(best.place)?;
-        Ok(best.stop)
+        let next = self.next_stop()?;
+        let _steps = self.go(next.place)?;
+        Ok(next.stop)
     }
 }

@@ -5,11 +5,10 @@ use Rattle.std.specs.List.{AllByRecursion, AllZip}
 use Rattle.std.specs.Map.{lookup, values_of}
 use Rattle.std.proofs.lemmas.Bool.Decides.{nat_tests}
 use Rattle.std.proofs.lemmas.List.Sums.{fold-append}
-use Rattle.lemmas.proofs.Numbers.{eqb_turned}
 use Rattle.coap_codec.specs.Message.{kind_number}
 use Rattle.coap_codec.specs.declared.kind.Kind.{Kind}
 use Rattle.device_machine.specs.State.{is_live, lifetime}
-use Rattle.device_machine.specs.Records.{HasOwnKey, end_of_life, first_end, has_key, is_same_key}
+use Rattle.device_machine.specs.Records.{HasOwnKey, end_of_life, first_end, has_key, is_same_key, key_number}
 use Rattle.device_machine.specs.declared.recorded.Recorded.{Recorded}
 use Rattle.device_machine.specs.declared.records.RecordKey.{RecordKey}
 use Rattle.device_machine.specs.contracts.records.RecordKeyClone.TheImpl.{is_clone-value as key_clone}
@@ -20,23 +19,22 @@ use Rattle.device_machine.specs.contracts.records.RecordKeyClone.TheImpl.{is_clo
 abbrev pub tests_keys : (RecordKey → RecordKey → Bool) → Type 0
 tests_keys eq = (k j : RecordKey) → eq k j ≡ is_same_key k j
 
-turned : (server mid n : ℕ) (r : Recorded)
-    → (server == r.server && (mid == r.mid && n == kind_number r.kind))
-    ≡ (r.server == server && (r.mid == mid && kind_number r.kind == n))
-turned server mid n r =
-    λ j. eqb_turned server r.server j && (eqb_turned mid r.mid j && eqb_turned n (kind_number r.kind) j)
+-- the parts of 16 bits, and the one above them, can be told from their number
+told_apart : (k s m l t n : ℕ) → s < 65536 → m < 65536 → t < 65536 → n < 65536
+    → (key_number k s m == key_number l t n) ≡ (t == s && (n == m && l == k))
+told_apart k s m l t n a b c d = grind (arith, nat_tests)
 
 -- a look-up by a key is a search by what the key says
-pub found : (eq : RecordKey → RecordKey → Bool) → tests_keys eq → (server mid n : ℕ) (kind : Kind)
-    → n ≡ kind_number kind → (es : List (RecordKey × Recorded)) → AllByRecursion HasOwnKey es
-    → lookup (eq (record { server = server; mid = mid; kind = n })) es ≡ find (has_key server kind mid) (values_of es)
-found eq law server mid n kind number [] h = refl
-found eq law server mid n kind number (e ∷ es) h =
-    let key : RecordKey = record { server = server; mid = mid; kind = n } in
+pub found : (eq : RecordKey → RecordKey → Bool) → tests_keys eq → (server mid : ℕ) (kind : Kind) (key : RecordKey)
+    → server < 65536 → mid < 65536 → key.number ≡ key_number (kind_number kind) server mid
+    → (es : List (RecordKey × Recorded)) → AllByRecursion HasOwnKey es
+    → lookup (eq key) es ≡ find (has_key server kind mid) (values_of es)
+found eq law server mid kind key small low is [] h = refl
+found eq law server mid kind key small low is (e ∷ es) h =
     let at : eq key e.0 ≡ has_key server kind mid e.1 =
-    law key e.0 ∙ (λ j. server == h.0.server j && (mid == h.0.mid j && number j == h.0.kind j))
-    ∙ turned server mid (kind_number kind) e.1 in
-    λ j. cond (at j) (Some e.1) (found eq law server mid n kind number es h.1 j)
+    law key e.0 ∙ (λ j. is j == h.0.number j)
+    ∙ told_apart (kind_number kind) server mid (kind_number e.1.kind) e.1.server e.1.mid small low h.0.server h.0.mid in
+    λ j. cond (at j) (Some e.1) (found eq law server mid kind key small low is es h.1 j)
 
 -- ---- the first end
 
@@ -67,10 +65,8 @@ none_ends clock rs h = (all_live clock 18446744073709551615 rs h).1
 
 same_key : (k j : RecordKey) → key_clone.it k j → j ≡ k
 same_key k j h =
-    let server : j.server ≡ k.server = search rules in
-    let mid : j.mid ≡ k.mid = search rules in
-    let kind : j.kind ≡ k.kind = search rules in
-    λ i. record { server = server i; mid = mid i; kind = kind i }
+    let number : j.number ≡ k.number = search rules in
+    λ i. record { number = number i }
 
 abbrev IsEntryClone : RecordKey × Recorded → RecordKey × Recorded → Type 0
 IsEntryClone p q = key_clone.it p.0 q.0 × (q.1 ≡ p.1)

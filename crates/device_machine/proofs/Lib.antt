@@ -2,6 +2,7 @@ mod Answering
 pub mod Closing
 mod Copying
 pub mod Counting
+mod Digits
 mod Keyed
 mod Lives
 pub mod Living

@@ -1,8 +1,7 @@
 -- What a request leaves that is answered and recorded with what is noted.
-use Rattle.std.proofs.Common.{◌≡◌, ℕ, Bool, List, Option, None, subst, refl, ap, ◌∙◌}
+use Rattle.std.proofs.Common.{◌≡◌, ℕ, Bool, List, Option, subst, ◌∙◌}
 use Rattle.coap_codec.specs.Message.{Message}
 use Rattle.coap_codec.specs.declared.kind.Kind.{Kind}
-use Rattle.coap_codec.specs.declared.kind.Kind.TheVariants.{Con, Non, Ack, Rst}
 use Rattle.device_requests.specs.Answer.{Leaves}
 use Rattle.device_requests.specs.Client.{Client}
 use Rattle.device_requests.specs.Request.{outcome_of}
@@ -11,10 +10,10 @@ use Rattle.device_requests.specs.declared.answer.Answer.{Answer}
 use Rattle.device_requests.specs.declared.observe.Interest.{Interest}
 use Rattle.device_requests.specs.Observe.{interest_of}
 use Rattle.device_requests.specs.Options.{has_unrecognized_critical}
-use Rattle.device_machine.specs.Asked.{message_with, reply_with}
+use Rattle.device_machine.specs.Asked.{message_with}
 use Rattle.device_machine.specs.Observing.{Notes, ObserveResult, noted_by, observe_result}
 use Rattle.device_machine.specs.State.{Machine, with_client, with_observations}
-use Rattle.device_machine.specs.Reactions.{on_fresh, on_noted, on_outcome, reply_to}
+use Rattle.device_machine.specs.Reactions.{on_fresh, on_noted, on_outcome, reply_to, reply_with}
 
 -- a request is answered and recorded with what is noted
 pub taken : (f h : Machine) (server : ℕ) (m : Message) (client : Client) (answer : Answer)
@@ -41,15 +40,6 @@ taken f h server m client answer interest number reply act leaves asks noted_so 
     ∙ (λ i. on_noted f server m (record { answer = leaves.says i; client = leaves.then_client i })
     (told (leaves.then_client i) (leaves.says i)))
 
--- what replies to a message takes over its type, message ID and token, and whether it is rejected
-reply_is : (next_id : ℕ) (m : Message) (kind : Kind) (number : Option ℕ) (answer : Answer)
-    → reply_with next_id kind m.mid m.token (has_unrecognized_critical m.options) number answer
-    ≡ reply_to next_id m kind number answer
-reply_is next_id m Con number answer = refl
-reply_is next_id m Non number answer = refl
-reply_is next_id m Ack number answer = refl
-reply_is next_id m Rst number answer = refl
-
 -- so the reply to what was taken over of a message is that to the message
 pub replied_to : (f : Machine) (server : ℕ) (m : Message) (kind : Kind) (mid : ℕ) (token : List ℕ) (rejected : Bool)
     (number : Option ℕ) (answer : Answer) → kind ≡ m.kind → mid ≡ m.mid → token ≡ m.token
@@ -58,6 +48,5 @@ pub replied_to : (f : Machine) (server : ℕ) (m : Message) (kind : Kind) (mid :
     (reply_with f.kept.next_id kind mid token rejected number answer) answer.act
     ≡ on_fresh f server m f.kept (reply_to f.kept.next_id m m.kind number answer) answer.act
 replied_to f server m kind mid token rejected number answer k i t r =
-    (λ j. on_fresh f server (message_with (k j) (i j) (t j)) f.kept
-    (reply_with f.kept.next_id (k j) (i j) (t j) (r j) number answer) answer.act)
-    ∙ ap (λ reply. on_fresh f server m f.kept reply answer.act) (reply_is f.kept.next_id m m.kind number answer)
+    λ j. on_fresh f server (message_with (k j) (i j) (t j)) f.kept
+    (reply_with f.kept.next_id (k j) (i j) (t j) (r j) number answer) answer.act

@@ -1,6 +1,6 @@
 -- A plain Read is taken as its message is.
 use Rattle.std.proofs.Common.{◌≡◌, ℕ, ◌+◌, ◌<◌, true, false, List, [], drop, Option, None, Some, Result, Ok, Err}
-use Rattle.std.proofs.Common.{MatchOption, MatchResult, IfOk, refl, sym, ap, subst, ◌∙◌, arith}
+use Rattle.std.proofs.Common.{MatchOption, MatchResult, refl, sym, ap, subst, ◌∙◌, arith}
 use Rattle.coap_codec.specs.Fault.{BreaksOff, HasEarlyFault, HasFault, header_fault, place_fault, token_length}
 use Rattle.coap_codec.specs.Message.{Message, Spells, kind_number}
 use Rattle.coap_codec.specs.Reading.{reading_of}
@@ -16,9 +16,9 @@ use Rattle.device_requests.specs.PlainRead.{IsPlainRead}
 use Rattle.device_requests.specs.Request.{outcome_for, outcome_of}
 use Rattle.device_requests.specs.declared.answer.Answer.{Answer}
 use Rattle.object_defs.specs.declared.path.Path.{Path}
-use Rattle.device_machine.specs.Asked.{message_with, reply_with}
+use Rattle.device_machine.specs.Asked.{message_with}
 use Rattle.device_machine.specs.Memory.{datagram_takes_memory, message_takes_memory, request_takes_memory}
-use Rattle.device_machine.specs.Reactions.{Gives, again, is_request, on_fresh, on_message, on_outcome, on_request}
+use Rattle.device_machine.specs.Reactions.{Gives, again, is_request, on_fresh, on_message, on_outcome, on_request, reply_with}
 use Rattle.device_machine.specs.Reactions.{reaction_to, repeat_of}
 use Rattle.device_machine.specs.State.{Machine}
 use Rattle.device_machine.specs.declared.event.Event.TheVariants.{Recv}

@@ -8,7 +8,7 @@ use Rattle.std.proofs.lemmas.Option.{none-some, same_Some}
 use Rattle.coap_codec.specs.Message.{kind_number}
 use Rattle.coap_codec.specs.declared.kind.Kind.{Kind}
 use Rattle.device_machine.specs.State.{is_live}
-use Rattle.device_machine.specs.Records.{HasOwnKey, first_end, has_key, is_recalled, is_same_key}
+use Rattle.device_machine.specs.Records.{HasOwnKey, first_end, has_key, is_recalled, is_same_key, key_number}
 use Rattle.device_machine.specs.declared.recorded.Recorded.{Recorded}
 use Rattle.device_machine.specs.declared.records.RecordKey.{RecordKey}
 use Rattle.device_machine.proofs.Keyed.{none_ends}
@@ -141,10 +141,9 @@ found-none p q (y ∷ ys) h = by (p y) refl (found-none p q ys)
     by false e rest = find-past p q y ys e ∙ rest (sym (find-false p y ys e) ∙ h)
 
 -- a request of another key than one that has the key has not
-other : (s m n a b c a' b' c' x y z x' y' z' : ℕ) → a ≡ a' → b ≡ b' → c ≡ c' → x ≡ x' → y ≡ y' → z ≡ z'
-    → (a' == s && (b' == m && c' == n)) ≡ true → (a == x && (b == y && c == z)) ≡ false
-    → (x' == s && (y' == m && z' == n)) ≡ false
-other s m n a b c a' b' c' x y z x' y' z' p q r t u v has differs = grind (arith, nat_tests)
+other : (s m n a b c x y z p q : ℕ) → p ≡ key_number c a b → q ≡ key_number z x y
+    → (a == s && (b == m && c == n)) ≡ true → (p == q) ≡ false → (x == s && (y == m && z == n)) ≡ false
+other s m n a b c x y z p q is so has differs = grind (arith, nat_tests)
 
 -- none of the others has the key of the first
 others : (server : ℕ) (kind : Kind) (mid : ℕ) (e : RecordKey × Recorded) (es : List (RecordKey × Recorded))
@@ -154,9 +153,8 @@ others : (server : ℕ) (kind : Kind) (mid : ℕ) (e : RecordKey × Recorded) (e
 others server kind mid e [] own owns has differ = refl
 others server kind mid e (y ∷ es) own owns has differ =
     find-false (has_key server kind mid) y.1 (values_of es)
-    (other server mid (kind_number kind) e.0.server e.0.mid e.0.kind e.1.server e.1.mid (kind_number e.1.kind)
-    y.0.server y.0.mid y.0.kind y.1.server y.1.mid (kind_number y.1.kind)
-    own.server own.mid own.kind owns.0.server owns.0.mid owns.0.kind has differ.0)
+    (other server mid (kind_number kind) e.1.server e.1.mid (kind_number e.1.kind)
+    y.1.server y.1.mid (kind_number y.1.kind) e.0.number y.0.number own.number owns.0.number has differ.0)
     ∙ others server kind mid e es own owns.1 has differ.1
 
 -- where what is found of all fails, none is found of those that pass

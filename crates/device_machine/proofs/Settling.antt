@@ -1,8 +1,11 @@
 -- What was said of observations is still what their present answers are, where none of these has changed.
 use Rattle.std.proofs.Common.{◌≡◌, ℕ, ◌<◌, ◌^◌, Bool, true, false, cond, not, List, [], ◌∷◌, filter, map}
-use Rattle.std.proofs.Common.{Option, None, Some, MatchOption, pos, refl, sym, ap, subst, ◌∙◌}
+use Rattle.std.proofs.Common.{Option, None, Some, MatchOption, pos, refl, sym, ap, subst, ◌∙◌, eq-eqb}
+use Rattle.std.proofs.lemmas.Bool.{and_from}
+use Rattle.std.proofs.lemmas.Slice.Eq.{bytes_eq-Decides}
 use Rattle.std.specs.Bool.{if◌then◌else◌}
 use Rattle.std.specs.Option.{option_map, unwrap_or}
+use Rattle.lemmas.proofs.Tests.{never_both}
 use Rattle.lwm2m_values.specs.declared.value.Value.{Value}
 use Rattle.lwm2m_values.specs.declared.value.Value.TheVariants.{Whole}
 use Rattle.object_defs.specs.Path.{single_of}
@@ -11,8 +14,8 @@ use Rattle.instance_store.specs.Stored.{Stored, with_value}
 use Rattle.device_firmware.specs.Firmware.{firmware_after, firmware_resource, outcome_in, state_number, with_outcome}
 use Rattle.device_firmware.specs.declared.event.FirmwareEvent.TheVariants.{Ended}
 use Rattle.notifier.specs.Due.{IsFirstDue, IsNeverDue, is_one_due}
-use Rattle.notifier.specs.Observed.{as_closed, is_awaited, with_acknowledged}
-use Rattle.notifier.specs.Said.{Watch, said_without}
+use Rattle.notifier.specs.Observed.{as_closed, is_awaited, is_named, next_number, with_acknowledged, with_registered}
+use Rattle.notifier.specs.Said.{Watch, initial_outlook, said_with, said_without}
 use Rattle.notifier.specs.declared.observation.Observation.{Observation}
 use Rattle.notifier.specs.declared.pending.Outlook.{Outlook}
 use Rattle.device_requests.specs.Client.{Client, with_stored}
@@ -21,7 +24,7 @@ use Rattle.device_notifications.specs.Reach.{DifferAt}
 use Rattle.device_notifications.specs.Second.{quiet_sweep, second}
 use Rattle.device_notifications.proofs.Differing.{differ_at_one, differ_at_two}
 use Rattle.device_notifications.proofs.Resting.{first_sending, quiet_second}
-use Rattle.device_notifications.specs.Outlooks.{IsKnown, outlook_of, outlooks_of}
+use Rattle.device_notifications.specs.Outlooks.{IsKnown, IsKnownBut, outlook_of, outlooks_of}
 use Rattle.device_machine.specs.Memory.{outcome_paths}
 
 without : (f : Observation → Outlook) (p : Observation → Bool) (os : List Observation)
@@ -40,6 +43,51 @@ pub known_without : (client : Client) (p : Observation → Bool) (old new : Watc
 known_without client p old new known list said =
     said ∙ ap (λ ss. said_without p old.list ss) known ∙ without (outlook_of client) p old.list
     ∙ ap (λ os. outlooks_of client os) (sym list)
+
+abbrev AreKnownBut : ℕ → List ℕ → Client → List Observation → List Outlook → Type 0
+AreKnownBut server token client os ss = IsKnownBut server token client (record { list = os; said = ss })
+
+each_known : (server : ℕ) (token : List ℕ) (client : Client) (os : List Observation)
+    → AreKnownBut server token client os (outlooks_of client os)
+each_known server token client [] = tt
+each_known server token client (o ∷ os) = (λ other. refl, each_known server token client os)
+
+-- where the present answers of all are known
+pub known_but : (server : ℕ) (token : List ℕ) (client : Client) (watch : Watch) → IsKnown client watch
+    → IsKnownBut server token client watch
+known_but server token client watch known =
+    subst (AreKnownBut server token client watch.list) (sym known) (each_known server token client watch.list)
+
+has_its_name : (o : Observation) → is_named o.server o.token o ≡ true
+has_its_name o = and_from _ _ (eq-eqb o.server o.server refl) ((bytes_eq-Decides o.token o.token).1 refl)
+
+registered : (client : Client) (new : Observation) (os : List Observation)
+    → AreKnownBut new.server new.token client (with_registered os new)
+    (said_with new.server new.token os (outlooks_of client os))
+registered client new [] = (λ other. absurd (never_both _ (has_its_name new) other), tt)
+registered client new (o ∷ os) =
+    elim (is_named new.server new.token o) as (λ b. AreKnownBut new.server new.token client
+    (if b then record new { number = next_number o.number } ∷ os else o ∷ with_registered os new)
+    (if b then initial_outlook ∷ outlooks_of client os
+    else outlook_of client o ∷ said_with new.server new.token os (outlooks_of client os))) [
+      | true ↦ (
+        λ other. absurd (never_both _ (has_its_name new) other),
+        each_known new.server new.token client os,
+      )
+      | false ↦ (λ other. refl, registered client new os)
+    ]
+
+-- where one was registered, of which nothing is said yet
+pub known_registered : (client : Client) (new : Observation) (old next : Watch) → IsKnown client old
+    → next.list ≡ with_registered old.list new → next.said ≡ said_with new.server new.token old.list old.said
+    → IsKnownBut new.server new.token client next
+known_registered client new old next known list said =
+    let saids : said_with new.server new.token old.list (outlooks_of client old.list) ≡ next.said =
+    ap (λ ss. said_with new.server new.token old.list ss) (sym known) ∙ sym said in
+    subst (AreKnownBut new.server new.token client next.list) saids
+    (subst (λ os. AreKnownBut new.server new.token client os
+    (said_with new.server new.token old.list (outlooks_of client old.list))) (sym list)
+    (registered client new old.list))
 
 closed : (client : Client) (p : Observation → Bool) (os : List Observation)
     → outlooks_of client os ≡ outlooks_of client (map (λ o. if p o then as_closed o else o) os)

@@ -95,14 +95,20 @@ is_request code = code / 32 == 0 && not (code == 0)
 abbrev pub with_id_taken : DeviceState → DeviceState
 with_id_taken kept = record kept { next_id = (kept.next_id + 1) % 65536 }
 
--- a confirmable request is acknowledged; a non-confirmable one is answered by a message of the device's next
--- message ID, or not at all where an option isn't understood
+-- what replies to a request of this type, message ID and token, which may be rejected: a confirmable one is
+-- acknowledged; a non-confirmable one is answered by a message of the device's next message ID, or not at all where it
+-- is rejected
+abbrev pub reply_with : ℕ → Kind → ℕ → List ℕ → Bool → Option ℕ → Answer → Option Message
+reply_with next_id Con mid token rejected number answer = Some (response Ack mid token number answer)
+reply_with next_id Non mid token rejected number answer =
+    if rejected then None else Some (response Non next_id token number answer)
+reply_with next_id Ack mid token rejected number answer = None
+reply_with next_id Rst mid token rejected number answer = None
+
+-- a request is rejected where an option isn't understood
 abbrev pub reply_to : ℕ → Message → Kind → Option ℕ → Answer → Option Message
-reply_to next_id m Con number answer = Some (response Ack m.mid m.token number answer)
-reply_to next_id m Non number answer =
-    if has_unrecognized_critical m.options then None else Some (response Non next_id m.token number answer)
-reply_to next_id m Ack number answer = None
-reply_to next_id m Rst number answer = None
+reply_to next_id m kind number answer =
+    reply_with next_id kind m.mid m.token (has_unrecognized_critical m.options) number answer
 
 -- a reply of the device's own message ID counts it on
 abbrev pub kept_after : DeviceState → Kind → Option Message → DeviceState

@@ -1,5 +1,5 @@
 -- The recorded requests that a device keeps: how one is found, and when the first of them no longer lives.
-use Rattle.std.specs.Prelude.{◌≡◌, ℕ, ◌+◌, ◌==◌, min, Bool, true, ◌&&◌, if◌then◌else◌, List, filter, find, fold}
+use Rattle.std.specs.Prelude.{◌≡◌, ℕ, ◌+◌, ◌*◌, ◌<◌, ◌==◌, min, Bool, true, ◌&&◌, if◌then◌else◌, List, filter, find, fold}
 use Rattle.std.specs.Prelude.{Option, None, Some}
 use Rattle.std.specs.List.{AllByRecursion}
 use Rattle.indexmap.specs.IndexMap.{IndexMap, IsUnique, values}
@@ -17,11 +17,15 @@ use Rattle.device_machine.specs.declared.records.RecordKey.{RecordKey}
 abbrev pub has_key : ℕ → Kind → ℕ → Recorded → Bool
 has_key server kind mid r = r.server == server && (r.mid == mid && kind_number r.kind == kind_number kind)
 
--- a key has the server, the message ID and the type of its request
+-- the number of a type, and a server and a message ID of 16 bits, as one number
+abbrev pub key_number : ℕ → ℕ → ℕ → ℕ
+key_number kind server mid = 4294967296 * kind + (65536 * server + mid)
+
+-- a key has the type, the server and the message ID of its request, and these have 16 bits
 pub record HasOwnKey (e : RecordKey × Recorded) : Type 0 where
-  pub server : e.0.server ≡ e.1.server
-  pub mid : e.0.mid ≡ e.1.mid
-  pub kind : e.0.kind ≡ kind_number e.1.kind
+  pub number : e.0.number ≡ key_number (kind_number e.1.kind) e.1.server e.1.mid
+  pub server : e.1.server < 65536
+  pub mid : e.1.mid < 65536
 
 -- the second, of 64 bits, from which on the request no longer lives
 abbrev pub end_of_life : Recorded → ℕ
@@ -51,7 +55,7 @@ recalled_requests i = filter (λ r. is_recalled i.ended r) (values i.entries)
 
 -- two keys are equal
 abbrev pub is_same_key : RecordKey → RecordKey → Bool
-is_same_key k j = k.server == j.server && (k.mid == j.mid && k.kind == j.kind)
+is_same_key k j = k.number == j.number
 
 -- each key is that of its request, and no two are equal
 abbrev pub IsKeyed : {S : Type 0} → IndexMap RecordKey Recorded S → Type 0

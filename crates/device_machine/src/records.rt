@@ -7,7 +7,7 @@ ghost use Rattle.std.specs.List.{list_any};
 ghost use Rattle.coap_codec.specs.Message.{kind_number};
 ghost use Rattle.indexmap.specs.IndexMap.{values};
 ghost use Rattle.device_machine.specs.State.{is_live, lifetime};
-ghost use Rattle.device_machine.specs.Records.{IsIndexed, IsKeyed, IsNewIn, end_of_life, first_end, has_key};
+ghost use Rattle.device_machine.specs.Records.{IsIndexed, IsKeyed, IsNewIn, end_of_life, first_end, has_key, key_number};
 ghost use Rattle.device_machine.specs.Records.{is_recalled, recalled_requests};
 ghost use Rattle.device_machine.specs.declared.recorded.Recorded.{Recorded as Request};
 
@@ -20,10 +20,19 @@ use std::marker::Model;
 /// What a repeat has in common with its request.
 #[derive(Clone, Debug, PartialEq, Eq, Hash, Drop)]
 pub(crate) struct RecordKey {
-    server: u16,
-    mid: u16,
-    /// The number of its type (RFC 7252 section 3).
-    kind: u8,
+    /// The number of its type (RFC 7252 section 3), its server and its message ID, as one number: it is hashed in one
+    /// step.
+    number: u64,
+}
+
+/// The key of a request of this server, type and message ID.
+fn key_of(server: u16, kind: Kind, mid: u16) -> RecordKey
+    ensures { result.number ≡ key_number (kind_number kind) server mid }
+{
+    RecordKey {
+        number: 4_294_967_296 * u64::from(kind_number(kind))
+            + (65_536 * u64::from(server) + u64::from(mid)),
+    }
 }
 
 /// Requests, no two of one server, type and message ID. Some are forgotten, and the others recalled: those that are
@@ -158,12 +167,7 @@ fn request_of(
     requires { IsKeyed entries.now }
     ensures { option_copied result ≡ find (has_key server kind mid) (values entries.now) }
 {
-    let key = RecordKey {
-        server,
-        mid,
-        kind: kind_number(kind),
-    };
-    entries.get(&key)
+    entries.get(&key_of(server, kind, mid))
 }
 
 /// Adds a request of a new key at the end.
@@ -174,12 +178,7 @@ fn add(entries: &mut IndexMap<RecordKey, Recorded>, request: Recorded) -> Result
     ensures keyed { IsKeyed entries.new }
     ensures err { OnErr result (values entries.new ≡ values entries.old) }
 {
-    let key = RecordKey {
-        server: request.server,
-        mid: request.mid,
-        kind: kind_number(request.kind),
-    };
-    entries.insert(key, request)?;
+    entries.insert(key_of(request.server, request.kind, request.mid), request)?;
     Ok(())
 }
 

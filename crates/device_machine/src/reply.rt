@@ -1,20 +1,24 @@
 //! The datagrams that a device sends.
 
-ghost use Rattle.std.specs.Prelude.{◌≡◌, ◌≤◌, ◌<◌, ◌∷◌, ◌++◌, [], true, is_some, length, option_map, IfOk, OnErr, OnOk};
-ghost use Rattle.std.specs.Fmt.{decimal};
-ghost use Rattle.coap_codec.specs.Message.{option_bytes, options_bytes, spelling};
+ghost use Rattle.std.specs.Prelude.{◌≡◌, ◌≤◌, ◌<◌, ◌∷◌, ◌++◌, [], true, false, None, Some, is_some, length};
+ghost use Rattle.std.specs.Prelude.{ℕ, Option, option_map, IfOk, OnErr, OnOk};
+ghost use Rattle.std.specs.Fmt.{decimal, signed_decimal};
+ghost use Rattle.coap_codec.specs.Message.{option_bytes, options_bytes, payload_bytes, spelling, start_bytes};
 ghost use Rattle.coap_codec.specs.OptionNumber.{location_path_option};
 ghost use Rattle.device_notifications.specs.Message.{format_options};
+ghost use Rattle.device_requests.specs.Answer.{code_byte, content};
+ghost use Rattle.device_requests.specs.declared.answer.Answer.{Answer as Said};
 ghost use Rattle.device_machine.specs.declared.output.Output.TheVariants.{Send};
-ghost use Rattle.device_machine.specs.Asked.{reply_with};
-ghost use Rattle.device_machine.specs.Reactions.{answer_options, location_options, reset, response, sent_to};
+ghost use Rattle.device_machine.specs.Reactions.{answer_options, location_options, reset, response, sent_to, reply_with};
 
 use crate::output::{Output, Outputs};
 use coap_codec::option_number::{CONTENT_FORMAT, LOCATION_PATH, OBSERVE};
 use coap_codec::{
-    Kind, Message, Options, encode, put_number_option, put_option, put_payload, put_start,
+    Kind, Message, Options, encode, put_number_option, put_option, put_payload, put_plain_text,
+    put_start,
 };
-use device_requests::Answer;
+use device_requests::{Answer, Code};
+use itoa::Buffer;
 use object_defs::InstancePath;
 use octets::Bytes;
 use std::alloc::{AllocError, Global};
@@ -69,6 +73,21 @@ fn put_answer_options(
     put_location_and_format(alloc, out, OBSERVE, location, format)
 }
 
+/// Begins a datagram in the buffer, in the place of what is there: its header and its token.
+fn begin(
+    buffer: &mut Vec<u8>,
+    kind: Kind,
+    code: Code,
+    mid: u16,
+    token: &[u8],
+) -> Result<(), AllocError>
+    requires { length token.now ≤ 8 }
+    ensures { OnOk result (buffer.new.items ≡ start_bytes kind (code_byte code) mid token.now) }
+{
+    buffer.clear();
+    put_start(buffer, kind, code.byte(), mid, token)
+}
+
 /// The datagram of an answer, with the token of the request and this Observe number. It is written to the buffer first,
 /// and copied: a short one takes no memory then.
 fn answer_datagram(
@@ -83,10 +102,35 @@ fn answer_datagram(
     requires { length token.now ≤ 8 }
     ensures { IfOk result (λ b. b ≡ spelling (response kind mid token.now number answer.now)) }
 {
-    buffer.clear();
-    put_start(buffer, kind, answer.code.byte(), mid, token)?;
+    begin(buffer, kind, answer.code, mid, token)?;
     put_answer_options(alloc, buffer, number, answer.location, answer.format)?;
     put_payload(buffer, answer.payload.as_slice())?;
+    Bytes::from_slice(alloc, buffer.as_slice())
+}
+
+/// Adds a number in digits as plain text, with its Content-Format.
+fn put_number(out: &mut Vec<u8>, number: i64) -> Result<(), AllocError>
+    ensures { OnOk result (out.new.items ≡ out.old.items
+        ++ (options_bytes 0 (format_options (Some 0)) ++ payload_bytes (signed_decimal number))) }
+{
+    put_plain_text(out, Buffer::new().format(number).as_bytes())
+}
+
+/// The datagram of the answer that is a number in digits: 2.05 with the number's decimal in plain text. It is the one
+/// that `answer_datagram` writes of that answer, which is not made.
+fn number_datagram(
+    alloc: Global,
+    buffer: &mut Vec<u8>,
+    kind: Kind,
+    mid: u16,
+    token: &[u8],
+    number: i64,
+) -> Result<Bytes, AllocError>
+    requires { length token.now ≤ 8 }
+    ensures { IfOk result (λ b. b ≡ spelling (response kind mid token.now None (content 0 (signed_decimal number)))) }
+{
+    begin(buffer, kind, Code::Content, mid, token)?;
+    put_number(buffer, number)?;
     Bytes::from_slice(alloc, buffer.as_slice())
 }
 
@@ -117,8 +161,27 @@ pub(crate) fn asked_by(message: &Message) -> Asked<'_>
     }
 }
 
-/// The datagram that replies to a request with this answer and this Observe number, or none to a NON that is rejected.
-/// A NON is replied to with the device's own message ID.
+/// The type and the message ID of the reply to a request: none to a NON that is rejected. A NON is replied to with the
+/// device's own message ID.
+fn reply_head(next_id: u16, asked: Asked<'_>, is_rejected: bool) -> Option<(Kind, u16)>
+    ensures { (number : Option ℕ) (answer : Said)
+        → reply_with next_id asked.entry.kind asked.entry.mid asked.entry.token.now is_rejected number answer
+        ≡ option_map (λ h. response h.0 h.1 asked.entry.token.now number answer) result }
+{
+    match asked.kind {
+        Kind::Con => Some((Kind::Ack, asked.mid)),
+        Kind::Non => {
+            if is_rejected {
+                None
+            } else {
+                Some((Kind::Non, next_id))
+            }
+        }
+        Kind::Ack | Kind::Rst => None,
+    }
+}
+
+/// The datagram that replies to a request with this answer and this Observe number, if one does.
 pub(crate) fn reply_datagram(
     alloc: Global,
     buffer: &mut Vec<u8>,
@@ -132,17 +195,30 @@ pub(crate) fn reply_datagram(
     ensures { IfOk result (λ d. d ≡ option_map spelling
         (reply_with next_id asked.entry.kind asked.entry.mid asked.entry.token.now is_rejected number answer.now)) }
 {
-    let (kind, mid) = match asked.kind {
-        Kind::Con => (Kind::Ack, asked.mid),
-        Kind::Non => {
-            if is_rejected {
-                return Ok(None);
-            }
-            (Kind::Non, next_id)
-        }
-        Kind::Ack | Kind::Rst => return Ok(None),
+    let Some((kind, mid)) = reply_head(next_id, asked, is_rejected) else {
+        return Ok(None);
     };
     let bytes = answer_datagram(alloc, buffer, kind, mid, asked.token, number, answer)?;
+    Ok(Some(bytes))
+}
+
+/// The datagram that replies to a request with a number in digits, if one does.
+pub(crate) fn number_reply(
+    alloc: Global,
+    buffer: &mut Vec<u8>,
+    next_id: u16,
+    asked: Asked<'_>,
+    number: i64,
+) -> Result<Option<Bytes>, AllocError>
+    requires { length asked.token.now ≤ 8 }
+    ensures { IfOk result (λ d. d ≡ option_map spelling
+        (reply_with next_id asked.entry.kind asked.entry.mid asked.entry.token.now false None
+        (content 0 (signed_decimal number)))) }
+{
+    let Some((kind, mid)) = reply_head(next_id, asked, false) else {
+        return Ok(None);
+    };
+    let bytes = number_datagram(alloc, buffer, kind, mid, asked.token, number)?;
     Ok(Some(bytes))
 }
 

@@ -3,6 +3,7 @@ pub mod Differing
 pub mod Jumps
 mod LaterOnes
 mod MessageIds
+mod Names
 mod Nons
 pub mod Numbers
 pub mod Options

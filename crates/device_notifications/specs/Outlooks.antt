@@ -1,7 +1,9 @@
 -- What is said of the observations: what their present answers are, and their periods. And the seconds at which one of
 -- them sends or is removed.
 use Rattle.std.specs.Prelude.{◌≡◌, ℕ, ◌<◌, ◌≤◌, false, List, map, if◌then◌else◌}
+use Rattle.std.specs.List.{AllZip}
 use Rattle.notifier.specs.Due.{is_one_due}
+use Rattle.notifier.specs.Observed.{is_named}
 use Rattle.notifier.specs.Said.{Watch}
 use Rattle.notifier.specs.declared.observation.Observation.{Observation}
 use Rattle.notifier.specs.declared.observation.Report.{Report}
@@ -41,6 +43,11 @@ outlooks_of client os = map (outlook_of client) os
 -- what was last said of each observation is what its present answer is, and its periods
 abbrev pub IsKnown : Client → Watch → Type 0
 IsKnown client watch = watch.said ≡ outlooks_of client watch.list
+
+-- so it is of each observation that does not have this name
+abbrev pub IsKnownBut : ℕ → List ℕ → Client → Watch → Type 0
+IsKnownBut server token client watch =
+    AllZip (λ o s. is_named server token o ≡ false → s ≡ outlook_of client o) watch.list watch.said
 
 -- none of them sends or is removed in these seconds
 abbrev pub AreAtRest : List Observation → List Outlook → ℕ → ℕ → Type 0

@@ -21,7 +21,7 @@ pub use laws::{
     seconds_add, seconds_jump, sends_after_pmin, sends_before_pmax, sends_five_times_at_most,
 };
 pub use outbox::Outbox;
-pub use outlooks::say_all;
+pub use outlooks::{say_all, say_named};
 pub use period::{pmax_of, pmin_of};
 pub use reach::say_reached;
 pub use report::report_of;

@@ -1,10 +1,12 @@
 //! What is said of the observations: what their present answers are, and their periods.
 
 ghost use Rattle.std.specs.Prelude.{◌≡◌, ◌≢◌, ◌<◌, ◌≤◌, [], length, slice_get, slice_set, MatchOption, OnErr, OnOk};
-ghost use Rattle.std.specs.Prelude.{IfOk, Some};
+ghost use Rattle.std.specs.Prelude.{IfOk, Some, true};
 ghost use Rattle.notifier.specs.Due.{IsFirstDue};
 ghost use Rattle.notifier.specs.declared.observation.Observation.{Observation};
-ghost use Rattle.device_notifications.specs.Outlooks.{AreAtRest, IsKnown, content_outlook, outlook_of, outlook_with};
+ghost use Rattle.notifier.specs.Observed.{has_name};
+ghost use Rattle.device_notifications.specs.Outlooks.{AreAtRest, IsKnown, IsKnownBut, content_outlook, outlook_of};
+ghost use Rattle.device_notifications.specs.Outlooks.{outlook_with};
 ghost use Rattle.device_notifications.specs.Second.{triggers_on};
 
 use crate::period::{pmax_of, pmin_of};
@@ -107,6 +109,28 @@ pub fn say_all(client: &Client, observations: &mut Observations) -> Result<(), A
         say(client, observations, place)?;
     }
     Ok(())
+}
+
+/// Says of the observation of this server under this token, if there is one, what its present answer is, and its
+/// periods. It is for where that is known of the others, as after a registration: they are not read, so there may be no
+/// memory for it only where there is one of this name.
+pub fn say_named(
+    client: &Client,
+    observations: &mut Observations,
+    server: u16,
+    token: &[u8],
+) -> Result<(), AllocError>
+    requires { IsKnownBut server token.now client.now observations.old }
+    ensures list { observations.new.list ≡ observations.old.list }
+    ensures known { OnOk result (IsKnown client.now observations.new) }
+    ensures may_lack_memory { OnErr result (has_name observations.old.list server token.now ≡ true) }
+{
+    // For the proof alone: no two observations have one name.
+    let _known = observations.len();
+    let Some(place) = observations.place_of(server, token) else {
+        return Ok(());
+    };
+    say(client, observations, place)
 }
 
 /// The first second after `now`, and not after `end`, at which an observation sends or is removed, by what was said of

@@ -1,7 +1,9 @@
 pub mod Among
+mod Beginning
 mod Growing
 pub mod Answering
 pub mod Depending
+mod Digits
 pub mod Keeping
 pub mod Hiding
 mod Linking

@@ -21,3 +21,13 @@ pub filtered_at : {W X A : Type 0} (text : List A) (f : X → List A) (p : X →
 filtered_at text f p h ws i w l =
     filtered_next text f p (h (get_or ws i w)) (map h (drop (i + 1) ws))
     ∙ ap (λ t. text ++ flat_map f (filter p (map h t))) (sym (drop_more ws i w l))
+
+-- the same where there are several for each
+pub flattened_at : {W X A : Type 0} (text : List A) (f : X → List A) (h : W → List X) (ws : List W) (i : ℕ) (w : W)
+    → i < length ws
+    → (text ++ flat_map f (h (get_or ws i w))) ++ flat_map f (flat_map h (drop (i + 1) ws))
+    ≡ text ++ flat_map f (flat_map h (drop i ws))
+flattened_at text f h ws i w l =
+    append_assoc text _ _ ∙ ap (λ t. text ++ t)
+    (sym (flat_map-append f (h (get_or ws i w)) (flat_map h (drop (i + 1) ws)))
+    ∙ ap (λ t. flat_map f (flat_map h t)) (sym (drop_more ws i w l)))

@@ -1,14 +1,14 @@
 -- Options that name a path and say nothing else.
 use Rattle.std.proofs.Common.{◌≡◌, ℕ, Bool, true, false, ◌⊎◌, inl, inr, List, [], ◌∷◌, length, None, refl, sym, ap}
 use Rattle.std.proofs.Common.{subst, ◌∙◌, arith}
-use Rattle.std.specs.Prelude.{◌==◌, ◌&&◌, ◌||◌, not, nat_lt, nat_le, find, count_by, option_and_then}
+use Rattle.std.specs.Prelude.{◌==◌, ◌&&◌, not, nat_lt, nat_le, find, count_by, option_and_then}
 use Rattle.std.specs.List.{list_any, list_all}
 use Rattle.std.proofs.lemmas.Bool.{cases_eq, ne_eqb, false≢true, le-leb}
 use Rattle.lemmas.proofs.Tests.{and_first, and_second}
-use Rattle.coap_codec.specs.OptionNumber.{uri_host_option, observe_option, uri_port_option, uri_path_option}
+use Rattle.coap_codec.specs.OptionNumber.{uri_host_option, observe_option, uri_port_option}
 use Rattle.coap_codec.specs.OptionNumber.{content_format_option, uri_query_option, accept_option}
 use Rattle.coap_codec.specs.declared.option.Opt.{Opt}
-use Rattle.device_requests.specs.Options.{has_known_form, is_critical, repeats, has_unknown_critical}
+use Rattle.device_requests.specs.Options.{has_known_form, is_critical, repeats}
 use Rattle.device_requests.specs.Options.{has_unrecognized_critical, short_number, accept_of, content_format_of}
 use Rattle.device_requests.specs.Options.{has_query, observe_number, observe_of, known_options}
 use Rattle.device_requests.specs.Inside.{is_segment, is_path_alone}

@@ -19,7 +19,7 @@ use Rattle.device_requests.specs.Options.{queries_of, segments_of, path_of}
 use Rattle.device_requests.specs.Outcomes.{write_outcome}
 use Rattle.device_requests.specs.Refusals.{refusal_of, to_create, to_delete, to_execute, to_write}
 use Rattle.device_requests.specs.Refusals.{to_write_attributes}
-use Rattle.device_requests.specs.Request.{outcome_at, outcome_for, outcome_of, request_by, request_on, request_with}
+use Rattle.device_requests.specs.Request.{outcome_at, outcome_for, request_by, request_on, request_with}
 use Rattle.device_requests.specs.Write.{after_write_with_event, event_of, mode_at, new_values, write_unless}
 use Rattle.device_requests.specs.WriteAttributes.{annotate_unless, attributes_given}
 use Rattle.device_requests.specs.declared.answer.Code.{Code}

@@ -1,5 +1,5 @@
 -- A Write that would be refused changes nothing where memory runs out: neither once its format is served, nor before.
-use Rattle.std.proofs.Common.{◌≡◌, ℕ, Bool, true, false, not, ◌==◌, List, ◌∷◌, Option, Some, is_some, sym, ap, subst}
+use Rattle.std.proofs.Common.{◌≡◌, ℕ, true, false, not, ◌==◌, List, ◌∷◌, Option, Some, is_some, sym, ap, subst}
 use Rattle.std.proofs.Common.{◌∙◌}
 use Rattle.std.specs.Option.{option_and_then}
 use Rattle.object_defs.specs.Path.{object_in}

@@ -1,6 +1,6 @@
 -- What clauses of private functions name. No promise rests on it.
 use Rattle.std.specs.Prelude.{ℕ, ◌==◌, nat_le, Bool, true, ◌&&◌, not, List, [], ◌∷◌, length, Option, None, Some}
-use Rattle.std.specs.Prelude.{is_some, ◌≡◌, All}
+use Rattle.std.specs.Prelude.{is_some, take, ◌≡◌, All}
 use Rattle.std.specs.List.{list_all}
 use Rattle.coap_codec.specs.Message.{IsOptionList, options_bytes}
 use Rattle.coap_codec.specs.OptionNumber.{uri_path_option}
@@ -68,3 +68,7 @@ abbrev pub give : List (Bool × Code) → Client → Mode → Path → Option Ne
 give rules client mode path values =
     write_unless (first_line rules) client (after_write_with_event (mode_at mode path) client path values
     (event_of path values))
+
+-- as much of a text as shows whether it is longer than a payload, and if not, which payload it is
+unfoldable pub beginning : List ℕ → List ℕ
+beginning text = take 1025 text

@@ -2,12 +2,14 @@
 
 ghost use Rattle.std.specs.Prelude.{◌≡◌, ◌++◌, ◌∷◌, [], true, false, IfOk, OnErr, OnOk, string_bytes};
 ghost use Rattle.std.specs.List.{filter, flat_map};
+ghost use Rattle.lwm2m_payloads.specs.Nodes.{within_limit};
 ghost use Rattle.device_requests.specs.Answer.{takes_memory};
 ghost use Rattle.device_requests.specs.Discover.{attribute_text, attributes_text, dimension, dimension_text};
 ghost use Rattle.device_requests.specs.Discover.{existing_resources, fraction_text, inherits_at, instance_paths};
 ghost use Rattle.device_requests.specs.Discover.{is_period, link, link_parameters, linked_paths, links_text};
 ghost use Rattle.device_requests.specs.Discover.{more_links, name_text, number_text, paths_below, shown_attribute};
 ghost use Rattle.device_requests.specs.Discover.{shown_number, thousandths_text, unsigned_text};
+ghost use Rattle.device_requests.specs.Inside.{beginning};
 ghost use Rattle.device_requests.specs.Outcomes.{discover_answer};
 ghost use Rattle.device_requests.specs.Targets.{exists};
 
@@ -253,18 +255,21 @@ impl<'a> Listing<'a> {
         Ok(())
     }
 
-    /// A comma and a link for each of these resources of an instance that exists.
+    /// A comma and a link for each of these resources of an instance that exists; none past a text that is too long.
     fn put_resources(
         &self,
         text: &mut Vec<u8>,
         place: InstancePath,
         resources: &[ResourceDef],
     ) -> Result<(), AllocError>
-        ensures { OnOk result (let client = self.now.client.now in text.new.items ≡ text.old.items
-            ++ more_links client self.now.server
-            (existing_resources client.catalog client.store place.object place.instance resources.now)) }
+        ensures { OnOk result (let client = self.now.client.now in beginning text.new.items
+            ≡ beginning (text.old.items ++ more_links client self.now.server
+            (existing_resources client.catalog client.store place.object place.instance resources.now))) }
     {
         for definition in resources {
+            if text.len() > LARGEST_PAYLOAD {
+                return Ok(());
+            }
             let path = Path::Resource(place.object, place.instance, definition.id);
             self.put_existing(text, path)?;
         }
@@ -273,26 +278,30 @@ impl<'a> Listing<'a> {
 
     /// A comma and a link for an instance, and for each of its resources that exists.
     fn put_instance(&self, text: &mut Vec<u8>, place: InstancePath) -> Result<(), AllocError>
-        ensures { OnOk result (let client = self.now.client.now in text.new.items ≡ text.old.items
-            ++ more_links client self.now.server
-            (instance_paths client.catalog client.store place.object place.instance)) }
+        ensures { OnOk result (let client = self.now.client.now in beginning text.new.items
+            ≡ beginning (text.old.items ++ more_links client self.now.server
+            (instance_paths client.catalog client.store place.object place.instance))) }
     {
         self.put_next(text, Path::Instance(place.object, place.instance))?;
         self.put_resources(text, place, defined(self.client.catalog(), place.object))
     }
 
-    /// A comma and a link for each of these instances of an object, and for each of its resources.
+    /// A comma and a link for each of these instances of an object, and for each of its resources; none past a text
+    /// that is too long.
     fn put_instances(
         &self,
         text: &mut Vec<u8>,
         object: u16,
         instances: &[u16],
     ) -> Result<(), AllocError>
-        ensures { OnOk result (let client = self.now.client.now in text.new.items ≡ text.old.items
-            ++ more_links client self.now.server
-            (flat_map (instance_paths client.catalog client.store object) instances.now)) }
+        ensures { OnOk result (let client = self.now.client.now in beginning text.new.items
+            ≡ beginning (text.old.items ++ more_links client self.now.server
+            (flat_map (instance_paths client.catalog client.store object) instances.now))) }
     {
         for instance in instances {
+            if text.len() > LARGEST_PAYLOAD {
+                return Ok(());
+            }
             let instance = *instance;
             self.put_instance(text, InstancePath { object, instance })?;
         }
@@ -301,8 +310,9 @@ impl<'a> Listing<'a> {
 
     /// A comma and a link for each path below this one.
     fn put_below(&self, text: &mut Vec<u8>, path: Path) -> Result<(), AllocError>
-        ensures { OnOk result (let client = self.now.client.now in text.new.items ≡ text.old.items
-            ++ more_links client self.now.server (paths_below client.catalog client.store path)) }
+        ensures { OnOk result (let client = self.now.client.now in beginning text.new.items
+            ≡ beginning (text.old.items
+            ++ more_links client self.now.server (paths_below client.catalog client.store path))) }
     {
         match path {
             Path::Object(object) => {
@@ -316,15 +326,19 @@ impl<'a> Listing<'a> {
         }
     }
 
-    /// The links of a path and of what lies below it, joined by commas.
-    fn links(&self, path: Path) -> Result<Bytes, AllocError>
+    /// The links of a path and of what lies below it, joined by commas, where they fit a payload.
+    fn links(&self, path: Path) -> Result<Option<Bytes>, AllocError>
         ensures { IfOk result (λ b. let client = self.now.client.now in
-            b ≡ links_text client self.now.server (linked_paths client.catalog client.store path)) }
+            b ≡ within_limit (links_text client self.now.server (linked_paths client.catalog client.store path))) }
     {
         let mut text = Vec::new(self.alloc);
         self.put_link(&mut text, inherits_at(path), path)?;
         self.put_below(&mut text, path)?;
-        Ok(Bytes::from_vec(text))
+        let payload = Bytes::from_vec(text);
+        if payload.len() > LARGEST_PAYLOAD {
+            return Ok(None);
+        }
+        Ok(Some(payload))
     }
 }
 
@@ -345,10 +359,9 @@ impl Client {
             client: self,
             server,
         };
-        let payload = listing.links(path)?;
-        if payload.len() > LARGEST_PAYLOAD {
-            return Ok(Answer::bare(self.alloc, Code::InternalServerError));
+        match listing.links(path)? {
+            None => Ok(Answer::bare(self.alloc, Code::InternalServerError)),
+            Some(payload) => Ok(Answer::content(LINK_FORMAT, payload)),
         }
-        Ok(Answer::content(LINK_FORMAT, payload))
     }
 }

@@ -1,14 +1,16 @@
 //! A Read: its rules, and the payload that it answers.
 
-ghost use Rattle.std.specs.Prelude.{◌≡◌, ◌≢◌, ℕ, true, IfOk, IfSome, OnErr, Some};
+ghost use Rattle.std.specs.Prelude.{◌≡◌, ◌≢◌, ℕ, false, true, IfOk, IfSome, None, OnErr, Some};
+ghost use Rattle.std.specs.Fmt.{signed_decimal};
 ghost use Rattle.lwm2m_values.specs.Tree.{part, single};
+ghost use Rattle.lwm2m_values.specs.Value.{text_of};
 ghost use Rattle.lwm2m_payloads.specs.declared.format.Format.{Format};
 ghost use Rattle.lwm2m_payloads.specs.Nodes.{value_payload, within_limit};
 ghost use Rattle.device_requests.specs.Access.{shown_instances};
-ghost use Rattle.device_requests.specs.Answer.{takes_memory};
+ghost use Rattle.device_requests.specs.Answer.{content, takes_memory};
 ghost use Rattle.device_requests.specs.Outcomes.{read_answer};
 ghost use Rattle.device_requests.specs.Read.{object_payload, one_payload, payload_in, values_payload};
-ghost use Rattle.device_requests.specs.Refusals.{can_be_read};
+ghost use Rattle.device_requests.specs.Refusals.{can_be_read, is_oversized};
 ghost use Rattle.device_requests.specs.Targets.{definition_at, exists};
 
 use crate::access::shown_instances;
@@ -32,6 +34,18 @@ fn can_be_read(_catalog: &Catalog, path: Path, definition: Option<ResourceDef>) 
     match path {
         Path::Object(_) | Path::Instance(_, _) => true,
         Path::Resource(_, _, _) | Path::Part(_, _, _, _) => is_readable(definition),
+    }
+}
+
+/// The number that a value is, an Integer or a Time. Its decimal is the plain text of the value, and fits a payload.
+#[tactic(auto, using(crate::proofs::Digits::digits_fit))]
+fn number_of(value: &Value) -> Option<i64>
+    ensures text { IfSome result (λ n. text_of value.now ≡ signed_decimal n) }
+    ensures fits { IfSome result (λ _. is_oversized (text_of value.now) ≡ false) }
+{
+    match value {
+        Value::Whole(number) | Value::Moment(number) => Some(*number),
+        Value::Text(_) | Value::Flag(_) | Value::Opaque(_) | Value::Link(_, _) => None,
     }
 }
 
@@ -137,6 +151,27 @@ impl Client {
                 Some((resource, value))
             }
             Path::Object(_) | Path::Instance(_, _) | Path::Part(_, _, _, _) => None,
+        }
+    }
+
+    /// The number that a Read of a server at a path with no Accept shows, where it is that of a single Integer or Time:
+    /// the answer is then 2.05 with the number's decimal as plain text. `None` says nothing of the answer, which is
+    /// `read`'s. It takes no memory.
+    pub fn number_read(&self, server: u16, path: Path) -> Option<i64>
+        ensures { IfSome result (λ n. read_answer self.now server path None ≡ content 0 (signed_decimal n)) }
+    {
+        let definition = definition_at(&self.catalog, path);
+        let (_, value) = self.single_value(path, definition)?;
+        let number = number_of(value)?;
+        if path.object() == SECURITY
+            || !self.may_read(server, path)
+            || !can_be_read(&self.catalog, path, definition)
+        {
+            return None;
+        }
+        match format_for(path, definition, None) {
+            Some(Format::PlainText) => Some(number),
+            Some(Format::OctetStream | Format::Tlv) | None => None,
         }
     }
 

@@ -10,6 +10,8 @@ pub mod Taken
 pub mod Sums
 pub mod Blocks
 pub mod Ends
+pub mod Queueing
+pub mod Waking
 pub mod Lowest
 pub mod Checked
 pub mod Counted

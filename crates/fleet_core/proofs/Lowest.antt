@@ -1,90 +1,26 @@
 -- The serial run, entry by entry.
-use Rattle.std.proofs.Common.{◌≡◌, ℕ, zero, suc, ◌+◌, ◌*◌, ◌-◌, ◌<◌, ◌≤◌, true, false, ◌⊎◌, inl, inr, List, [], ◌∷◌}
-use Rattle.std.proofs.Common.{◌++◌, length, min, Option, None, Some, slice_get, slice_index, slice_set, refl, sym, ap}
-use Rattle.std.proofs.Common.{subst, ◌∙◌, arith, get_or-set_other}
-use Rattle.std.proofs.lemmas.List.{length-set}
-use Rattle.std.proofs.lemmas.Bool.{cases_lt, ne_eqb, false≢true}
-use Rattle.std.proofs.lemmas.Option.{slice_get_past, slice_get_within}
+use Rattle.std.proofs.Common.{◌≡◌, ℕ, zero, suc, ◌+◌, ◌*◌, ◌-◌, ◌<◌, ◌≤◌, nat_le, not, true, false, ◌⊎◌, inl, inr, List}
+use Rattle.std.proofs.Common.{[], ◌∷◌, ◌++◌, length, Option, None, Some, refl, sym, ap, subst, ◌∙◌, arith}
+use Rattle.std.proofs.lemmas.Bool.{cases_eq, cases_lt, leb-true, ne_eqb, false_from_ne_true, false≢true}
+use Rattle.std.proofs.lemmas.Option.{slice_get_within}
 use Rattle.scenario_image.specs.declared.step.Step.{Step}
 use Rattle.scenario_image.specs.declared.step.Step.TheVariants.{Event, Post, Need}
 use Rattle.scenario_image.specs.Scenario.{Row, Scenario}
 use Rattle.trace_file.specs.declared.entry.Entry.{Entry}
+use Rattle.fleet_core.specs.declared.roster.Roster.{Roster}
 use Rattle.fleet_core.specs.Along.{Along}
 use Rattle.fleet_core.specs.Next.{next_of, may_pass}
-use Rattle.fleet_core.specs.Run.{steps_in, step_in, step_at, made_by, is_post, posts_of, is_enabled, entry_of}
+use Rattle.fleet_core.specs.Run.{step_in, step_at, made_by, is_post, posts_of, is_enabled, entry_of}
 use Rattle.fleet_core.specs.Run.{Fits, IsLowest, IsSerial}
 use Rattle.fleet_core.specs.Board.{FleetModel, with_entry}
-use Rattle.fleet_core.specs.Cursor.{cursor_after, marks_after, marks_with}
+use Rattle.fleet_core.specs.Roster.{IsListedFor, IsQueued, IsBlocked, IsKnown, IsOnTurn, HasWoken, IsPosted}
+use Rattle.fleet_core.specs.Roster.{TurnAfter}
 use Rattle.fleet_core.proofs.Along.{along-append, along_weaker}
 use Rattle.fleet_core.proofs.Posts.{one, made_same, made_other, posts-push, fits_enabled, enabled_fits, blocked_ended}
 use Rattle.fleet_core.proofs.Posts.{pass_same, past_rows}
+use Rattle.fleet_core.proofs.Valid.{one_within}
 
--- ---- the marks
-
--- a lower number at one place makes none higher
-set-below : (xs : List ℕ) (i j y : ℕ) → y ≤ slice_index xs i → slice_index (slice_set xs i y) j ≤ slice_index xs j
-set-below [] i j y h = omega arith
-set-below (z ∷ zs) zero zero y h = h
-set-below (z ∷ zs) zero (suc j) y h = omega arith
-set-below (z ∷ zs) (suc i) zero y h = omega arith
-set-below (z ∷ zs) (suc i) (suc j) y h = set-below zs i j y h
-
-set-own : (xs : List ℕ) (i y : ℕ) → slice_index (slice_set xs i y) i ≤ y
-set-own [] i y = omega arith
-set-own (z ∷ zs) zero y = omega arith
-set-own (z ∷ zs) (suc i) y = set-own zs i y
-
-after_length : (wake : List ℕ) (o : Option Step) → length (marks_after wake o) ≡ length wake
-after_length wake None = refl
-after_length wake (Some (Event event)) = refl
-after_length wake (Some (Post group)) = length-set wake group 65535
-after_length wake (Some (Need group count)) = refl
-
-with_length : (wake : List ℕ) (o : Option Step) (low : ℕ) → length (marks_with wake o low) ≡ length wake
-with_length wake None low = refl
-with_length wake (Some (Event event)) low = refl
-with_length wake (Some (Post group)) low = refl
-with_length wake (Some (Need group count)) low = length-set wake group (min (slice_index wake group) low)
-
-with_below : (wake : List ℕ) (o : Option Step) (low g : ℕ) → slice_index (marks_with wake o low) g ≤ slice_index wake g
-with_below wake None low g = omega arith
-with_below wake (Some (Event event)) low g = omega arith
-with_below wake (Some (Post group)) low g = omega arith
-with_below wake (Some (Need group count)) low g =
-    set-below wake group g (min (slice_index wake group) low) (omega arith)
-
-with_own : (wake : List ℕ) (low g n : ℕ) → slice_index (marks_with wake (Some (Need g n)) low) g ≤ low
-with_own wake low g n = omega (arith, set-own wake g (min (slice_index wake g) low))
-
--- ---- the invariant
-
--- the device can't go, and where it waits for a group, the group's mark is at most at it
-pub record IsBlocked (s : Scenario) (es : List Entry) (wake : List ℕ) (d : ℕ) : Type 0 where
-  pub stands : is_enabled s es d ≡ false
-  pub marked : (g n : ℕ) → step_at s d (made_by d es) ≡ Some (Need g n) → slice_index wake g ≤ d
-
--- the entries so far are always the lowest, and the devices below the cursor are blocked
-pub record IsOnWay (s : Scenario) (low : ℕ) (wake : List ℕ) (v : FleetModel) : Type 0 where
-  pub scenario : v.scenario ≡ s
-  pub ready : v.spent ≡ false
-  pub along : Along (IsLowest s) [] v.entries
-  pub within : low ≤ length s.rows
-  pub groups : length wake ≡ 256
-  pub blocked : (d : ℕ) → d < low → IsBlocked s v.entries wake d
-
-pub sets_out : (s : Scenario) (wake : List ℕ) (v : FleetModel)
-    → v ≡ record { scenario = s; entries = []; spent = false }
-    → length wake ≡ 256 → IsOnWay s 0 wake v
-sets_out s wake v e groups = subst (λ w. IsOnWay s 0 wake w) (sym e)
-    (record {
-      scenario = refl;
-      ready = refl;
-      along = tt;
-      within = omega arith;
-      groups = groups;
-      blocked =
-          λ d h. absurd (omega (arith, h));
-    })
+-- ---- a step of another device
 
 -- a step that is no post to the group that another device waits for lets that device not go
 quiet : (s : Scenario) (es : List Entry) (e : Entry) (d : ℕ)
@@ -98,89 +34,224 @@ quiet s es e d none other was =
     ap (λ k. may_pass (λ g. posts_of s g (es ++ e ∷ [])) (next_of (step_at s d k))) (made_other d es e other)
     ∙ (pass_same (λ g. posts_of s g (es ++ e ∷ [])) (λ g. posts_of s g es) (step_at s d (made_by d es)) posts ∙ was)
 
-keeps : (s : Scenario) (es : List Entry) (e : Entry) (wake marks : List ℕ) (d : ℕ) → IsBlocked s es wake d
+keeps : (s : Scenario) (es : List Entry) (e : Entry) (was more : List (List (ℕ × ℕ))) (d : ℕ) → IsBlocked s es was d
     → (e.device ≡ d → ⊥)
     → ((g n : ℕ) → step_at s d (made_by d es) ≡ Some (Need g n) → is_post g (step_at s e.device e.step) ≡ false)
-    → ((g n : ℕ) → step_at s d (made_by d es) ≡ Some (Need g n) → slice_index marks g ≤ d)
-    → IsBlocked s (es ++ e ∷ []) marks d
-keeps s es e wake marks d was other none marked =
+    → ((g n : ℕ) → step_at s d (made_by d es) ≡ Some (Need g n) → IsListedFor more g d n)
+    → IsBlocked s (es ++ e ∷ []) more d
+keeps s es e was more d blocked other none listed =
     record {
-      stands = quiet s es e d none other was.stands;
-      marked = λ g n at. marked g n (sym (ap (step_at s d) (made_other d es e other)) ∙ at);
+      stands = quiet s es e d none other blocked.stands;
+      listed = λ g n at. listed g n (sym (ap (step_at s d) (made_other d es e other)) ∙ at);
     }
 
--- one that is blocked below the mark of a group waits for no posts to it
-keeps_apart : (s : Scenario) (es : List Entry) (wake : List ℕ) (d group g n : ℕ) → IsBlocked s es wake d
-    → d < slice_index wake group
-    → step_at s d (made_by d es) ≡ Some (Need g n) → group ≡ g → ⊥
-keeps_apart s es wake d group g n was below at q =
-    let m : slice_index wake group ≤ d =
-    subst (λ i. slice_index wake i ≤ d) (sym q) (was.marked g n at) in omega (arith, m, below)
+-- nor does a post to that group, where there still are too few
+unmet : (s : Scenario) (es : List Entry) (e : Entry) (more : List (List (ℕ × ℕ))) (d g n : ℕ)
+    → step_at s d (made_by d es) ≡ Some (Need g n) → (e.device ≡ d → ⊥) → posts_of s g (es ++ e ∷ []) < n
+    → IsListedFor more g d n → IsBlocked s (es ++ e ∷ []) more d
+unmet s es e more d g n at other few listed =
+    let now : step_at s d (made_by d (es ++ e ∷ [])) ≡ Some (Need g n) =
+    ap (step_at s d) (made_other d es e other) ∙ at in
+    record {
+      stands = false_from_ne_true (is_enabled s (es ++ e ∷ []) d)
+          (λ go.
+          let met : nat_le n (posts_of s g (es ++ e ∷ [])) ≡ true =
+          sym (ap (λ o. may_pass (λ h. posts_of s h (es ++ e ∷ [])) (next_of o)) now) ∙ go in
+          omega (arith, leb-true n (posts_of s g (es ++ e ∷ [])) met, few));
+      listed = λ h m is.
+          let same : Some (Need g n) ≡ Some (Need h m) = sym now ∙ is in
+          let group : g ≡ h = cc in
+          let count : n ≡ m = cc in
+          subst (λ i. IsListedFor more i d m) group (subst (λ k. IsListedFor more g d k) count listed);
+    }
 
--- below the cursor after the step the devices are blocked
-still_blocked : (s : Scenario) (es : List Entry) (e : Entry) (wake : List ℕ) (o : Option Step)
-    → step_at s e.device e.step ≡ o
-    → ((d : ℕ) → d < e.device → IsBlocked s es wake d) → (d : ℕ) → d < cursor_after wake o e.device
-    → IsBlocked s (es ++ e ∷ []) (marks_after wake o) d
-still_blocked s es e wake None at blocked d below =
-    keeps s es e wake wake d (blocked d below) (λ h. omega (arith, h, below)) (λ g n h. ap (is_post g) at)
-    (blocked d below).marked
-still_blocked s es e wake (Some (Event event)) at blocked d below =
-    keeps s es e wake wake d (blocked d below) (λ h. omega (arith, h, below)) (λ g n h. ap (is_post g) at)
-    (blocked d below).marked
-still_blocked s es e wake (Some (Post group)) at blocked d below =
-    let early : d < e.device = omega (arith, below) in
-    let first : d < slice_index wake group = omega (arith, below) in
-    let was = blocked d early in
-    keeps s es e wake (slice_set wake group 65535) d was (λ h. omega (arith, h, early))
-    (λ g n h. ap (is_post g) at ∙ ne_eqb group g (keeps_apart s es wake d group g n was first h))
-    (λ g n h. subst (λ x. x ≤ d) (sym (get_or-set_other wake group g 65535 0
-    (λ q. keeps_apart s es wake d group g n was first h (sym q)))) (was.marked g n h))
-still_blocked s es e wake (Some (Need group count)) at blocked d below =
-    keeps s es e wake wake d (blocked d below) (λ h. omega (arith, h, below)) (λ g n h. ap (is_post g) at)
-    (blocked d below).marked
+-- a device that waits for posts to a group, after a post
+after_post : (s : Scenario) (es : List Entry) (e : Entry) (was more : List (List (ℕ × ℕ))) (Q : Type 0) (d g h n : ℕ)
+    → step_at s e.device e.step ≡ Some (Post g) → step_at s d (made_by d es) ≡ Some (Need h n)
+    → (e.device ≡ d → ⊥) → IsBlocked s es was d
+    → ((m : ℕ) → IsListedFor was g d m → Q ⊎ (IsListedFor more g d m × (posts_of s g (es ++ e ∷ []) < m)))
+    → ((i m : ℕ) → (g ≡ i → ⊥) → IsListedFor was i d m → IsListedFor more i d m)
+    → (g ≡ h) ⊎ (g ≡ h → ⊥) → Q ⊎ IsBlocked s (es ++ e ∷ []) more d
+after_post s es e was more Q d g h n post at other blocked own others (inl same) =
+    let here : step_at s d (made_by d es) ≡ Some (Need g n) =
+    subst (λ i. step_at s d (made_by d es) ≡ Some (Need i n)) (sym same) at in
+    elim (own n (blocked.listed g n here)) [
+      | inl q ↦ inl q
+      | inr l ↦ inr (unmet s es e more d g n here other l.1 l.0)
+    ]
+after_post s es e was more Q d g h n post at other blocked own others (inr apart) =
+    let away : (i m : ℕ) → step_at s d (made_by d es) ≡ Some (Need i m) → g ≡ i → ⊥ = λ i m is q.
+    (let e2 : Some (Need h n) ≡ Some (Need i m) = sym at ∙ is in
+    let group : h ≡ i = cc in
+    apart (q ∙ sym group)) in
+    inr (keeps s es e was more d blocked other (λ i m is. ap (is_post i) post ∙ ne_eqb g i (away i m is))
+    (λ i m is. others i m (away i m is) (blocked.listed i m is)))
 
-cursor_within : (wake : List ℕ) (o : Option Step) (low : ℕ) → cursor_after wake o low ≤ low
-cursor_within wake None low = omega arith
-cursor_within wake (Some (Event event)) low = omega arith
-cursor_within wake (Some (Post group)) low = omega arith
-cursor_within wake (Some (Need group count)) low = omega arith
+-- a device that is blocked, after a post
+posted_by : (s : Scenario) (es : List Entry) (e : Entry) (was more : List (List (ℕ × ℕ))) (Q : Type 0) (d g : ℕ)
+    (o : Option Step) → step_at s e.device e.step ≡ Some (Post g) → step_at s d (made_by d es) ≡ o
+    → (e.device ≡ d → ⊥) → IsBlocked s es was d
+    → ((m : ℕ) → IsListedFor was g d m → Q ⊎ (IsListedFor more g d m × (posts_of s g (es ++ e ∷ []) < m)))
+    → ((i m : ℕ) → (g ≡ i → ⊥) → IsListedFor was i d m → IsListedFor more i d m)
+    → Q ⊎ IsBlocked s (es ++ e ∷ []) more d
+posted_by s es e was more Q d g None post at other blocked own others =
+    inr (keeps s es e was more d blocked other
+    (λ i m is. let e2 : None ≡ Some (Need i m) = sym at ∙ is in absurd cc)
+    (λ i m is. let e2 : None ≡ Some (Need i m) = sym at ∙ is in absurd cc))
+posted_by s es e was more Q d g (Some (Event event)) post at other blocked own others =
+    inr (keeps s es e was more d blocked other
+    (λ i m is. let e2 : Some (Event event) ≡ Some (Need i m) = sym at ∙ is in absurd cc)
+    (λ i m is. let e2 : Some (Event event) ≡ Some (Need i m) = sym at ∙ is in absurd cc))
+posted_by s es e was more Q d g (Some (Post group)) post at other blocked own others =
+    inr (keeps s es e was more d blocked other
+    (λ i m is. let e2 : Some (Post group) ≡ Some (Need i m) = sym at ∙ is in absurd cc)
+    (λ i m is. let e2 : Some (Post group) ≡ Some (Need i m) = sym at ∙ is in absurd cc))
+posted_by s es e was more Q d g (Some (Need group count)) post at other blocked own others =
+    after_post s es e was more Q d g group count post at other blocked own others (cases_eq g group)
 
-lowest : (s : Scenario) (es : List Entry) (low : ℕ) → ((d : ℕ) → d < low → is_enabled s es d ≡ false) → (other : Entry)
-    → Fits s es other
-    → (low ≤ other.device) ⊎ (other.device < low) → low ≤ other.device
-lowest s es low blocked other fits (inl h) = h
-lowest s es low blocked other fits (inr h) =
-    absurd (false≢true (sym (blocked other.device h) ∙ fits_enabled s es other fits))
+-- ---- whose turn it is
 
-either : (a b : ℕ) → (a < b) ⊎ (b ≤ a) → (b ≤ a) ⊎ (a < b)
-either a b (inl h) = inr h
-either a b (inr h) = inl h
+-- after a step that is no post the device goes on
+quiet_known : (s : Scenario) (es : List Entry) (e : Entry) (r : Roster) (d : ℕ)
+    → ((g : ℕ) → is_post g (step_at s e.device e.step) ≡ false) → (d ≡ e.device → ⊥) → IsKnown s es r d
+    → IsKnown s (es ++ e ∷ []) r d
+quiet_known s es e r d none other (inl h) = inl h
+quiet_known s es e r d none other (inr blocked) =
+    inr (keeps s es e r.waiting.items r.waiting.items d blocked (λ h. other (sym h)) (λ g n at. none g) blocked.listed)
 
--- the device at the cursor goes
-pub goes_on : (s : Scenario) (low next : ℕ) (wake marks : List ℕ) (v new : FleetModel) → IsOnWay s low wake v
-    → true ≡ is_enabled v.scenario v.entries low
-    → next ≡ cursor_after wake (step_at v.scenario low (made_by low v.entries)) low
-    → marks ≡ marks_after wake (step_at v.scenario low (made_by low v.entries))
-    → new ≡ with_entry v 0 low → IsOnWay s next marks new
-goes_on s low next wake marks v new way can at noted is =
+-- it has the turn again
+goes_again : (s : Scenario) (es : List Entry) (e : Entry) (old new : Roster) (next : ℕ)
+    → ((g : ℕ) → is_post g (step_at s e.device e.step) ≡ false) → IsOnTurn s es old e.device
+    → (new ≡ old) × (next ≡ e.device) → IsOnTurn s (es ++ e ∷ []) new next
+goes_again s es e old new next none turn same =
+    subst (λ r. IsOnTurn s (es ++ e ∷ []) r next) (sym same.0)
+    (subst (IsOnTurn s (es ++ e ∷ []) old) (sym same.1)
+    (record {
+      groups = turn.groups;
+      lowest = turn.lowest;
+      others = λ d within other. quiet_known s es e old d none other (turn.others d within other);
+    }))
+
+-- after a post too, where there are too few for each device that waits
+few_known : (s : Scenario) (es : List Entry) (e : Entry) (r : Roster) (d g : ℕ)
+    → step_at s e.device e.step ≡ Some (Post g)
+    → ((i n : ℕ) → IsListedFor r.waiting.items g i n → posts_of s g (es ++ e ∷ []) < n) → (d ≡ e.device → ⊥)
+    → IsKnown s es r d → IsKnown s (es ++ e ∷ []) r d
+few_known s es e r d g post few other (inl h) = inl h
+few_known s es e r d g post few other (inr blocked) =
+    posted_by s es e r.waiting.items r.waiting.items (IsQueued r d) d g (step_at s d (made_by d es)) post refl
+    (λ h. other (sym h)) blocked (λ m listed. inr (listed, few d m listed)) (λ i m apart listed. listed)
+
+goes_few : (s : Scenario) (es : List Entry) (e : Entry) (old new : Roster) (g next : ℕ)
+    → step_at s e.device e.step ≡ Some (Post g) → IsOnTurn s es old e.device
+    → (new ≡ old) × (next ≡ e.device)
+    × ((d n : ℕ) → IsListedFor old.waiting.items g d n → posts_of s g (es ++ e ∷ []) < n)
+    → IsOnTurn s (es ++ e ∷ []) new next
+goes_few s es e old new g next post turn same =
+    subst (λ r. IsOnTurn s (es ++ e ∷ []) r next) (sym same.0)
+    (subst (IsOnTurn s (es ++ e ∷ []) old) (sym same.1)
+    (record {
+      groups = turn.groups;
+      lowest = turn.lowest;
+      others = λ d within other. few_known s es e old d g post same.2 other (turn.others d within other);
+    }))
+
+-- else the lowest of those that it woke is next
+woken_from : (s : Scenario) (es : List Entry) (e : Entry) (old new : Roster) (d g next : ℕ)
+    → step_at s e.device e.step ≡ Some (Post g) → HasWoken old new g (posts_of s g (es ++ e ∷ [])) e.device next
+    → (d ≡ next → ⊥) → (d ≡ e.device → ⊥) → IsKnown s es old d → IsKnown s (es ++ e ∷ []) new d
+woken_from s es e old new d g next post woken ne other (inl h) = inl (woken.kept d ne h)
+woken_from s es e old new d g next post woken ne other (inr blocked) =
+    posted_by s es e old.waiting.items new.waiting.items (IsQueued new d) d g (step_at s d (made_by d es)) post refl
+    (λ h. other (sym h)) blocked (λ m listed. woken.woken d m ne listed)
+    (λ i m apart listed. woken.listed i d m apart listed)
+
+woken_known : (s : Scenario) (es : List Entry) (e : Entry) (old new : Roster) (d g next : ℕ)
+    → step_at s e.device e.step ≡ Some (Post g) → IsOnTurn s es old e.device
+    → HasWoken old new g (posts_of s g (es ++ e ∷ [])) e.device next
+    → d < length s.rows → (d ≡ next → ⊥) → (d ≡ e.device) ⊎ (d ≡ e.device → ⊥) → IsKnown s (es ++ e ∷ []) new d
+woken_known s es e old new d g next post turn woken within ne (inl own) =
+    inl (subst (IsQueued new) (sym own) (woken.last (λ q. ne (own ∙ q))))
+woken_known s es e old new d g next post turn woken within ne (inr other) =
+    woken_from s es e old new d g next post woken ne other (turn.others d within other)
+
+goes_woken : (s : Scenario) (es : List Entry) (e : Entry) (old new : Roster) (g next : ℕ)
+    → step_at s e.device e.step ≡ Some (Post g) → IsOnTurn s es old e.device
+    → HasWoken old new g (posts_of s g (es ++ e ∷ [])) e.device next
+    → IsOnTurn s (es ++ e ∷ []) new next
+goes_woken s es e old new g next post turn woken = record {
+  groups = woken.groups ∙ turn.groups;
+  lowest = woken.lowest;
+  others = λ d within ne.
+      woken_known s es e old new d g next post turn woken within ne (cases_eq d e.device);
+}
+
+goes_posted : (s : Scenario) (es : List Entry) (e : Entry) (old new : Roster) (g next : ℕ)
+    → step_at s e.device e.step ≡ Some (Post g) → IsOnTurn s es old e.device
+    → IsPosted old new g (posts_of s g (es ++ e ∷ [])) e.device next → IsOnTurn s (es ++ e ∷ []) new next
+goes_posted s es e old new g next post turn (inl few) = goes_few s es e old new g next post turn few
+goes_posted s es e old new g next post turn (inr woken) = goes_woken s es e old new g next post turn woken
+
+-- the device has made a step
+turn_goes : (s : Scenario) (es : List Entry) (e : Entry) (old new : Roster) (next : ℕ) (o : Option Step)
+    → step_at s e.device e.step ≡ o → IsOnTurn s es old e.device
+    → TurnAfter old new o (λ g. posts_of s g (es ++ e ∷ [])) e.device next → IsOnTurn s (es ++ e ∷ []) new next
+turn_goes s es e old new next None at turn same =
+    goes_again s es e old new next (λ g. ap (is_post g) at) turn same
+turn_goes s es e old new next (Some (Event event)) at turn same =
+    goes_again s es e old new next (λ g. ap (is_post g) at) turn same
+turn_goes s es e old new next (Some (Post group)) at turn after = goes_posted s es e old new group next at turn after
+turn_goes s es e old new next (Some (Need group count)) at turn same =
+    goes_again s es e old new next (λ g. ap (is_post g) at) turn same
+
+-- ---- the invariant
+
+-- the entries so far are always the lowest, and it is the turn of this device
+pub record IsOnWay (s : Scenario) (low : ℕ) (r : Roster) (v : FleetModel) : Type 0 where
+  pub scenario : v.scenario ≡ s
+  pub ready : v.spent ≡ false
+  pub along : Along (IsLowest s) [] v.entries
+  pub turn : IsOnTurn s v.entries r low
+
+pub sets_out : (s : Scenario) (r : Roster) (v : FleetModel)
+    → v ≡ record { scenario = s; entries = []; spent = false } → IsOnTurn s [] r 0 → IsOnWay s 0 r v
+sets_out s r v is turn = subst (λ w. IsOnWay s 0 r w) (sym is)
+    (record { scenario = refl; ready = refl; along = tt; turn = turn })
+
+not_lower : (s : Scenario) (es : List Entry) (r : Roster) (low : ℕ) (other : Entry) → Fits s es other
+    → other.device < low → IsOnTurn s es r low → IsKnown s es r other.device → ⊥
+not_lower s es r low other fits less turn (inl h) = omega (arith, turn.lowest other.device h, less)
+not_lower s es r low other fits less turn (inr blocked) =
+    false≢true (sym blocked.stands ∙ fits_enabled s es other fits)
+
+lowest_in : (s : Scenario) (es : List Entry) (r : Roster) (low : ℕ) (other : Entry) → IsOnTurn s es r low
+    → Fits s es other → other.device < low → (other.device < length s.rows) ⊎ (length s.rows ≤ other.device) → ⊥
+lowest_in s es r low other turn fits less (inl within) =
+    not_lower s es r low other fits less turn (turn.others other.device within (λ q. omega (arith, q, less)))
+lowest_in s es r low other turn fits less (inr past) =
+    false≢true (sym (past_rows s es other.device past) ∙ fits_enabled s es other fits)
+
+lowest : (s : Scenario) (es : List Entry) (r : Roster) (low : ℕ) (other : Entry) → IsOnTurn s es r low
+    → Fits s es other → (other.device < low) ⊎ (low ≤ other.device) → low ≤ other.device
+lowest s es r low other turn fits (inl less) =
+    absurd (lowest_in s es r low other turn fits less (cases_lt other.device (length s.rows)))
+lowest s es r low other turn fits (inr h) = h
+
+-- the device whose turn it is goes
+pub goes_on : (s : Scenario) (low next : ℕ) (old r : Roster) (v new : FleetModel) (o : Option Step)
+    → IsOnWay s low old v → true ≡ is_enabled v.scenario v.entries low
+    → o ≡ step_at v.scenario low (made_by low v.entries) → new ≡ with_entry v 0 low
+    → TurnAfter old r o (λ g. posts_of new.scenario g new.entries) low next → IsOnWay s next r new
+goes_on s low next old r v new o way can at is after =
     let go : is_enabled s v.entries low ≡ true = ap (λ t. is_enabled t v.entries low) (sym way.scenario) ∙ sym can in
-    let step : next ≡ cursor_after wake (step_at s low (made_by low v.entries)) low =
-    at ∙ ap (λ t. cursor_after wake (step_at t low (made_by low v.entries)) low) way.scenario in
-    let then : marks ≡ marks_after wake (step_at s low (made_by low v.entries)) =
-    noted ∙ ap (λ t. marks_after wake (step_at t low (made_by low v.entries))) way.scenario in
+    let step : step_at s low (made_by low v.entries) ≡ o =
+    sym (at ∙ ap (λ t. step_at t low (made_by low v.entries)) way.scenario) in
     let more : new ≡ record { scenario = s; entries = v.entries ++ entry_of s 0 low v.entries ∷ []; spent = false } =
     is ∙ ap (λ t. record { scenario = t; entries = v.entries ++ entry_of t 0 low v.entries ∷ []; spent = false })
     way.scenario in
-    subst (λ w. IsOnWay s next marks w) (sym more)
-    (subst (λ n. IsOnWay s n marks (record {
-      scenario = s;
-      entries =
-          v.entries ++ entry_of s 0 low v.entries ∷ [];
-      spent = false;
-    })) (sym step)
-    (subst (λ m. IsOnWay s (cursor_after wake (step_at s low (made_by low v.entries)) low) m
-    (record { scenario = s; entries = v.entries ++ entry_of s 0 low v.entries ∷ []; spent = false })) (sym then)
+    let then : TurnAfter old r o (λ g. posts_of s g (v.entries ++ entry_of s 0 low v.entries ∷ [])) low next =
+    subst (λ w. TurnAfter old r o (λ g. posts_of w.scenario g w.entries) low next) more after in
+    subst (λ w. IsOnWay s next r w) (sym more)
     (record {
       scenario = refl;
       ready = refl;
@@ -188,72 +259,32 @@ goes_on s low next wake marks v new way can at noted is =
         (record {
           fits = enabled_fits s v.entries 0 low go;
           worker = refl;
-          lowest = λ other fits. lowest s v.entries low (λ d h. (way.blocked d h).stands) other fits
-              (either other.device low (cases_lt other.device low));
+          lowest = λ other fits. lowest s v.entries old low other way.turn fits (cases_lt other.device low);
         }),
         tt,
       );
-      within = omega (arith, way.within, cursor_within wake (step_at s low (made_by low v.entries)) low);
-      groups = after_length wake (step_at s low (made_by low v.entries)) ∙ way.groups;
-      blocked = λ d below. still_blocked s v.entries (entry_of s 0 low v.entries) wake
-          (step_at s low (made_by low v.entries)) refl way.blocked d below;
-    })))
+      turn = turn_goes s v.entries (entry_of s 0 low v.entries) old r next o step way.turn then;
+    })
 
-here_marked : (s : Scenario) (es : List Entry) (wake : List ℕ) (low g n : ℕ)
-    → step_at s low (made_by low es) ≡ Some (Need g n)
-    → slice_index (marks_with wake (step_at s low (made_by low es)) low) g ≤ low
-here_marked s es wake low g n at =
-    subst (λ o. slice_index (marks_with wake o low) g ≤ low) (sym at) (with_own wake low g n)
-
-below_more : (s : Scenario) (es : List Entry) (wake : List ℕ) (low d : ℕ) → ((d : ℕ) → d < low → IsBlocked s es wake d)
-    → is_enabled s es low ≡ false
-    → (d < low) ⊎ (low ≤ d) → d < low + 1 → IsBlocked s es (marks_with wake (step_at s low (made_by low es)) low) d
-below_more s es wake low d blocked here (inl h) within =
+-- the device whose turn it is can't go, and it is the turn of another
+pub passes_on : (s : Scenario) (low next : ℕ) (old r : Roster) (v : FleetModel) → IsOnWay s low old v
+    → IsOnTurn v.scenario v.entries r next → IsOnWay s next r v
+passes_on s low next old r v way turn =
     record {
-      stands = (blocked d h).stands;
-      marked = λ g n at. omega (
-        arith,
-        with_below wake (step_at s low (made_by low es)) low g,
-        (blocked d h).marked g n at,
-      );
-    }
-below_more s es wake low d blocked here (inr h) within =
-    subst (λ i. IsBlocked s es (marks_with wake (step_at s low (made_by low es)) low) i) (omega (arith, h, within))
-    (record { stands = here; marked = λ g n at. here_marked s es wake low g n at })
-
--- the device at the cursor can't go
-pub passes_on : (s : Scenario) (low : ℕ) (wake marks : List ℕ) (v : FleetModel) → IsOnWay s low wake v
-    → false ≡ is_enabled v.scenario v.entries low
-    → marks ≡ marks_with wake (step_at v.scenario low (made_by low v.entries)) low → low < length s.rows
-    → IsOnWay s (low + 1) marks v
-passes_on s low wake marks v way can noted room =
-    let here : is_enabled s v.entries low ≡ false = ap (λ t. is_enabled t v.entries low) (sym way.scenario) ∙ sym can in
-    let then : marks ≡ marks_with wake (step_at s low (made_by low v.entries)) low =
-    noted ∙ ap (λ t. marks_with wake (step_at t low (made_by low v.entries)) low) way.scenario in
-    subst (λ m. IsOnWay s (low + 1) m v) (sym then)
-    (record {
       scenario = way.scenario;
       ready = way.ready;
       along = way.along;
-      within = omega (arith, room);
-      groups = with_length wake (step_at s low (made_by low v.entries)) low ∙ way.groups;
-      blocked = λ d h. below_more s v.entries wake low d way.blocked here (cases_lt d low) h;
-    })
+      turn = subst (λ t. IsOnTurn t v.entries r next) way.scenario turn;
+    }
 
-all_blocked : (s : Scenario) (es : List Entry) (low d : ℕ) → ((d : ℕ) → d < low → is_enabled s es d ≡ false)
-    → length s.rows ≤ low → (d < low) ⊎ (low ≤ d) → is_enabled s es d ≡ false
-all_blocked s es low d blocked past (inl h) = blocked d h
-all_blocked s es low d blocked past (inr h) = past_rows s es d (omega (arith, past, h))
-
--- the cursor is past the last device
-pub arrives : (s : Scenario) (low : ℕ) (wake : List ℕ) (v : FleetModel) → IsOnWay s low wake v → length s.rows ≤ low
-    → IsSerial s v.entries
-arrives s low wake v way past =
+-- no device can go
+pub arrives : (s : Scenario) (low : ℕ) (r : Roster) (v : FleetModel) → IsOnWay s low r v
+    → ((d : ℕ) → is_enabled v.scenario v.entries d ≡ false) → IsSerial s v.entries
+arrives s low r v way none =
     record {
       complete = record {
         run = record { along = along_weaker (IsLowest s) (Fits s) (λ b e h. h.fits) [] v.entries way.along };
-        ended = blocked_ended s v.entries (λ d. all_blocked s v.entries low d (λ i h. (way.blocked i h).stands) past
-            (cases_lt d low));
+        ended = blocked_ended s v.entries (subst (λ t. (d : ℕ) → is_enabled t v.entries d ≡ false) way.scenario none);
       };
       along = way.along;
     }
@@ -282,23 +313,23 @@ left-next m n (r ∷ rs) (suc d) step at here others =
     (λ i h. others (suc i) (λ q. h (omega (arith, q)))) in
     omega (arith, e, f)
 
--- how far the serial run is from its end
+-- how far the serial run is from its end: the steps that are left, and whether one can be made in this turn
 abbrev pub distance : Scenario → ℕ → FleetModel → ℕ
-distance s low v = left (λ d. made_by d v.entries) s.rows * (length s.rows + 1) + (length s.rows - low)
+distance s low v =
+    2 * left (λ d. made_by d v.entries) s.rows + one (not (is_enabled v.scenario v.entries low))
 
-less : (a b r low next : ℕ) → a ≡ suc b → low < r → b * (r + 1) + (r - next) < a * (r + 1) + (r - low)
-less a b r low next h within = let e : a * (r + 1) ≡ suc b * (r + 1) = ap (λ n. n * (r + 1)) h in omega (arith, e)
-
--- a fleet that has passed a device, and is as it was, is nearer to the end
-pub goes_along : (s : Scenario) (low : ℕ) (v new : FleetModel) → new ≡ v → low < length s.rows
-    → distance s (low + 1) new < distance s low v
-goes_along s low v new same within =
-    subst (λ w. distance s (low + 1) w < distance s low v) (sym same) (omega (arith, within))
+-- a turn of a device that can go comes after one of a device that can't
+pub goes_along : (s : Scenario) (low next : ℕ) (v new : FleetModel) → new ≡ v
+    → is_enabled v.scenario v.entries low ≡ false → is_enabled new.scenario new.entries next ≡ true
+    → distance s next new < distance s low v
+goes_along s low next v new same blocked can =
+    subst (λ w. is_enabled w.scenario w.entries next ≡ true → distance s next w < distance s low v) (sym same)
+    (λ go. omega (arith, ap (λ b. one (not b)) blocked, ap (λ b. one (not b)) go)) can
 
 pub goes_down : (s : Scenario) (low next : ℕ) (v new : FleetModel) → v.scenario ≡ s
-    → true ≡ is_enabled v.scenario v.entries low → new ≡ with_entry v 0 low → low < length s.rows
+    → true ≡ is_enabled v.scenario v.entries low → new ≡ with_entry v 0 low
     → distance s next new < distance s low v
-goes_down s low next v new scenario can is within =
+goes_down s low next v new scenario can is =
     let go : is_enabled s v.entries low ≡ true = ap (λ t. is_enabled t v.entries low) (sym scenario) ∙ sym can in
     let fits = enabled_fits s v.entries 0 low go in
     let more : new.entries ≡ v.entries ++ entry_of s 0 low v.entries ∷ [] =
@@ -307,5 +338,4 @@ goes_down s low next v new scenario can is within =
     left-next (λ d. made_by d v.entries) (λ d. made_by d new.entries) s.rows low fits.step fits.stands
     (ap (made_by low) more ∙ made_same low v.entries (entry_of s 0 low v.entries) refl)
     (λ i h. ap (made_by i) more ∙ made_other i v.entries (entry_of s 0 low v.entries) h) in
-    less (left (λ d. made_by d v.entries) s.rows) (left (λ d. made_by d new.entries) s.rows)
-    (length s.rows) low next down within
+    omega (arith, down, one_within (not (is_enabled new.scenario new.entries next)))

@@ -10,7 +10,7 @@ use Rattle.scenario_image.specs.declared.step.Step.TheVariants.{Event, Post, Nee
 use Rattle.scenario_image.specs.Scenario.{Row, Scenario}
 use Rattle.trace_file.specs.declared.entry.Entry.{Entry}
 use Rattle.fleet_core.specs.Next.{next_of, may_pass}
-use Rattle.fleet_core.specs.Run.{steps_in, step_in, step_at, out_at, made_by, posts_to, is_post, posts_of, IsMet}
+use Rattle.fleet_core.specs.Run.{steps_in, step_in, step_at, made_by, posts_to, is_post, posts_of, IsMet}
 use Rattle.fleet_core.specs.Run.{Fits, IsRun, IsComplete, is_enabled, entry_of, CanGo}
 use Rattle.fleet_core.proofs.Along.{along-append, along-left, along-right, along_keeps}
 
@@ -181,12 +181,6 @@ pub past_rows : (s : Scenario) (es : List Entry) (d : ℕ) → length s.rows ≤
 past_rows s es d past =
     ap (λ o. may_pass (λ g. posts_of s g es) (next_of (slice_get (steps_in o) (made_by d es))))
     (slice_get_past s.rows d past)
-
--- an entry that may come next is the device's next entry
-pub fits_is : (s : Scenario) (es : List Entry) (e : Entry) → Fits s es e → entry_of s e.worker e.device es ≡ e
-fits_is s es e fits =
-    ap (λ k. record { worker = e.worker; device = e.device; step = k; outputs = out_at s e.device k }) (sym fits.count)
-    ∙ ap (λ o. record { worker = e.worker; device = e.device; step = e.step; outputs = o }) (sym fits.outputs)
 
 pub ended_blocked : (s : Scenario) (es : List Entry) → IsComplete s es → (d : ℕ) → is_enabled s es d ≡ false
 ended_blocked s es complete d =

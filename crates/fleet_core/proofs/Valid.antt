@@ -121,7 +121,7 @@ state-more (x ∷ xs) (suc k) step f at = state-more xs k step (step_after f x) 
 
 -- ---- posts
 
-one_within : (b : Bool) → one b ≤ 1
+pub one_within : (b : Bool) → one b ≤ 1
 one_within true = omega arith
 one_within false = omega arith
 

@@ -11,7 +11,8 @@ use Rattle.scenario_image.specs.Play.{start, state_at, IsRowOf}
 use Rattle.trace_file.specs.declared.entry.Entry.{Entry}
 use Rattle.fleet_core.specs.Run.{made_by, posts_of, step_at, entry_of, Fits, IsRun}
 
--- what contracts see of a fleet: the scenario, the entries, and whether a lack of memory has spent it
+-- what contracts see of a fleet: the scenario, the entries, and whether a lack of memory has spent it. So of a replay,
+-- which an entry that does not follow may spend too
 pub record FleetModel : Type 0 where
   pub scenario : Scenario
   pub entries : List Entry

@@ -3,7 +3,9 @@ pub mod Next
 pub mod Run
 pub mod Board
 pub mod Held
-pub mod Cursor
+pub mod Past
+pub mod Queue
+pub mod Roster
 pub mod Blocks
 pub mod Verdict
 pub mod Waiting

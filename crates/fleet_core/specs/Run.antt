@@ -1,5 +1,5 @@
 -- The runs of a scenario, as lists of entries.
-use Rattle.std.specs.Prelude.{◌≡◌, ℕ, ◌≤◌, ◌==◌, Bool, true, false, List, [], map, filter, count_by, Option}
+use Rattle.std.specs.Prelude.{◌≡◌, ℕ, ◌≤◌, ◌==◌, Bool, false, List, [], map, filter, count_by, Option}
 use Rattle.std.specs.Prelude.{None, Some, slice_get}
 use Rattle.device_template.specs.Template.{Template}
 use Rattle.device_machine.specs.declared.output.Output.{Output}

@@ -1,9 +1,9 @@
 //! What is held of a device: its class alone before its first step, and nothing after its last one.
 
-ghost use Rattle.std.specs.Prelude.{◌≡◌, ℕ, ◌+◌, ◌<◌, List, [], false, Some, length, IfOk, OnOk};
+ghost use Rattle.std.specs.Prelude.{◌≡◌, ℕ, ◌+◌, ◌<◌, List, [], false, Some, IsSome, length, IfOk, OnOk};
 ghost use Rattle.std.specs.Option.{option_copied};
 ghost use Rattle.device_template.specs.Template.{Template};
-ghost use Rattle.device_machine.specs.State.{Shows};
+ghost use Rattle.device_machine.specs.State.{Device, Shows};
 ghost use Rattle.scenario_image.specs.declared.step.Step.{Step};
 ghost use Rattle.scenario_image.specs.Scenario.{Scenario};
 ghost use Rattle.scenario_image.specs.Play.{start, IsRowOf};
@@ -89,6 +89,17 @@ impl Held {
     {
         self.state = State::Here(start_of_row(scenario, device)?);
         Ok(())
+    }
+
+    /// The device, if it is here.
+    pub(crate) fn machine(&self) -> Option<&Device>
+        ensures shown { (x : Device) → option_copied result ≡ Some x → x ≡ self.now.shown }
+        ensures here { self.now.fresh ≡ false → self.now.gone ≡ false → IsSome result }
+    {
+        match &self.state {
+            State::Here(machine) => Some(machine),
+            State::Fresh(_) | State::Gone(_) => None,
+        }
     }
 
     /// Lets go of the device's memory, once, after its last step.

@@ -7,10 +7,15 @@ mod fleet;
 mod held;
 mod laws;
 mod next;
+mod past;
 mod performing;
+mod queue;
+mod replay;
+mod roster;
 mod same;
 mod serial;
 mod verdict;
+mod waiters;
 mod waiting;
 
 pub use checking::check;
@@ -23,6 +28,7 @@ pub use laws::{
 };
 pub use next::{Next, may_pass, next_of};
 pub use performing::{make_step, note_post, start_devices, start_of_row, step_of};
+pub use replay::Replay;
 pub use serial::run_serial;
 pub use trace_file::{Entries, Entry, WriteFault, read_entries, write_entries};
 pub use verdict::Verdict;

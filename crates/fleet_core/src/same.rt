@@ -37,12 +37,9 @@ fn same_outputs(a: &[Output], b: &[Output]) -> bool
     true
 }
 
-/// Whether two entries are the same.
-pub(crate) fn same_entry(a: &Entry, b: &Entry) -> bool
-    ensures { IsTrue result ↔ (a.now ≡ b.now) }
+/// Whether the entry is of the step of this number, with these outputs.
+pub(crate) fn is_entry_of(entry: &Entry, place: u32, outputs: &[Output]) -> bool
+    ensures { IsTrue result ↔ ((entry.now.step ≡ place) × (entry.now.outputs ≡ outputs.now)) }
 {
-    a.worker == b.worker
-        && a.device == b.device
-        && a.step == b.step
-        && same_outputs(a.outputs.as_slice(), b.outputs.as_slice())
+    entry.step == place && same_outputs(entry.outputs.as_slice(), outputs)
 }

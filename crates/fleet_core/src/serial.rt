@@ -1,68 +1,34 @@
 //! The serial run.
 
-ghost use Rattle.std.specs.Prelude.{◌≡◌, ℕ, ◌++◌, ◌∷◌, List, length, true, false, IfOk, OnOk};
-ghost use Rattle.std.specs.Option.{option_copied};
+ghost use Rattle.std.specs.Prelude.{ℕ, List, IfOk};
 ghost use Rattle.trace_file.specs.declared.entry.Entry.{Entry};
 ghost use Rattle.fleet_core.specs.Run.{IsComplete, IsSerial, IsSame};
-ghost use Rattle.fleet_core.specs.Cursor.{cursor_after, marks_after, marks_with};
 
 use crate::fleet::Fleet;
-use scenario_image::{Scenario, Step};
+use crate::roster::{Roster, next_turn, turn_after};
+use scenario_image::Scenario;
 use std::alloc::{AllocError, Global};
 use trace_file::Entries;
 
-/// The cursor after a step of the device at it. A post may enable a device that waits for its group, so the cursor
-/// returns to the group's mark, which is removed. No other step enables one.
-fn cursor_after(wake: &mut Vec<u16>, step: Option<&Step>, low: u16) -> u16
-    requires groups { length wake.old.items ≡ 256 }
-    ensures cursor { result ≡ cursor_after wake.old.items (option_copied step.entry) low }
-    ensures marks { wake.new.items ≡ marks_after wake.old.items (option_copied step.entry) }
-{
-    match step {
-        Some(Step::Post(group)) => {
-            let at = usize::from(*group);
-            let first = wake[at];
-            wake[at] = u16::MAX;
-            low.min(first)
-        }
-        None | Some(Step::Event(_) | Step::Need(_, _)) => low,
-    }
-}
-
-/// Marks the group that the device at the cursor waits for, if it waits for one.
-fn mark(wake: &mut Vec<u16>, step: Option<&Step>, low: u16)
-    requires groups { length wake.old.items ≡ 256 }
-    ensures { wake.new.items ≡ marks_with wake.old.items (option_copied step.entry) low }
-{
-    match step {
-        Some(Step::Need(group, _)) => {
-            let at = usize::from(*group);
-            let first = wake[at];
-            wake[at] = first.min(low);
-        }
-        None | Some(Step::Event(_) | Step::Post(_)) => {}
-    }
-}
-
-/// The serial run. A cursor stands at a device below which none can step: if it can step, it does; otherwise the cursor
-/// advances by one. Each group has a mark, at most at the lowest device below the cursor that waits for its posts.
+/// The serial run. It is always the turn of the lowest device that is not known to be unable to step: it goes on until
+/// it can't, or until a post wakes a lower one. A device is looked at anew only where a post to its group has woken it.
 fn serial_entries(alloc: Global, scenario: &Scenario) -> Result<Entries, AllocError>
     ensures { IfOk result (λ es. IsSerial scenario.now es) }
 {
-    let rows = scenario.rows();
     let mut fleet = Fleet::with_room(alloc, scenario, scenario.steps())?;
-    let mut wake = vec![in alloc; u16::MAX; 256]?;
+    let mut roster = Roster::new(alloc, scenario)?;
     let mut low = 0u16;
-    'turns: while usize::from(low) < rows {
+    'turns: loop {
         let made = fleet.advance(0, low)?;
         if made.is_none() {
-            mark(&mut wake, fleet.next_step(low), low);
-            low += 1;
+            let Some(next) = next_turn(&fleet, &mut roster, low)? else {
+                return Ok(fleet.into_entries());
+            };
+            low = next;
             continue 'turns;
         }
-        low = cursor_after(&mut wake, made, low);
+        low = turn_after(&fleet, &mut roster, made, low)?;
     }
-    Ok(fleet.into_entries())
 }
 
 /// The serial run of a scenario: always the entry of the lowest device that can step, under worker 0. All complete runs

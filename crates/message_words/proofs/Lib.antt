@@ -1,1 +1,2 @@
 pub mod OneLine
+pub mod Readings

@@ -1,6 +1,6 @@
 -- No part of the words of a message has a control character, since each is made of names, digits and plain characters.
 use Rattle.std.proofs.Common.{◌≡◌, ℕ, ◌/◌, ◌%◌, ◌==◌, nat_le, Bool, true, false, ◌&&◌, ◌||◌, cond, zero, suc}
-use Rattle.std.proofs.Common.{List, [], ◌∷◌, ◌++◌, codes, Option, None, Some, refl, ◌∙◌, arith}
+use Rattle.std.proofs.Common.{List, [], ◌∷◌, ◌++◌, codes, Option, None, Some, Result, Ok, Err, refl, ◌∙◌, arith}
 use Rattle.std.specs.List.{list_all, list_any, flat_map}
 use Rattle.std.specs.Str.{is_utf8}
 use Rattle.std.specs.Fmt.{digits, digits_onto, digit_glyph, decimal}
@@ -14,6 +14,7 @@ use Rattle.coap_codec.specs.declared.kind.Kind.TheVariants.{Con, Non, Ack, Rst}
 use Rattle.coap_codec.specs.declared.fault.CoapFault.{CoapFault}
 use Rattle.coap_codec.specs.declared.fault.CoapFault.TheVariants as faults
 use Rattle.coap_codec.specs.Number.{big_endian}
+use Rattle.coap_codec.specs.Reading.{reading_of}
 use Rattle.scenario_words.specs.HexWord.{digit_of, hex_byte, hex_word}
 use Rattle.scenario_words.specs.Quoted.{is_plain, escaped_byte, quoted_word}
 use Rattle.message_words.specs.Names.{type_name, methods, successes, client_errors, server_errors, formats, name_in}
@@ -21,7 +22,7 @@ use Rattle.message_words.specs.Names.{code_name, behind_space, class_and_detail,
 use Rattle.message_words.specs.Options.{is_unescaped, uri_byte, uri_text, is_recognized, segment_text, plain_option}
 use Rattle.message_words.specs.Options.{option_text, options_text, format_in}
 use Rattle.message_words.specs.Text.{IsOneLine, token_text, payload_text, formatted_payload, content_text, message_text}
-use Rattle.message_words.specs.Text.{fault_reason, no_message}
+use Rattle.message_words.specs.Text.{fault_reason, reading_text}
 
 -- the text has no control character
 abbrev pub clean : List ℕ → Bool
@@ -239,6 +240,10 @@ reason_line faults.Memory = wrap _ refl
 pub message_said : (text : List ℕ) (m : Message) → text ≡ message_text m → IsOneLine text
 message_said text m e = rw e (message_line m).all
 
--- what was written is that there is no message
-pub fault_said : (text : List ℕ) (fault : CoapFault) → text ≡ no_message fault → IsOneLine text
-fault_said text fault e = rw e (then (wrap (codes "no message: ") refl) (reason_line fault)).all
+pub reading_line : (r : Result Message CoapFault) → IsClean (reading_text r)
+reading_line (Ok m) = message_line m
+reading_line (Err fault) = then (wrap (codes "no message: ") refl) (reason_line fault)
+
+-- what was written is what a datagram says
+pub datagram_said : (text : List ℕ) (bytes : List ℕ) → text ≡ reading_text (reading_of bytes) → IsOneLine text
+datagram_said text bytes e = rw e (reading_line (reading_of bytes)).all

@@ -2,10 +2,12 @@
 #![tactic(auto)]
 
 mod names;
+mod numbers;
 mod options;
 mod payload;
 mod text;
 mod uri;
 
 pub use names::{class_and_detail, format_name};
-pub use text::{datagram_text, fault_reason, message_text};
+pub use numbers::put_decimal;
+pub use text::{datagram_text, fault_reason, message_text, put_datagram};

@@ -4,6 +4,7 @@ ghost use Rattle.std.specs.String.{string_bytes};
 ghost use Rattle.message_words.specs.Names.{class_and_detail, client_errors, code_name, code_text, format_text};
 ghost use Rattle.message_words.specs.Names.{formats, type_name, methods, name_in, server_errors, successes};
 
+use crate::numbers::{put_decimal, put_digit};
 use coap_codec::Kind;
 use std::alloc::{AllocError, Global};
 
@@ -98,10 +99,10 @@ fn code_name(code: u8) -> Option<&'static str>
 fn put_class_and_detail(out: &mut String, code: u8) -> Result<(), AllocError>
     ensures { OnOk result (string_bytes out.new ≡ string_bytes out.old ++ class_and_detail code) }
 {
-    let class = code / 32;
-    let tens = code % 32 / 10;
-    let ones = code % 32 % 10;
-    write!(out, "{class}.{tens}{ones}")
+    put_digit(out, code / 32)?;
+    out.push('.')?;
+    put_digit(out, code % 32 / 10)?;
+    put_digit(out, code % 32 % 10)
 }
 
 /// A code as class and detail, as `4.04`.
@@ -151,6 +152,6 @@ pub(crate) fn put_format(out: &mut String, format: u32) -> Result<(), AllocError
 {
     match format_name(format) {
         Some(name) => out.push_str(name),
-        None => write!(out, "{format}"),
+        None => put_decimal(out, format as usize),
     }
 }

@@ -8,6 +8,7 @@ ghost use Rattle.message_words.specs.Names.{format_text};
 ghost use Rattle.std.specs.Fmt.{decimal};
 
 use crate::names::put_format;
+use crate::numbers::put_decimal;
 use crate::uri::put_uri_text;
 use coap_codec::option_number::{
     ACCEPT, CONTENT_FORMAT, LOCATION_PATH, OBSERVE, URI_PATH, URI_QUERY,
@@ -62,7 +63,8 @@ fn put_query(alloc: Global, out: &mut String, query: &[u8]) -> Result<(), AllocE
 fn put_observe(out: &mut String, value: u32) -> Result<(), AllocError>
     ensures { OnOk result (string_bytes out.new ≡ string_bytes out.old ++ (codes ", observe " ++ decimal value)) }
 {
-    write!(out, ", observe {value}")
+    out.push_str(", observe ")?;
+    put_decimal(out, value as usize)
 }
 
 fn put_accept(out: &mut String, format: u32) -> Result<(), AllocError>
@@ -76,9 +78,11 @@ fn put_accept(out: &mut String, format: u32) -> Result<(), AllocError>
 fn put_plain_option(alloc: Global, out: &mut String, option: &Opt) -> Result<(), AllocError>
     ensures { OnOk result (string_bytes out.new ≡ string_bytes out.old ++ plain_option option.now) }
 {
-    let number = option.number;
     let value = hex_word(alloc, option.value.as_slice())?;
-    write!(out, ", option {number} {value}")
+    out.push_str(", option ")?;
+    put_decimal(out, usize::from(option.number))?;
+    out.push(' ')?;
+    out.push_str(value.as_str())
 }
 
 /// Writes an option that stands after one of the number `before`.

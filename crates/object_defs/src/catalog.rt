@@ -63,15 +63,24 @@ impl Catalog {
     pub fn object(&self, id: u16) -> Option<&ObjectDef>
         ensures { option_copied result ≡ object_of self.now id }
     {
-        self.objects.iter().find(|o| o.id == id)
+        // Its index is its number where no lower number is left out.
+        match self.objects.get(usize::from(id)) {
+            Some(object) if object.id == id => Some(object),
+            _ => self.objects.iter().find(|o| o.id == id),
+        }
     }
 
     /// The definition of a resource of an object.
     pub fn resource(&self, object: u16, id: u16) -> Option<&ResourceDef>
         ensures { option_copied result ≡ definition_of self.now object id }
     {
+        // For the proof alone: resources stand by ascending number too.
+        let _known = &self.objects;
         let found = self.object(object)?;
-        found.resource(id)
+        match found.resources.as_slice().get(usize::from(id)) {
+            Some(resource) if resource.id == id => Some(resource),
+            _ => found.resource(id),
+        }
     }
 
     /// A copy, which equals its source.

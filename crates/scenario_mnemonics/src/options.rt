@@ -13,6 +13,7 @@ use crate::action::Action;
 use crate::format::Format;
 use coap_codec::option_number::{ACCEPT, CONTENT_FORMAT, OBSERVE, URI_PATH, URI_QUERY};
 use coap_codec::{Opt, Options, uint_bytes};
+use itoa::Buffer;
 use object_defs::Path;
 use octets::Bytes;
 use std::alloc::{AllocError, Global};
@@ -38,8 +39,8 @@ fn put_segment(alloc: Global, options: &mut Options, number: u16) -> Result<(), 
     ensures put { OnOk result (options.new ≡ options.old ++ options_with uri_path_option (decimal number ∷ [])) }
     ensures small { number < 65536 }
 {
-    let text = format!(in alloc; "{number}")?;
-    let value = Bytes::from_slice(alloc, text.as_bytes())?;
+    let mut digits = Buffer::new();
+    let value = Bytes::from_slice(alloc, digits.format(number).as_bytes())?;
     options.push(Opt {
         number: URI_PATH,
         value,

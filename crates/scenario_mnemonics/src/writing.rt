@@ -15,7 +15,8 @@ use crate::action::Action;
 use crate::format::Format;
 use crate::mnemonic::{Mnemonic, Request};
 use crate::request_type::RequestType;
-use object_defs::{Path, path_text};
+use itoa::Buffer;
+use object_defs::Path;
 use octets::Bytes;
 use scenario_words::hex_word;
 use std::alloc::{AllocError, Global};
@@ -51,21 +52,51 @@ fn put_word(out: &mut String, word: &str) -> Result<(), AllocError>
 fn put_number(out: &mut String, number: u16) -> Result<(), AllocError>
     ensures { OnOk result (string_bytes out.new ≡ string_bytes out.old ++ spaced_words (decimal number ∷ [])) }
 {
-    write!(out, " {number}")
+    let mut digits = Buffer::new();
+    put_word(out, digits.format(number))
 }
 
 fn put_hex(alloc: Global, out: &mut String, bytes: &Bytes) -> Result<(), AllocError>
     ensures { OnOk result (string_bytes out.new ≡ string_bytes out.old ++ spaced_words (hex_word bytes.now ∷ [])) }
 {
+    if bytes.is_empty() {
+        return put_word(out, "-");
+    }
     let word = hex_word(alloc, bytes.as_slice())?;
     put_word(out, word.as_str())
 }
 
-fn put_path(alloc: Global, out: &mut String, path: Path) -> Result<(), AllocError>
+/// Writes a slash and a number of a path.
+fn put_segment(out: &mut String, number: u16) -> Result<(), AllocError>
+    ensures { OnOk result (string_bytes out.new ≡ string_bytes out.old ++ 47 ∷ decimal number) }
+{
+    let mut digits = Buffer::new();
+    out.push('/')?;
+    out.push_str(digits.format(number))
+}
+
+fn put_path(out: &mut String, path: Path) -> Result<(), AllocError>
     ensures { OnOk result (string_bytes out.new ≡ string_bytes out.old ++ spaced_words (path_text path ∷ [])) }
 {
-    let word = path_text(alloc, path)?;
-    put_word(out, word.as_str())
+    out.push(' ')?;
+    match path {
+        Path::Object(object) => put_segment(out, object),
+        Path::Instance(object, instance) => {
+            put_segment(out, object)?;
+            put_segment(out, instance)
+        }
+        Path::Resource(object, instance, resource) => {
+            put_segment(out, object)?;
+            put_segment(out, instance)?;
+            put_segment(out, resource)
+        }
+        Path::Part(object, instance, resource, part) => {
+            put_segment(out, object)?;
+            put_segment(out, instance)?;
+            put_segment(out, resource)?;
+            put_segment(out, part)
+        }
+    }
 }
 
 /// Writes a space and a query's bytes, which are ASCII.
@@ -119,7 +150,7 @@ fn put_request(alloc: Global, out: &mut String, request: &Request) -> Result<(),
     put_word(out, type_word(request.kind))?;
     put_number(out, request.mid)?;
     put_hex(alloc, out, request.token.bytes())?;
-    put_path(alloc, out, request.path)?;
+    put_path(out, request.path)?;
     put_details(alloc, out, &request.action)
 }
 
@@ -140,13 +171,17 @@ fn put_words(
     }
 }
 
+/// How many bytes most mnemonics take at most.
+const USUAL_LEN: usize = 48;
+
 /// A mnemonic that a server sends, as scenario text has it: its words with a space between each two. Bytes are in
 /// upper-case hex, `-` for none, and queries stand in their order.
 #[tactic(auto, using(crate::proofs::Spelling::joined))]
 pub fn spell(alloc: Global, server: u16, mnemonic: &Mnemonic) -> Result<String, AllocError>
     ensures { IfOk result (λ s. string_bytes s ≡ join_with_byte 32 (words_of_mnemonic server mnemonic.now)) }
 {
-    let mut out = String::from_str(alloc, mnemonic.keyword().word())?;
+    let mut out = String::with_capacity(alloc, USUAL_LEN)?;
+    out.push_str(mnemonic.keyword().word())?;
     put_words(alloc, &mut out, server, mnemonic)?;
     Ok(out)
 }

@@ -118,31 +118,37 @@ fn request(alloc: Global, keyword: &[u8], line: &[u8]) -> Result<Statement, Caus
     Ok(Statement::Request { server, mnemonic })
 }
 
-/// What a line about a device says, by its keyword and the line after it.
+/// What a line about a device says, by its keyword and the line after it. Each reader answers by itself, so what it
+/// read is moved once.
 fn of_device(alloc: Global, keyword: &[u8], line: &[u8]) -> Result<Statement, Cause>
     ensures { Gives (λ s. s) result (of_device keyword.now (words line.now)) }
 {
     if is_name(keyword, "device") {
         let class = only_number(line, 0, 65535)?;
-        Ok(Statement::Device(class as u16))
-    } else if is_name(keyword, "recv") {
-        recv(alloc, line)
-    } else if is_name(keyword, "tick") {
-        let seconds = only_number(line, 1, 86400)?;
-        Ok(Statement::Tick(seconds as u32))
-    } else if is_name(keyword, "put") {
-        put(alloc, line)
-    } else if is_name(keyword, "firmware") {
-        let code = only_number(line, 0, 9)?;
-        Ok(Statement::Firmware(code as u8))
-    } else if is_name(keyword, "post") {
-        let group = only_number(line, 0, 255)?;
-        Ok(Statement::Post(group as u8))
-    } else if is_name(keyword, "need") {
-        need(line)
-    } else {
-        request(alloc, keyword, line)
+        return Ok(Statement::Device(class as u16));
     }
+    if is_name(keyword, "recv") {
+        return recv(alloc, line);
+    }
+    if is_name(keyword, "tick") {
+        let seconds = only_number(line, 1, 86400)?;
+        return Ok(Statement::Tick(seconds as u32));
+    }
+    if is_name(keyword, "put") {
+        return put(alloc, line);
+    }
+    if is_name(keyword, "firmware") {
+        let code = only_number(line, 0, 9)?;
+        return Ok(Statement::Firmware(code as u8));
+    }
+    if is_name(keyword, "post") {
+        let group = only_number(line, 0, 255)?;
+        return Ok(Statement::Post(group as u8));
+    }
+    if is_name(keyword, "need") {
+        return need(line);
+    }
+    request(alloc, keyword, line)
 }
 
 /// What a line says, by its keyword and the line after it.
@@ -151,27 +157,33 @@ fn statement_by(alloc: Global, keyword: &[u8], line: &[u8]) -> Result<Statement,
 {
     if is_name(keyword, "scenario") {
         only_number(line, 1, 1)?;
-        Ok(Statement::Scenario)
-    } else if is_name(keyword, "class") {
-        end(line)?;
-        Ok(Statement::Class)
-    } else if is_name(keyword, "notify") {
-        notify(alloc, line)
-    } else if is_name(keyword, "account") {
-        let server = only_number(line, 1, 65534)?;
-        Ok(Statement::Account(server as u16))
-    } else if is_name(keyword, "object") {
-        let object = only_number(line, 10241, 32768)?;
-        Ok(Statement::Object(object as u16))
-    } else if is_name(keyword, "def") {
-        definition(alloc, line)
-    } else if is_name(keyword, "instance") {
-        instance(line)
-    } else if is_name(keyword, "value") {
-        value(alloc, line)
-    } else {
-        of_device(alloc, keyword, line)
+        return Ok(Statement::Scenario);
     }
+    if is_name(keyword, "class") {
+        end(line)?;
+        return Ok(Statement::Class);
+    }
+    if is_name(keyword, "notify") {
+        return notify(alloc, line);
+    }
+    if is_name(keyword, "account") {
+        let server = only_number(line, 1, 65534)?;
+        return Ok(Statement::Account(server as u16));
+    }
+    if is_name(keyword, "object") {
+        let object = only_number(line, 10241, 32768)?;
+        return Ok(Statement::Object(object as u16));
+    }
+    if is_name(keyword, "def") {
+        return definition(alloc, line);
+    }
+    if is_name(keyword, "instance") {
+        return instance(line);
+    }
+    if is_name(keyword, "value") {
+        return value(alloc, line);
+    }
+    of_device(alloc, keyword, line)
 }
 
 /// What a line of scenario text says: the statement of its words, or none where it has no word.

@@ -9,3 +9,7 @@ pub mod WordLaws
 pub mod PathLaws
 pub mod Above
 pub mod ValueLaws
+pub mod Short
+pub mod PathFaults
+pub mod Written
+pub mod Names

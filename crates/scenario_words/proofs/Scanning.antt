@@ -1,7 +1,7 @@
 -- A word of a line, byte by byte.
 use Rattle.std.proofs.Common.{◌≡◌, ◌≢◌, ℕ, ◌+◌, ◌<◌, not, ◌&&◌, ◌||◌, Bool, true, false, cond, eqb, List, [], ◌∷◌, ◌++◌}
 use Rattle.std.proofs.Common.{length, get_or, take, drop, refl, sym, ap, ◌∙◌, arith, append_assoc, add-one, drop-cons}
-use Rattle.std.proofs.lemmas.Bool.{ne_eqb, not-true}
+use Rattle.std.proofs.lemmas.Bool.{eq-eqb, ne_eqb, not-true}
 use Rattle.std.proofs.lemmas.List.{take_more}
 use Rattle.std.specs.List.{onto_first}
 use Rattle.scenario_words.specs.Words.{Mode, gap, plain, quoted, scan, words}
@@ -44,6 +44,19 @@ first_byte (b ∷ bs) some space comment =
     no_space
     ∙ ap (λ t. cond t [] (onto_first b (scan (cond (eqb b 34) quoted plain) bs))) no_comment)
 
+-- the same of one that is no quotation mark, and of one that is
+pub plain_first : (line : List ℕ) → 0 < length line → get_or line 0 0 ≢ 32 → get_or line 0 0 ≢ 35
+    → get_or line 0 0 ≢ 34 → onto (take 1 line) (scan plain (drop 1 line)) ≡ words line
+plain_first line some space comment quotes =
+    ap (λ t. onto (take 1 line) (scan (mode_of t) (drop 1 line))) (sym (ne_eqb (get_or line 0 0) 34 quotes))
+    ∙ first_byte line some space comment
+
+pub quoted_first : (line : List ℕ) → 0 < length line → get_or line 0 0 ≡ 34
+    → onto (take 1 line) (scan quoted (drop 1 line)) ≡ words line
+quoted_first line some quotes =
+    ap (λ t. onto (take 1 line) (scan (mode_of t) (drop 1 line))) (sym (eq-eqb (get_or line 0 0) 34 quotes))
+    ∙ first_byte line some (λ e. omega arith) (λ e. omega arith)
+
 no_space : (b : ℕ) (q : Bool) → q ≡ false → (q || not (eqb b 32)) ≡ true → eqb b 32 ≡ false
 no_space b true e h = cc
 no_space b false e h = not-true (eqb b 32) h
@@ -54,7 +67,7 @@ scan_more true b bs h = ap (λ m. onto_first b (scan m bs)) (closed (eqb b 34))
 scan_more false b bs h = ap (λ t. cond t ([] ∷ scan gap bs) (onto_first b (scan plain bs))) (no_space b false refl h)
 
 -- the place i of a list
-drop_here : (line : List ℕ) (i : ℕ) → i < length line → drop i line ≡ get_or line i 0 ∷ drop (i + 1) line
+pub drop_here : (line : List ℕ) (i : ℕ) → i < length line → drop i line ≡ get_or line i 0 ∷ drop (i + 1) line
 drop_here line i inside = rw (add-one) (drop-cons line i 0 inside)
 
 -- a further byte of it
@@ -67,3 +80,8 @@ next_byte line q i inside h =
     ∙ ap (onto (take i line)) (scan_more q (get_or line i 0) (drop (i + 1) line) h)
     ∙ onto_more (take i line) (get_or line i 0) behind
     ∙ ap (λ w. onto w behind) (sym (take_more line i 0 inside)))
+
+-- a further byte outside quotes
+pub plain_more : (line : List ℕ) (i : ℕ) → i < length line → get_or line i 0 ≢ 32
+    → onto (take (i + 1) line) (scan plain (drop (i + 1) line)) ≡ onto (take i line) (scan plain (drop i line))
+plain_more line i inside space = next_byte line false i inside (ap not (ne_eqb (get_or line i 0) 32 space))

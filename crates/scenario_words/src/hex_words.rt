@@ -83,9 +83,5 @@ pub fn hex_word(alloc: Global, bytes: &[u8]) -> Result<String, AllocError>
     if bytes.is_empty() {
         return String::from_str(alloc, "-");
     }
-    let mut out = String::new(alloc);
-    for byte in bytes {
-        put_byte(&mut out, *byte)?;
-    }
-    Ok(out)
+    hex::encode_upper(alloc, bytes)
 }

@@ -32,6 +32,38 @@ fn stays_quoted(quoted: bool, byte: u8) -> bool
     quoted && byte != b'"'
 }
 
+/// How long the word is that a line begins with, which begins with quotes; they are included.
+fn quoted_len(line: &[u8]) -> usize
+    requires some { 0 < length line.now }
+    requires quotes { slice_index line.now 0 ≡ 34 }
+    ensures within { result ≤ length line.now }
+    ensures word { words line.now ≡ take result line.now ∷ words (drop result line.now) }
+{
+    let mut quoted = true;
+    let mut len = 1;
+    while len < line.len() && is_in_word(quoted, line[len]) {
+        quoted = stays_quoted(quoted, line[len]);
+        len += 1;
+    }
+    len
+}
+
+/// How long the word is that a line begins with, which does not begin with quotes: it goes to the first space.
+fn plain_len(line: &[u8]) -> usize
+    requires some { 0 < length line.now }
+    requires no_space { slice_index line.now 0 ≢ 32 }
+    requires no_comment { slice_index line.now 0 ≢ 35 }
+    requires no_quotes { slice_index line.now 0 ≢ 34 }
+    ensures within { result ≤ length line.now }
+    ensures word { words line.now ≡ take result line.now ∷ words (drop result line.now) }
+{
+    let mut len = 1;
+    while len < line.len() && line[len] != b' ' {
+        len += 1;
+    }
+    len
+}
+
 /// How long the word is that a line begins with, its quotes included.
 fn word_len(line: &[u8]) -> usize
     requires some { 0 < length line.now }
@@ -40,13 +72,11 @@ fn word_len(line: &[u8]) -> usize
     ensures within { result ≤ length line.now }
     ensures word { words line.now ≡ take result line.now ∷ words (drop result line.now) }
 {
-    let mut quoted = line[0] == b'"';
-    let mut len = 1;
-    while len < line.len() && is_in_word(quoted, line[len]) {
-        quoted = stays_quoted(quoted, line[len]);
-        len += 1;
+    if line[0] == b'"' {
+        quoted_len(line)
+    } else {
+        plain_len(line)
     }
-    len
 }
 
 /// The first word of a line and the line after it, or none where only spaces or a comment are left.
@@ -69,11 +99,30 @@ pub fn first_word(line: &[u8]) -> Result<(&[u8], &[u8]), Cause>
     next_word(line).ok_or(Cause::Missing)
 }
 
+/// Whether bytes are the same as others of their length, byte by byte: a name is short, and its length a constant.
+#[inline(always)]
+fn are_same(word: &[u8], name: &[u8]) -> bool
+    requires { length word.now ≡ length name.now }
+    ensures { result ≡ bytes_eq word.now name.now }
+{
+    for i in 0..name.len() {
+        if word[i] != name[i] {
+            return false;
+        }
+    }
+    true
+}
+
 /// Whether a word is this name.
+#[inline]
 pub fn is_name(word: &[u8], name: &str) -> bool
     ensures { result ≡ bytes_eq word.now name.now }
 {
-    word == name.as_bytes()
+    let name = name.as_bytes();
+    if word.len() != name.len() {
+        return false;
+    }
+    are_same(word, name)
 }
 
 /// Refuses a line that has a further word.

@@ -1,8 +1,10 @@
-ghost use Rattle.std.specs.Prelude.{◌≡◌, ◌≤◌, ◌^◌, true, false, MatchOption, IfOk};
+ghost use Rattle.std.specs.Prelude.{◌≡◌, ◌<◌, ◌≤◌, ◌^◌, ◌⊎◌, true, false, length, slice_index, nat_le, nat_lt, ◌==◌, ◌&&◌};
+ghost use Rattle.std.specs.Prelude.{◌||◌, MatchOption, IfOk, Ok, Err, if◌then◌else◌};
 ghost use Rattle.std.specs.Str.{IsUtf8};
 ghost use Rattle.std.specs.Str.Parse.{digits_value};
 ghost use Rattle.std.specs.Char.{is_ascii_digit};
 ghost use Rattle.std.specs.List.{list_all};
+ghost use Rattle.scenario_words.specs.declared.cause.Cause.TheVariants.{Range};
 ghost use Rattle.scenario_words.specs.Words.{words};
 ghost use Rattle.scenario_words.specs.Reading.{Reads, word_by};
 ghost use Rattle.scenario_words.specs.Number.{is_natural, is_number, number_of, integer_value, is_64_bits, integer_of};
@@ -16,10 +18,18 @@ fn are_digits(bytes: &[u8]) -> bool
     bytes.iter().all(|b| b.is_ascii_digit())
 }
 
+/// Whether there are bytes, and no zero in front of others.
+fn begins_as_number(word: &[u8]) -> bool
+    ensures { result ≡ (nat_lt 0 (length word.now)
+        && (nat_lt 48 (slice_index word.now 0) || length word.now == 1)) }
+{
+    !word.is_empty() && (word[0] > b'0' || word.len() == 1)
+}
+
 fn is_natural(word: &[u8]) -> bool
     ensures { result ≡ is_natural word.now }
 {
-    are_digits(word) && !word.is_empty() && (word[0] > b'0' || word.len() == 1)
+    are_digits(word) && begins_as_number(word)
 }
 
 /// Whether the word is a number: decimal digits with no needless zero, and for a number below 0 a
@@ -50,8 +60,63 @@ fn natural_value(digits: &[u8]) -> Option<u64>
     text.parse::<u64>().ok()
 }
 
+/// The number that up to 18 digits write, or none where one of the bytes is no digit.
+fn digits_number(bytes: &[u8]) -> Option<u64>
+    requires { length bytes.now ≤ 18 }
+    ensures { MatchOption result
+        (list_all is_ascii_digit bytes.now ≡ false)
+        (λ n. (list_all is_ascii_digit bytes.now ≡ true) × (n ≡ digits_value 10 bytes.now)) }
+{
+    let mut number = 0;
+    for byte in bytes {
+        if !byte.is_ascii_digit() {
+            return None;
+        }
+        number = number * 10 + u64::from(*byte - b'0');
+    }
+    Some(number)
+}
+
+/// The number of a word of up to 18 digits with no needless zero, as most words of numbers are.
+fn short_natural(word: &[u8]) -> Option<u64>
+    ensures { MatchOption result
+        ((is_natural word.now ≡ false) ⊎ (18 < length word.now))
+        (λ n. (is_natural word.now ≡ true) × (n ≡ digits_value 10 word.now) × (n < 10 ^ 18)) }
+{
+    if word.len() > 18 {
+        return None;
+    }
+    if !begins_as_number(word) {
+        return None;
+    }
+    digits_number(word)
+}
+
+/// A number that has to be from `low` to `high`.
+fn in_range(number: u64, low: u64, high: u64) -> Result<u64, Cause>
+    ensures { result ≡ (if nat_le low number && nat_le number high then Ok number else Err Range) }
+{
+    if low <= number && number <= high {
+        Ok(number)
+    } else {
+        Err(Cause::Range)
+    }
+}
+
 /// The number of a word that has to be from `low` to `high`.
+#[tactic(auto, using(crate::proofs::Short::natural_read))]
 pub(crate) fn number_of(word: &[u8], low: u64, high: u64) -> Result<u64, Cause>
+    ensures { Reads (λ n. n) result (number_of low high word.now) }
+{
+    match short_natural(word) {
+        Some(number) => in_range(number, low, high),
+        None => other_number(word, low, high),
+    }
+}
+
+/// The same of any word, also of one that is no short number. It stands apart, so that what is usual stays small.
+#[inline(never)]
+fn other_number(word: &[u8], low: u64, high: u64) -> Result<u64, Cause>
     ensures { Reads (λ n. n) result (number_of low high word.now) }
 {
     if !is_number(word) {
@@ -77,7 +142,19 @@ fn integer_value(word: &[u8]) -> Option<i64>
 }
 
 /// The integer of a word.
+#[tactic(auto, using(crate::proofs::Short::integer_read))]
 pub(crate) fn integer_of(word: &[u8]) -> Result<i64, Cause>
+    ensures { Reads (λ z. z) result (integer_of word.now) }
+{
+    match short_natural(word) {
+        Some(number) => Ok(number as i64),
+        None => other_integer(word),
+    }
+}
+
+/// The same of any word, also of one that is no short number. It stands apart, so that what is usual stays small.
+#[inline(never)]
+fn other_integer(word: &[u8]) -> Result<i64, Cause>
     ensures { Reads (λ z. z) result (integer_of word.now) }
 {
     if !is_number(word) {

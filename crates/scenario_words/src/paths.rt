@@ -1,9 +1,10 @@
-ghost use Rattle.std.specs.Prelude.{◌≡◌, ◌∷◌, []};
+ghost use Rattle.std.specs.Prelude.{◌≡◌, ◌∷◌, [], if◌then◌else◌};
 ghost use Rattle.std.specs.List.{list_all};
+ghost use Rattle.scenario_words.specs.declared.cause.Cause.TheVariants.{Token};
 ghost use Rattle.scenario_words.specs.Words.{words, parts};
 ghost use Rattle.scenario_words.specs.Reading.{Reads, word_by};
 ghost use Rattle.scenario_words.specs.Number.{is_number, number_of};
-ghost use Rattle.scenario_words.specs.PathWord.{path_of, path_of_numbers, link_of};
+ghost use Rattle.scenario_words.specs.PathWord.{path_of, path_of_numbers, path_of_parts, link_of};
 
 use crate::cause::Cause;
 use crate::cutting::{cut, last};
@@ -75,6 +76,29 @@ fn part_path(object: &[u8], instance: &[u8], resource: &[u8], part: &[u8]) -> Re
     Ok(Path::Part(object, instance, resource, part))
 }
 
+/// Why a word is no path, of which the numbers between slashes were read with this fault: `Token`, unless each of
+/// them has a number's form.
+#[inline(never)]
+fn path_fault(numbers: &[u8], cause: Cause) -> Cause
+    ensures { result ≡ (if list_all is_number (parts 47 numbers.now) then cause else Token) }
+{
+    if are_numbers(numbers, b'/') {
+        cause
+    } else {
+        Cause::Token
+    }
+}
+
+/// The path of what stands after the first slash.
+fn path_after_slash(numbers: &[u8]) -> Result<Path, Cause>
+    ensures { Reads (λ p. p) result (path_of_parts ([] ∷ parts 47 numbers.now)) }
+{
+    match path_of_numbers(numbers) {
+        Ok(path) => Ok(path),
+        Err(cause) => Err(path_fault(numbers, cause)),
+    }
+}
+
 /// The path of a word.
 fn path_of(word: &[u8]) -> Result<Path, Cause>
     ensures { Reads (λ p. p) result (path_of word.now) }
@@ -82,10 +106,7 @@ fn path_of(word: &[u8]) -> Result<Path, Cause>
     let [b'/', numbers @ ..] = word else {
         return Err(Cause::Token);
     };
-    if !are_numbers(numbers, b'/') {
-        return Err(Cause::Token);
-    }
-    path_of_numbers(numbers)
+    path_after_slash(numbers)
 }
 
 /// The first word of the line as a path of one to four numbers from 0 to 65535, and the line after it.

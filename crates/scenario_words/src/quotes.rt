@@ -1,6 +1,7 @@
 ghost use Rattle.std.specs.Prelude.{◌≡◌, ◌≢◌, ℕ, List, slice_index, Err, ◌++◌, ◌∷◌, [], ◌<◌, ◌+◌, length, Some, None};
 ghost use Rattle.std.specs.Prelude.{true, false, IfOk, OnOk, MatchOption, if◌then◌else◌};
 ghost use Rattle.std.specs.String.{string_bytes};
+ghost use Rattle.std.specs.List.{flat_map, list_all};
 ghost use Rattle.std.specs.Str.{is_utf8, bytes_eq};
 ghost use Rattle.hex.specs.Hex.{hex_digit_value};
 ghost use Rattle.scenario_words.specs.declared.cause.Cause.TheVariants.{Token, Missing};
@@ -116,14 +117,41 @@ fn put_escaped(out: &mut String, byte: u8) -> Result<(), AllocError>
     put_byte(out, byte)
 }
 
+/// Whether each of these bytes stands for itself in quotes.
+fn are_plain(bytes: &[u8]) -> bool
+    ensures { result ≡ list_all is_plain bytes.now }
+{
+    bytes.iter().all(|b| is_plain(*b))
+}
+
+/// Writes a text as it stands between quotes.
+#[tactic(auto, using(crate::proofs::Written::plain_text))]
+fn put_escaped_text(out: &mut String, text: &str) -> Result<(), AllocError>
+    ensures { OnOk result (string_bytes out.new ≡ string_bytes out.old ++ flat_map escaped_byte text.now) }
+{
+    if are_plain(text.as_bytes()) {
+        return out.push_str(text);
+    }
+    for byte in text.as_bytes() {
+        put_escaped(out, *byte)?;
+    }
+    Ok(())
+}
+
+/// Writes a text in quotes, with only the escapes that it needs.
+pub(crate) fn put_quoted(out: &mut String, text: &str) -> Result<(), AllocError>
+    ensures { OnOk result (string_bytes out.new ≡ string_bytes out.old ++ quoted_word text.now) }
+{
+    out.push('"')?;
+    put_escaped_text(out, text)?;
+    out.push('"')
+}
+
 /// A text in quotes, with only the escapes that it needs.
 pub fn quoted_word(alloc: Global, text: &str) -> Result<String, AllocError>
     ensures { IfOk result (λ s. string_bytes s ≡ quoted_word text.now) }
 {
-    let mut out = String::from_str(alloc, "\"")?;
-    for byte in text.as_bytes() {
-        put_escaped(&mut out, *byte)?;
-    }
-    out.push('"')?;
+    let mut out = String::with_capacity(alloc, text.len() + 2)?;
+    put_quoted(&mut out, text)?;
     Ok(out)
 }

@@ -1,11 +1,14 @@
-ghost use Rattle.std.specs.Prelude.{◌≡◌, ◌≢◌, ◌↔◌, ℕ, List, [], ◌∷◌, slice_index, false, Ok, Err, IfOk, IsTrue};
+ghost use Rattle.std.specs.Prelude.{◌≡◌, ◌≢◌, ◌↔◌, ℕ, List, [], ◌∷◌, slice_index, false, Ok, Err, IfOk, OnOk, IsTrue, ◌++◌};
 ghost use Rattle.std.specs.Result.{IsOk};
 ghost use Rattle.std.specs.String.{string_bytes};
 ghost use Rattle.std.specs.List.{list_all};
 ghost use Rattle.std.specs.Char.{is_ascii_graphic};
+ghost use Rattle.std.specs.Fmt.{signed_decimal};
 ghost use Rattle.lwm2m_values.specs.declared.kind.ValueKind.{ValueKind};
 ghost use Rattle.lwm2m_values.specs.Value.{holds_bytes};
 ghost use Rattle.scenario_words.specs.declared.cause.Cause.TheVariants.{Missing, Memory};
+ghost use Rattle.scenario_words.specs.HexWord.{hex_word};
+ghost use Rattle.scenario_words.specs.PathWord.{link_word};
 ghost use Rattle.scenario_words.specs.Words.{words};
 ghost use Rattle.scenario_words.specs.Reading.{Gives, Reads, word_by};
 ghost use Rattle.scenario_words.specs.ValueWords.{name_fault, kind_word, kind_named, value_of, value_at, IsTooLong};
@@ -16,7 +19,8 @@ use crate::hex_words::{bytes_of, hex_word};
 use crate::line::{first_word, is_name};
 use crate::number::{integer_of, number_of};
 use crate::paths::link_of;
-use crate::quotes::{quoted_word, text_of};
+use crate::quotes::{put_quoted, text_of};
+use itoa::Buffer;
 use lwm2m_values::{Value, ValueKind};
 use std::alloc::{AllocError, Global};
 
@@ -140,25 +144,56 @@ pub fn kind_word(kind: ValueKind) -> &'static str
     }
 }
 
-/// The word of a value, after its kind.
-fn value_word(alloc: Global, value: &Value) -> Result<String, AllocError>
-    ensures { IfOk result (λ s. string_bytes s ≡ value_word value.now) }
+/// Writes the two numbers of a link.
+fn put_link(out: &mut String, object: u16, instance: u16) -> Result<(), AllocError>
+    ensures { OnOk result (string_bytes out.new ≡ string_bytes out.old ++ link_word object instance) }
+{
+    let mut digits = Buffer::new();
+    out.push_str(digits.format(object))?;
+    out.push(':')?;
+    out.push_str(digits.format(instance))
+}
+
+/// Writes bytes in upper-case hex, or `-` for none.
+fn put_hex_word(alloc: Global, out: &mut String, bytes: &[u8]) -> Result<(), AllocError>
+    ensures { OnOk result (string_bytes out.new ≡ string_bytes out.old ++ hex_word bytes.now) }
+{
+    let word = hex_word(alloc, bytes)?;
+    out.push_str(word.as_str())
+}
+
+/// Writes an integer.
+fn put_integer(out: &mut String, number: i64) -> Result<(), AllocError>
+    ensures { OnOk result (string_bytes out.new ≡ string_bytes out.old ++ signed_decimal number) }
+{
+    let mut digits = Buffer::new();
+    out.push_str(digits.format(number))
+}
+
+/// Writes the word of a value, after its kind.
+fn put_value_word(alloc: Global, out: &mut String, value: &Value) -> Result<(), AllocError>
+    ensures { OnOk result (string_bytes out.new ≡ string_bytes out.old ++ value_word value.now) }
 {
     match value {
-        Value::Text(text) => quoted_word(alloc, text.as_str()),
-        Value::Whole(number) | Value::Moment(number) => number.to_string(alloc),
-        Value::Flag(flag) => String::from_str(alloc, if *flag { "1" } else { "0" }),
-        Value::Opaque(bytes) => hex_word(alloc, bytes.as_slice()),
-        Value::Link(object, instance) => format!(in alloc; "{object}:{instance}"),
+        Value::Text(text) => put_quoted(out, text.as_str()),
+        Value::Whole(number) | Value::Moment(number) => put_integer(out, *number),
+        Value::Flag(flag) => out.push_str(if *flag { "1" } else { "0" }),
+        Value::Opaque(bytes) => put_hex_word(alloc, out, bytes.as_slice()),
+        Value::Link(object, instance) => put_link(out, *object, *instance),
     }
 }
+
+/// How many bytes most values take at most, with their kind.
+const USUAL_LEN: usize = 32;
 
 fn spelling(alloc: Global, value: &Value) -> Result<String, AllocError>
     ensures { IfOk result (λ s. string_bytes s ≡ spelling_of_value value.now) }
 {
-    let name = kind_word(value.kind());
-    let word = value_word(alloc, value)?;
-    format!(in alloc; "{name} {word}")
+    let mut out = String::with_capacity(alloc, USUAL_LEN)?;
+    out.push_str(kind_word(value.kind()))?;
+    out.push(' ')?;
+    put_value_word(alloc, &mut out, value)?;
+    Ok(out)
 }
 
 /// A value as scenario text has it: its kind and its word, such as `integer 7`. It is read again.

@@ -61,6 +61,12 @@ entry_line number e second words =
     (decimal number ++ codes " worker " ++ decimal e.worker ++ codes " device " ++ decimal e.device
     ++ codes " step " ++ decimal e.step ++ codes " second " ++ decimal second ++ codes ": " ++ words)
 
+-- what stands before the words in that line
+abbrev pub entry_start : ℕ → Entry → ℕ → List ℕ
+entry_start number e second =
+    decimal number ++ codes " worker " ++ decimal e.worker ++ codes " device " ++ decimal e.device
+    ++ codes " step " ++ decimal e.step ++ codes " second " ++ decimal second ++ codes ": "
+
 -- ---- an output
 
 -- the line of a datagram that is sent to a server, in hex

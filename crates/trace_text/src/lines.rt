@@ -1,43 +1,60 @@
 //! The lines of an entry. Where memory runs out, some of them may have been written.
 
-ghost use Rattle.std.specs.Prelude.{◌≡◌, ◌++◌, IfOk, OnOk};
+ghost use Rattle.std.specs.Prelude.{◌≡◌, ◌++◌, OnOk};
+ghost use Rattle.std.specs.Fmt.{decimal};
 ghost use Rattle.std.specs.Option.{option_copied};
 ghost use Rattle.std.specs.String.{string_bytes};
-ghost use Rattle.trace_text.specs.Lines.{all_output_lines, bytes_line, bytes_lines, entry_line, output_lines};
+ghost use Rattle.scenario_words.specs.Words.{ended_line};
+ghost use Rattle.trace_text.specs.Lines.{all_output_lines, bytes_line, bytes_lines, entry_start, output_lines};
 ghost use Rattle.trace_text.specs.Lines.{said_line, sent_line};
 
 use device_machine::{Output, act_name};
-use message_words::datagram_text;
+use message_words::{put_datagram, put_decimal};
 use scenario_mnemonics::Mnemonic;
 use scenario_words::hex_word;
 use std::alloc::{AllocError, Global};
 use trace_file::Entry;
 
-/// The line of an entry, of this number in its trace: with the second of its device, and the words of its step.
-pub(crate) fn entry_line(
-    alloc: Global,
+/// Writes a name and a number.
+fn put_field(out: &mut String, name: &str, number: usize) -> Result<(), AllocError>
+    ensures { OnOk result (string_bytes out.new ≡ string_bytes out.old ++ (name.now ++ decimal number)) }
+{
+    out.push_str(name)?;
+    put_decimal(out, number)
+}
+
+/// Writes what stands before the words of a step in the line of an entry, of this number in its trace: with the second
+/// of its device.
+pub(crate) fn put_entry_start(
+    out: &mut String,
     number: usize,
     entry: &Entry,
     second: u32,
-    words: &str,
-) -> Result<String, AllocError>
-    ensures { IfOk result (λ t. string_bytes t ≡ entry_line number entry.now second words.now) }
+) -> Result<(), AllocError>
+    ensures { OnOk result (string_bytes out.new ≡ string_bytes out.old ++ entry_start number entry.now second) }
 {
-    let worker = entry.worker;
-    let device = entry.device;
-    let step = entry.step;
-    format!(in alloc;
-        "{number} worker {worker} device {device} step {step} second {second}: {words}\n"
-    )
+    put_decimal(out, number)?;
+    put_field(out, " worker ", usize::from(entry.worker))?;
+    put_field(out, " device ", usize::from(entry.device))?;
+    put_field(out, " step ", entry.step as usize)?;
+    put_field(out, " second ", second as usize)?;
+    out.push_str(": ")
+}
+
+/// Writes words, and the end of their line.
+pub(crate) fn put_line(out: &mut String, words: &str) -> Result<(), AllocError>
+    ensures { OnOk result (string_bytes out.new ≡ string_bytes out.old ++ ended_line words.now) }
+{
+    out.push_str(words)?;
+    out.push('\n')
 }
 
 /// Writes what a datagram says, in a line of its own.
 pub(crate) fn put_said(alloc: Global, out: &mut String, bytes: &[u8]) -> Result<(), AllocError>
     ensures { OnOk result (string_bytes out.new ≡ string_bytes out.old ++ said_line bytes.now) }
 {
-    let words = datagram_text(alloc, bytes)?;
     out.push_str("    # ")?;
-    out.push_str(words.as_str())?;
+    put_datagram(alloc, out, bytes)?;
     out.push('\n')
 }
 
@@ -47,8 +64,7 @@ fn put_bytes(alloc: Global, out: &mut String, bytes: &[u8]) -> Result<(), AllocE
 {
     let hex = hex_word(alloc, bytes)?;
     out.push_str("    # ")?;
-    out.push_str(hex.as_str())?;
-    out.push('\n')
+    put_line(out, hex.as_str())
 }
 
 /// Writes the bytes of a datagram that is written as a mnemonic.
@@ -76,8 +92,10 @@ pub(crate) fn put_sent(
 ) -> Result<(), AllocError>
     ensures { OnOk result (string_bytes out.new ≡ string_bytes out.old ++ sent_line server bytes.now) }
 {
-    let hex = hex_word(alloc, bytes)?;
-    write!(out, "=> send {server} {hex}\n")
+    let word = hex_word(alloc, bytes)?;
+    put_field(out, "=> send ", usize::from(server))?;
+    out.push(' ')?;
+    put_line(out, word.as_str())
 }
 
 /// Writes the lines of an output.
@@ -90,8 +108,8 @@ fn put_output(alloc: Global, out: &mut String, output: &Output) -> Result<(), Al
             put_said(alloc, out, bytes.as_slice())
         }
         Output::Act(act) => {
-            let name = act_name(*act);
-            write!(out, "=> act {name}\n")
+            out.push_str("=> act ")?;
+            put_line(out, act_name(*act))
         }
     }
 }

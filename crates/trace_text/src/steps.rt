@@ -1,132 +1,130 @@
 //! Steps in words, and what arrives in them.
 
-ghost use Rattle.std.specs.Prelude.{◌≡◌, [], Some, IfOk};
+ghost use Rattle.std.specs.Prelude.{◌≡◌, ◌++◌, Some, IfOk, OnOk};
 ghost use Rattle.std.specs.Option.{option_copied};
 ghost use Rattle.std.specs.String.{string_bytes};
+ghost use Rattle.scenario_words.specs.Words.{ended_line};
 ghost use Rattle.scenario_mnemonics.specs.Denoting.{mnemonic_of};
 ghost use Rattle.scenario_statements.specs.Spelling.{line_of};
 ghost use Rattle.scenario_asm.specs.Canonical.{of_datagram, of_step};
-ghost use Rattle.trace_text.specs.Lines.{arrival_lines, received_lines, step_words};
+ghost use Rattle.trace_text.specs.Datagrams.{arrival_text, statement_text};
+ghost use Rattle.trace_text.specs.Lines.{arrival_lines, step_words};
 
-use crate::lines::{put_hidden, put_said};
+use crate::lines::{put_hidden, put_line, put_said};
 use device_machine::Event;
 use scenario_image::Step;
-use scenario_mnemonics::{Mnemonic, mnemonic_for};
+use scenario_mnemonics::{Mnemonic, mnemonic_for, spell};
 use scenario_statements::{Statement, line_of, recv_line, value_line};
 use std::alloc::{AllocError, Global};
-
-/// A step as text.
-#[derive(Drop)]
-pub(crate) struct StepText {
-    /// Its words, as a canonical scenario text has them; or that the row has no such step.
-    pub words: String,
-    /// The lines of what arrives in it.
-    pub below: String,
-}
-
-/// A step in which nothing arrives.
-fn silent_text(alloc: Global, words: String) -> StepText
-    ensures words { result.words ≡ words }
-    ensures below { string_bytes result.below ≡ [] }
-{
-    StepText {
-        words,
-        below: String::new(alloc),
-    }
-}
-
-/// The words of a statement, which is not needed any more.
-fn statement_words(alloc: Global, statement: Statement) -> Result<String, AllocError>
-    ensures { IfOk result (λ t. string_bytes t ≡ line_of statement) }
-{
-    line_of(alloc, &statement)
-}
-
-/// A step that is this statement, and in which nothing arrives.
-fn stated_text(alloc: Global, statement: Statement) -> Result<StepText, AllocError>
-    ensures words { IfOk result (λ t. string_bytes t.words ≡ line_of statement) }
-    ensures below { IfOk result (λ t. string_bytes t.below ≡ []) }
-{
-    let words = statement_words(alloc, statement)?;
-    Ok(silent_text(alloc, words))
-}
 
 /// The words of a datagram that comes from a server: those of this mnemonic, if there is one, else its bytes.
 fn words_by(
     alloc: Global,
-    mnemonic: Option<Mnemonic>,
+    mnemonic: Option<&Mnemonic>,
     server: u16,
     bytes: &[u8],
 ) -> Result<String, AllocError>
-    ensures { IfOk result (λ t. string_bytes t ≡ line_of (of_datagram server bytes.now mnemonic)) }
+    ensures { IfOk result (λ t. string_bytes t
+        ≡ line_of (of_datagram server bytes.now (option_copied mnemonic.entry))) }
 {
     match mnemonic {
-        Some(mnemonic) => statement_words(alloc, Statement::Request { server, mnemonic }),
+        Some(mnemonic) => spell(alloc, server, mnemonic),
         None => recv_line(alloc, server, bytes),
     }
 }
 
-/// The words of a datagram that comes from a server: the mnemonic that denotes it, else its bytes.
-pub(crate) fn datagram_words(alloc: Global, server: u16, bytes: &[u8]) -> Result<String, AllocError>
-    ensures { IfOk result (λ t. string_bytes t ≡ line_of (of_datagram server bytes.now (mnemonic_of bytes.now))) }
-{
-    let mnemonic = mnemonic_for(alloc, bytes)?;
-    words_by(alloc, mnemonic, server, bytes)
-}
-
-/// A step in which a datagram comes from a server.
-pub(crate) fn received_text(
+/// Writes the line of a datagram that comes from a server, by this mnemonic, if there is one.
+fn put_words(
     alloc: Global,
+    out: &mut String,
+    mnemonic: Option<&Mnemonic>,
     server: u16,
     bytes: &[u8],
-) -> Result<StepText, AllocError>
-    ensures words { IfOk result (λ t. string_bytes t.words
-        ≡ line_of (of_datagram server bytes.now (mnemonic_of bytes.now))) }
-    ensures below { IfOk result (λ t. string_bytes t.below ≡ received_lines bytes.now) }
+) -> Result<(), AllocError>
+    ensures { OnOk result (string_bytes out.new ≡ string_bytes out.old
+        ++ ended_line (line_of (of_datagram server bytes.now (option_copied mnemonic.entry)))) }
 {
-    let mnemonic = mnemonic_for(alloc, bytes)?;
-    let mut below = String::new(alloc);
-    put_hidden(alloc, &mut below, mnemonic.as_ref(), bytes)?;
-    put_said(alloc, &mut below, bytes)?;
     let words = words_by(alloc, mnemonic, server, bytes)?;
-    Ok(StepText { words, below })
+    put_line(out, words.as_str())
 }
 
-fn text_of(alloc: Global, step: &Step) -> Result<StepText, AllocError>
-    ensures words { IfOk result (λ t. string_bytes t.words ≡ line_of (of_step step.now)) }
-    ensures below { IfOk result (λ t. string_bytes t.below ≡ arrival_lines (Some step.now)) }
+/// Writes a datagram whose bytes its reader has: the mnemonic that denotes it, else its bytes, and what it says.
+pub(crate) fn put_stated(
+    alloc: Global,
+    out: &mut String,
+    server: u16,
+    bytes: &[u8],
+) -> Result<(), AllocError>
+    ensures { OnOk result (string_bytes out.new ≡ string_bytes out.old ++ statement_text server bytes.now) }
+{
+    let mnemonic = mnemonic_for(alloc, bytes)?;
+    put_words(alloc, out, mnemonic.as_ref(), server, bytes)?;
+    put_said(alloc, out, bytes)
+}
+
+/// Writes a datagram that comes from a server: the mnemonic that denotes it and its bytes, else these alone, and what
+/// it says.
+pub(crate) fn put_received(
+    alloc: Global,
+    out: &mut String,
+    server: u16,
+    bytes: &[u8],
+) -> Result<(), AllocError>
+    ensures { OnOk result (string_bytes out.new ≡ string_bytes out.old ++ arrival_text server bytes.now) }
+{
+    let mnemonic = mnemonic_for(alloc, bytes)?;
+    put_words(alloc, out, mnemonic.as_ref(), server, bytes)?;
+    put_hidden(alloc, out, mnemonic.as_ref(), bytes)?;
+    put_said(alloc, out, bytes)
+}
+
+/// Writes the line of a statement, which is not needed any more.
+fn put_statement(alloc: Global, out: &mut String, statement: Statement) -> Result<(), AllocError>
+    ensures { OnOk result (string_bytes out.new ≡ string_bytes out.old ++ ended_line (line_of statement)) }
+{
+    let words = line_of(alloc, &statement)?;
+    put_line(out, words.as_str())
+}
+
+fn put_known_step(alloc: Global, out: &mut String, step: &Step) -> Result<(), AllocError>
+    ensures { OnOk result (string_bytes out.new ≡ string_bytes out.old
+        ++ (ended_line (line_of (of_step step.now)) ++ arrival_lines (Some step.now))) }
 {
     match step {
         Step::Event(Event::Recv { server, bytes }) => {
-            received_text(alloc, *server, bytes.as_slice())
+            put_received(alloc, out, *server, bytes.as_slice())
         }
         Step::Event(Event::Put { path, value }) => {
             let words = value_line(alloc, "put", *path, value)?;
-            Ok(silent_text(alloc, words))
+            put_line(out, words.as_str())
         }
-        Step::Event(Event::Firmware(code)) => stated_text(alloc, Statement::Firmware(*code)),
-        Step::Event(Event::Tick(seconds)) => stated_text(alloc, Statement::Tick(*seconds)),
-        Step::Post(group) => stated_text(alloc, Statement::Post(*group)),
+        Step::Event(Event::Firmware(code)) => {
+            put_statement(alloc, out, Statement::Firmware(*code))
+        }
+        Step::Event(Event::Tick(seconds)) => put_statement(alloc, out, Statement::Tick(*seconds)),
+        Step::Post(group) => put_statement(alloc, out, Statement::Post(*group)),
         Step::Need(group, count) => {
             let statement = Statement::Need {
                 group: *group,
                 count: *count,
             };
-            stated_text(alloc, statement)
+            put_statement(alloc, out, statement)
         }
     }
 }
 
-/// The text of a step, or that there is no such step.
-pub(crate) fn step_text(alloc: Global, step: Option<&Step>) -> Result<StepText, AllocError>
-    ensures words { IfOk result (λ t. string_bytes t.words ≡ step_words (option_copied step.entry)) }
-    ensures below { IfOk result (λ t. string_bytes t.below ≡ arrival_lines (option_copied step.entry)) }
+/// Writes the words of a step, as a canonical scenario text has them, or that there is no such step; and the lines of
+/// what arrives in it.
+pub(crate) fn put_step(
+    alloc: Global,
+    out: &mut String,
+    step: Option<&Step>,
+) -> Result<(), AllocError>
+    ensures { OnOk result (string_bytes out.new ≡ string_bytes out.old
+        ++ (ended_line (step_words (option_copied step.entry)) ++ arrival_lines (option_copied step.entry))) }
 {
     match step {
-        None => {
-            let words = String::from_str(alloc, "no such step")?;
-            Ok(silent_text(alloc, words))
-        }
-        Some(step) => text_of(alloc, step),
+        None => put_line(out, "no such step"),
+        Some(step) => put_known_step(alloc, out, step),
     }
 }

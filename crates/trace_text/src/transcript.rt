@@ -1,19 +1,22 @@
 //! A trace as text, entry by entry.
 
-ghost use Rattle.std.specs.Prelude.{◌≡◌, IfErr, IfOk};
+ghost use Rattle.std.specs.Prelude.{◌≡◌, ◌++◌, IfErr, IfOk, OnOk};
 ghost use Rattle.std.specs.String.{string_bytes};
 ghost use Rattle.trace_text.specs.Selection.{IsSelectable, IsSelectionFault, selected_text};
 ghost use Rattle.trace_text.specs.Text.{entry_text, trace_text};
 
 use crate::clocks::Clocks;
-use crate::lines::{entry_line, put_outputs};
+use crate::lines::{put_entry_start, put_outputs};
 use crate::selection::{Selection, SelectionFault};
-use crate::steps::step_text;
+use crate::steps::put_step;
 use fleet_core::step_of;
 use scenario_image::Scenario;
 use std::alloc::{AllocError, Global};
 use std::marker::Model;
 use trace_file::Entry;
+
+/// Room for the text of an entry, which mostly takes less.
+const USUAL_LENGTH: usize = 512;
 
 /// Makes the text of entries of a scenario, in any order. Contracts see the scenario.
 #[derive(Drop)]
@@ -50,6 +53,24 @@ impl<'a> Transcript<'a> {
         })
     }
 
+    /// Writes the text of an entry.
+    fn put_entry(
+        &mut self,
+        out: &mut String,
+        number: usize,
+        entry: &Entry,
+    ) -> Result<(), AllocError>
+        ensures text { OnOk result (string_bytes out.new
+            ≡ string_bytes out.old ++ entry_text self.old number entry.now) }
+        ensures same { self.new ≡ self.old }
+    {
+        let second = self.clocks.second_at(entry.device, entry.step as usize);
+        let step = step_of(self.scenario, entry.device, entry.step);
+        put_entry_start(out, number, entry, second)?;
+        put_step(self.alloc, out, step)?;
+        put_outputs(self.alloc, out, entry.outputs.as_slice())
+    }
+
     /// The text of an entry, of this number in its trace: a line with the numbers of entry, worker, device and step,
     /// the second of the device before the step, and the step in the words of scenario text, and a line for each
     /// output. After a datagram, one that arrives and one that is sent, comes what it says, in a line that begins with
@@ -59,12 +80,8 @@ impl<'a> Transcript<'a> {
         ensures text { IfOk result (λ t. string_bytes t ≡ entry_text self.old number entry.now) }
         ensures same { self.new ≡ self.old }
     {
-        let second = self.clocks.second_at(entry.device, entry.step as usize);
-        let step = step_of(self.scenario, entry.device, entry.step);
-        let text = step_text(self.alloc, step)?;
-        let mut out = entry_line(self.alloc, number, entry, second, text.words.as_str())?;
-        out.push_str(text.below.as_str())?;
-        put_outputs(self.alloc, &mut out, entry.outputs.as_slice())?;
+        let mut out = String::with_capacity(self.alloc, USUAL_LENGTH)?;
+        self.put_entry(&mut out, number, entry)?;
         Ok(out)
     }
 }
@@ -116,8 +133,7 @@ fn text_of(
     let mut out = String::new(alloc);
     for (number, entry) in entries.iter().enumerate() {
         if selection.has(number, entry) {
-            let text = transcript.entry_text(number, entry)?;
-            out.push_str(text.as_str())?;
+            transcript.put_entry(&mut out, number, entry)?;
         }
     }
     Ok(out)

@@ -5,12 +5,14 @@ ghost use Rattle.device_machine.specs.Observing.{Notes, after_registration, lack
 ghost use Rattle.device_machine.specs.Observing.{noted_read, replies_non, reply_mid};
 ghost use Rattle.device_machine.specs.Held.{IsUpToDate};
 ghost use Rattle.device_machine.specs.Memory.{IsManaged, KeepsRecords};
+ghost use Rattle.device_notifications.specs.Outlooks.{IsKnown, IsKnownBut};
 ghost use Rattle.device_requests.specs.Answer.{is_content};
+ghost use Rattle.device_requests.specs.Client.{Client};
 ghost use Rattle.notifier.specs.Observed.{has_name};
 
 use crate::machine::Machine;
 use coap_codec::{Kind, Message};
-use device_notifications::{report_of, say_all};
+use device_notifications::{report_of, say_named};
 use device_requests::{Answer, Interest};
 use notifier::{Observations, ObserveFault, Report};
 use object_defs::Path;
@@ -94,6 +96,10 @@ fn enter(
     ensures may_lack_memory { OnErr result (has_name observations.old.list server token ≡ false) }
     ensures place { OnErr result (lacks_place observations.old.list server token ≡ false) }
     ensures unchanged { OnErr result (observations.new ≡ observations.old) }
+
+    // Until its present answer is said too, those of the others are known as before.
+    ensures known { OnOk result ((client : Client) → IsKnown client observations.old
+        → IsKnownBut server token client observations.new) }
 {
     let number = match observations.register(
         server, token, path, accept, report, second, mid, non,
@@ -115,6 +121,7 @@ impl Machine {
         accept: Option<u16>,
         payload: Bytes,
     ) -> Result<Option<u32>, AllocError>
+        requires { IsUpToDate self.old }
         ensures kept { IfOk result (λ n. Notes n self.old.flat.kept self.new.flat.kept
             (after_registration self.old.flat.kept.observations
             (new_observation self.old.flat.kept server message.now path accept payload))) }
@@ -142,7 +149,8 @@ impl Machine {
             mid,
             non,
         )?;
-        say_all(&self.client, &mut self.observations)?;
+        let name = message.token().as_slice();
+        say_named(&self.client, &mut self.observations, server, name)?;
         Ok(number)
     }
 

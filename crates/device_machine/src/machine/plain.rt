@@ -1,25 +1,81 @@
 //! The short way of a plain Read: a GET that names a path and nothing else.
 
-ghost use Rattle.std.specs.Prelude.{◌≡◌, ◌<◌, ◌≤◌, None, true, length, IfOk, MatchResult, OnErr, OnOk};
+ghost use Rattle.std.specs.Prelude.{◌≡◌, ◌<◌, ◌≤◌, None, true, false, length, IfOk, MatchResult, OnErr, OnOk};
+ghost use Rattle.std.specs.Fmt.{signed_decimal};
 ghost use Rattle.coap_codec.specs.Message.{Message, kind_number};
 ghost use Rattle.coap_codec.specs.Reading.{reading_of};
+ghost use Rattle.device_requests.specs.Answer.{content};
+ghost use Rattle.device_requests.specs.Outcomes.{read_answer};
 ghost use Rattle.device_requests.specs.PlainRead.{IsPlainRead};
+ghost use Rattle.device_requests.specs.declared.answer.Answer.{Answer};
 ghost use Rattle.device_machine.specs.Asked.{message_with};
 ghost use Rattle.device_machine.specs.Held.{IsUpToDate};
 ghost use Rattle.device_machine.specs.declared.event.Event.TheVariants.{Recv};
 ghost use Rattle.device_machine.specs.Memory.{event_takes_memory, request_takes_memory};
-ghost use Rattle.device_machine.specs.Reactions.{Gives, on_outcome, on_request, reaction_to, repeat_of};
+ghost use Rattle.device_machine.specs.Reactions.{Gives, on_fresh, on_outcome, on_request, reaction_to, repeat_of, reply_with};
 ghost use Rattle.device_machine.specs.State.{lifetime};
 ghost use Rattle.device_requests.specs.Request.{outcome_of};
 
 use super::repeats::again;
 use crate::machine::Machine;
 use crate::output::Outputs;
-use crate::reply::Asked;
+use crate::reply::{Asked, number_reply};
 use device_requests::PlainRead;
+use object_defs::Path;
 use std::alloc::AllocError;
 
 impl Machine {
+    /// Replies to a plain Read that is no repeat with a number in digits.
+    fn reply_number(
+        &mut self,
+        server: u16,
+        asked: Asked<'_>,
+        number: i64,
+    ) -> Result<Outputs, AllocError>
+        requires fresh { repeat_of self.old.flat server (message_with asked.kind asked.mid asked.token.now) ≡ None }
+        requires lives { 0 < lifetime asked.kind }
+        requires token { length asked.token.now ≤ 8 }
+        requires up_to_date { IsUpToDate self.old }
+        ensures gives { IfOk result (λ o. Gives o self.new.flat
+            (on_fresh self.old.flat server (message_with asked.entry.kind asked.entry.mid asked.entry.token.now)
+            self.old.flat.kept
+            (reply_with self.old.flat.kept.next_id asked.entry.kind asked.entry.mid asked.entry.token.now false None
+            (content 0 (signed_decimal number)))
+            None)) }
+        ensures up_to_date { OnOk result (IsUpToDate self.new) }
+        ensures unchanged { OnErr result (self.new ≡ self.old) }
+    {
+        let reply = number_reply(self.alloc, &mut self.buffer, self.next_id, asked, number)?;
+        self.conclude(server, asked, reply, None)
+    }
+
+    /// Replies to a plain Read of a path that is no repeat with whatever its answer is. A call of its own, for which a
+    /// Read of a number does not pay.
+    #[inline(never)]
+    fn reply_read(
+        &mut self,
+        server: u16,
+        asked: Asked<'_>,
+        path: Path,
+    ) -> Result<Outputs, AllocError>
+        requires fresh { repeat_of self.old.flat server (message_with asked.kind asked.mid asked.token.now) ≡ None }
+        requires lives { 0 < lifetime asked.kind }
+        requires token { length asked.token.now ≤ 8 }
+        requires up_to_date { IsUpToDate self.old }
+        ensures gives { (answer : Answer) → answer ≡ read_answer self.old.flat.kept.client server path None
+            → IfOk result (λ o. Gives o self.new.flat
+            (on_fresh self.old.flat server (message_with asked.entry.kind asked.entry.mid asked.entry.token.now)
+            self.old.flat.kept
+            (reply_with self.old.flat.kept.next_id asked.entry.kind asked.entry.mid asked.entry.token.now false None
+            answer)
+            answer.act)) }
+        ensures up_to_date { OnOk result (IsUpToDate self.new) }
+        ensures unchanged { OnErr result (self.new ≡ self.old) }
+    {
+        let answer = self.client.read(server, path, None)?;
+        self.reply(server, asked, false, None, &answer)
+    }
+
     /// Answers a plain Read that is no repeat.
     fn take_fresh_plain(&mut self, server: u16, read: PlainRead<'_>) -> Result<Outputs, AllocError>
         requires fresh { repeat_of self.old.flat server (message_with read.kind read.mid read.token.now) ≡ None }
@@ -33,13 +89,15 @@ impl Machine {
         ensures up_to_date { OnOk result (IsUpToDate self.new) }
         ensures unchanged { OnErr result (self.new ≡ self.old) }
     {
-        let answer = self.client.read(server, read.path, None)?;
         let asked = Asked {
             kind: read.kind,
             mid: read.mid,
             token: read.token,
         };
-        self.reply(server, asked, false, None, &answer)
+        match self.client.number_read(server, read.path) {
+            Some(number) => self.reply_number(server, asked, number),
+            None => self.reply_read(server, asked, read.path),
+        }
     }
 
     /// Takes a plain Read.

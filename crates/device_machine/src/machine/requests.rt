@@ -1,13 +1,15 @@
 //! What a device does with a datagram.
 
-ghost use Rattle.std.specs.Prelude.{◌≡◌, ◌<◌, ◌≤◌, None, Ok, true, false, length, IfOk, OnErr, OnOk};
+ghost use Rattle.std.specs.Prelude.{◌≡◌, ◌<◌, ◌≤◌, Option, None, Ok, true, false, length, IfOk, OnErr, OnOk};
+ghost use Rattle.std.specs.Prelude.{option_map};
 ghost use Rattle.device_notifications.specs.Outlooks.{IsKnown};
 ghost use Rattle.coap_codec.specs.Fault.{is_empty_message};
+ghost use Rattle.coap_codec.specs.Message.{Message as MessageData, spelling};
 ghost use Rattle.coap_codec.specs.Reading.{reading_of};
 ghost use Rattle.device_machine.specs.declared.event.Event.TheVariants.{Recv};
-ghost use Rattle.device_machine.specs.Reactions.{Gives, claims_confirmable, is_request, on_fresh, on_message, on_noise};
+ghost use Rattle.device_machine.specs.Reactions.{Gives, claims_confirmable, is_request, on_fresh, on_message, on_noise, reply_with};
 ghost use Rattle.device_machine.specs.Reactions.{on_outcome, on_request, reaction_to, repeat_of};
-ghost use Rattle.device_machine.specs.Asked.{message_with, reply_with};
+ghost use Rattle.device_machine.specs.Asked.{message_with};
 ghost use Rattle.device_machine.specs.Memory.{KeepsRecords, LeavesOff, event_takes_memory, is_ignored};
 ghost use Rattle.device_machine.specs.Memory.{message_takes_memory};
 ghost use Rattle.device_machine.specs.Memory.{request_takes_memory};
@@ -25,6 +27,7 @@ use coap_codec::{CoapFault, Kind, Message, decode_in, header};
 use device_notifications::say_all;
 use device_requests::{Act, Answer, Client, Code, plain_read};
 use notifier::Observations;
+use octets::Bytes;
 use std::alloc::AllocError;
 use std::mem;
 
@@ -70,6 +73,41 @@ fn say_after(client: &Client, observations: &mut Observations, code: Code) -> Re
 }
 
 impl Machine {
+    /// Records a request that is no repeat with the datagram that replies to it, if one does, sends that, and acts.
+    pub(super) fn conclude(
+        &mut self,
+        server: u16,
+        asked: Asked<'_>,
+        reply: Option<Bytes>,
+        act: Option<Act>,
+    ) -> Result<Outputs, AllocError>
+        requires fresh { repeat_of self.old.flat server (message_with asked.kind asked.mid asked.token.now) ≡ None }
+        requires lives { 0 < lifetime asked.kind }
+        requires up_to_date { IsUpToDate self.old }
+        ensures gives { (said : Option MessageData) → reply ≡ option_map spelling said
+            → IfOk result (λ o. Gives o self.new.flat
+            (on_fresh self.old.flat server (message_with asked.entry.kind asked.entry.mid asked.entry.token.now)
+            self.old.flat.kept said act)) }
+        ensures up_to_date { OnOk result (IsUpToDate self.new) }
+        ensures unchanged { OnErr result (self.new ≡ self.old) }
+    {
+        let is_answered = reply.is_some();
+        let mut outputs = sent_to(self.alloc, server, &reply)?;
+        outputs.act(act)?;
+        let second = self.clock;
+        self.recorded.push(Recorded {
+            server,
+            kind: asked.kind,
+            mid: asked.mid,
+            second,
+            reply,
+        })?;
+        if asked.kind == Kind::Non && is_answered {
+            self.next_id = self.next_id.wrapping_add(1);
+        }
+        Ok(outputs)
+    }
+
     /// Answers a request that is no repeat: records it with the datagram that replies to it, sends that, and acts.
     pub(super) fn reply(
         &mut self,
@@ -101,21 +139,7 @@ impl Machine {
             number,
             answer,
         )?;
-        let is_answered = reply.is_some();
-        let mut outputs = sent_to(self.alloc, server, &reply)?;
-        outputs.act(answer.act)?;
-        let second = self.clock;
-        self.recorded.push(Recorded {
-            server,
-            kind: asked.kind,
-            mid: asked.mid,
-            second,
-            reply,
-        })?;
-        if asked.kind == Kind::Non && is_answered {
-            self.next_id = self.next_id.wrapping_add(1);
-        }
-        Ok(outputs)
+        self.conclude(server, asked, reply, answer.act)
     }
 
     /// Handles a first-time request: performs, replies, records.

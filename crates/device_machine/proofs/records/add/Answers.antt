@@ -1,36 +1,29 @@
-use Rattle.std.proofs.Common.{◌≡◌, ◌++◌, ◌∷◌, [], refl, sym, ap, subst, ◌∙◌}
+use Rattle.std.proofs.Common.{◌≡◌, ◌++◌, ◌∷◌, [], refl, sym, ap, subst, ◌∙◌, arith}
 use Rattle.std.specs.List.{AllByRecursion}
 use Rattle.std.specs.Map.{values_of}
 use Rattle.indexmap.proofs.CallerLemmas.{insert_entry-new}
 use Rattle.lemmas.proofs.Lists.{each_pushed}
 use Rattle.notifier.proofs.ObservedLaws.{values-append}
 use Rattle.device_machine.specs.Records.{HasOwnKey}
-use Rattle.device_machine.specs.declared.records.RecordKey.{RecordKey}
 use Rattle.device_machine.specs.contracts.records.RecordKeyPartialEq.TheImpl.{eq-value}
 use Rattle.device_machine.proofs.Keyed.{found}
 use Rattle.device_machine.proofs.records.add.Goals as goal
 
-key : (c : goal.Joined-branch-2) → RecordKey
-key c = record { server = c.args.request.server; mid = c.args.request.mid; kind = c.kind_number.result }
-
 last : (c : goal.Joined-branch-2)
-    → c.insert.new.self.entries ≡ c.args.entries.now.entries ++ (key c, c.args.request) ∷ []
-unfolding key
+    → c.insert.new.self.entries ≡ c.args.entries.now.entries ++ (c.key_of.result, c.args.request) ∷ []
 last c =
     c.in_ok-insert.ensures.entries
-    ∙ insert_entry-new eq-value.it c.args.entries.now (key c) c.args.request
-    (found eq-value.it (λ k j. refl) c.args.request.server c.args.request.mid c.kind_number.result c.args.request.kind
-    c.kind_number.ensures c.args.entries.now.entries c.requires.keyed.0 ∙ c.requires.new)
+    ∙ insert_entry-new eq-value.it c.args.entries.now c.key_of.result c.args.request
+    (found eq-value.it (λ k j. refl) c.args.request.server c.args.request.mid c.args.request.kind c.key_of.result
+    (omega arith) (omega arith) c.key_of.ensures c.args.entries.now.entries c.requires.keyed.0 ∙ c.requires.new)
 
 pub returns-clause-ok : goal.returns-clause-ok
-unfolding key
-returns-clause-ok c = ap values_of (last c) ∙ values-append c.args.entries.now.entries (key c, c.args.request)
+returns-clause-ok c = ap values_of (last c) ∙ values-append c.args.entries.now.entries (c.key_of.result, c.args.request)
 
 pub returns-clause-keyed : goal.returns-clause-keyed
-unfolding key
 returns-clause-keyed c = (
   subst (AllByRecursion HasOwnKey) (sym (last c))
-      (each_pushed HasOwnKey c.args.entries.now.entries (key c, c.args.request) c.requires.keyed.0
-      (record { server = refl; mid = refl; kind = c.kind_number.ensures })),
+      (each_pushed HasOwnKey c.args.entries.now.entries (c.key_of.result, c.args.request) c.requires.keyed.0
+      (record { number = c.key_of.ensures; server = omega arith; mid = omega arith })),
   c.insert.ensures.unique,
 )

@@ -5,7 +5,7 @@ use Rattle.fleet_core.proofs.checking.check.Goals as goal
 
 pub returns-then-not-branch : goal.returns-then-not-branch
 returns-then-not-branch c =
-    breaks c.args.scenario.now c.args.entries.now c.loop-at.at c.loop-at.fleet c.replay.new.fleet
+    breaks c.args.scenario.now c.args.entries.now c.loop-at.at c.loop-at.replay c.take.new.self
     c.index-entries-at.result c.loop-at.invariant c.loop-at-test.true c.index-entries-at.is
-    (subst (λ b. Replays c.loop-at.fleet c.replay.new.fleet c.index-entries-at.result b) c.if-not-branch.true
-    c.in_ok-replay.ensures)
+    (subst (λ b. Replays c.loop-at.replay c.take.new.self c.index-entries-at.result b) c.if-not-branch.true
+    c.in_ok-take.ensures.replays)

@@ -1,5 +1,5 @@
 -- Where something is to be sent, the outputs take memory; and the requests that are kept live.
-use Rattle.std.proofs.Common.{◌≡◌, ◌∙◌, ◌+◌, ◌≤◌, true, refl, subst, sym, arith}
+use Rattle.std.proofs.Common.{◌≡◌, ◌∙◌, ◌+◌, true, refl, subst, sym, arith}
 use Rattle.std.proofs.Math.Logic.{inl}
 use Rattle.lemmas.proofs.Results.{on_err}
 use Rattle.device_notifications.specs.Progress.{does_act}
