@@ -1,6 +1,8 @@
 pub mod Runs
 pub mod Rows
 pub mod Moving
+pub mod Faults
+pub mod Empties
 pub mod Copying
 pub mod Totals
 pub mod Counting

@@ -88,9 +88,9 @@ copies_read v s es place d i m j made devices breaks copies replayed x slice ins
     let has = made_some v s es place d made devices breaks copies replayed inside some in
     let count = counted_read v s es place d i m made devices breaks copies replayed inside has.row same read in
     let within : d < length copies = omega (arith, has.row, inside.kept.sources) in
-    let few : m - 1 ≤ made_by d es = omega (arith, count, made_before es d place) in
+    let few : m - 1 ≤ made_by d es - 1 = omega (arith, count, made_before es d place) in
     subst (HasCopies s d (m - 1)) (sym is)
-    (fewer_copies s d (made_by d es) (m - 1) x.devices.items
+    (fewer_copies s d (made_by d es - 1) (m - 1) x.devices.items
     (inside.kept.copied.each d x (read_at copies j d x here within kept)) few)
 
 state_at_step : (s : Scenario) (d k j : ℕ) (x : Device) → k ≡ suc j → ShowsState (state_of s d j) x

@@ -1,14 +1,14 @@
 //! Copies of each device along its row, from which a move back goes on.
 
-ghost use Rattle.std.specs.Prelude.{◌≡◌, ℕ, ◌*◌, ◌<◌, length, slice_index, IfOk};
+ghost use Rattle.std.specs.Prelude.{◌≡◌, ℕ, ◌*◌, ◌<◌, [], ◌∷◌, ◌++◌, true, false, length, Err, IfOk, OnOk};
 ghost use Rattle.fleet_core.specs.Run.{IsRun};
-ghost use Rattle.fleet_core.specs.Board.{ShowsAfter};
-ghost use Rattle.debugger.specs.Copies.{HasCopies, AreCopiedTo, AreCopied};
-ghost use Rattle.debugger.specs.Moves.{HasSteps};
+ghost use Rattle.fleet_core.specs.Board.{ShowsAfter, Replays};
+ghost use Rattle.fleet_core.specs.Verdict.{BreaksAt};
+ghost use Rattle.debugger.specs.Copies.{HasCopies, AreCopied, AreCopiedAfter};
 
-use crate::steps::advance;
+use crate::fault::OpenFault;
 use device_machine::Device;
-use fleet_core::{count_entries, start_of_row};
+use fleet_core::{Replay, count_entries, start_of_row};
 use scenario_image::Scenario;
 use std::alloc::{AllocError, Global};
 use trace_file::Entry;
@@ -23,69 +23,81 @@ pub(crate) struct Copies {
     pub(crate) devices: Vec<Device>,
 }
 
-/// The copies of a device along this many steps of its row.
-fn copies_along(
-    alloc: Global,
-    scenario: &Scenario,
-    device: u16,
-    steps: u32,
-) -> Result<Copies, AllocError>
-    requires device { device < length scenario.now.rows }
-    requires row { HasSteps scenario.now device steps }
-    ensures { IfOk result (λ x. HasCopies scenario.now device steps x.devices.items) }
-{
-    let count = steps / COPY_STEPS;
-    let mut devices = Vec::with_capacity(alloc, count as usize)?;
-    if count == 0 {
-        return Ok(Copies { devices });
-    }
-    let mut machine = start_of_row(scenario, device)?;
-    for index in 0..count {
-        let from = COPY_STEPS * index;
-        let _steps = advance(
-            alloc,
-            scenario,
-            &mut machine,
-            device,
-            from,
-            from + COPY_STEPS,
-        )?;
-        let copy = machine.copy()?;
-        devices.push(copy)?;
-    }
-    Ok(Copies { devices })
-}
-
-/// The copies of each row's device, along as many of its steps as its count.
-fn copies_by(alloc: Global, scenario: &Scenario, counts: &[u64]) -> Result<Vec<Copies>, AllocError>
-    requires rows { length counts.now ≡ length scenario.now.rows }
-    requires steps { (d : ℕ) → d < length scenario.now.rows → HasSteps scenario.now d (slice_index counts.now d) }
-    ensures count { IfOk result (λ v. length v.items ≡ length scenario.now.rows) }
-    ensures copied { IfOk result (λ v. AreCopiedTo scenario.now counts.now v.items) }
-{
-    let rows = scenario.rows();
-    let mut all = Vec::with_capacity(alloc, rows)?;
-    for device in 0..rows {
-        let steps = counts[device];
-        let copies = copies_along(alloc, scenario, device as u16, steps as u32)?;
-        all.push(copies)?;
-    }
-    Ok(all)
-}
-
-/// The copies of each row's device, along all of its entries.
-pub(crate) fn all_copies(
+/// For each row no copy yet, with room for one after each 64 of these entries of its device.
+fn no_copies(
     alloc: Global,
     scenario: &Scenario,
     entries: &[Entry],
 ) -> Result<Vec<Copies>, AllocError>
-    requires { IsRun scenario.now entries.now }
-    ensures count { IfOk result (λ v. length v.items ≡ length scenario.now.rows) }
-    ensures copied { IfOk result (λ v. AreCopied scenario.now entries.now v.items) }
+    ensures { IfOk result (λ v. AreCopiedAfter scenario.now [] v.items) }
 {
     let rows = scenario.rows();
     let counts = count_entries(alloc, rows, entries)?;
-    let copies = copies_by(alloc, scenario, counts.as_slice())?;
+    let mut all = Vec::with_capacity(alloc, rows)?;
+    for row in 0..rows {
+        let room = counts[row] / u64::from(COPY_STEPS);
+        let devices = Vec::with_capacity(alloc, room as usize)?;
+        all.push(Copies { devices })?;
+    }
+    Ok(all)
+}
+
+/// Adds a copy of this device.
+fn add_copy(own: &mut Copies, machine: &Device) -> Result<(), AllocError>
+    ensures { OnOk result (own.new.devices.items ≡ own.old.devices.items ++ machine.now ∷ []) }
+{
+    let copy = machine.copy()?;
+    own.devices.push(copy)?;
+    Ok(())
+}
+
+/// Takes an entry into the replay, and returns whether it comes next. After each 64 of its entries a device is copied,
+/// as long as it has steps left: after the last one the replay holds it no more, and no move goes back to there.
+fn take_entry(
+    replay: &mut Replay,
+    copies: &mut Vec<Copies>,
+    entry: &Entry,
+) -> Result<bool, AllocError>
+    requires ready { replay.old.spent ≡ false }
+    requires copied { AreCopiedAfter replay.old.scenario replay.old.entries copies.old.items }
+    ensures replays { IfOk result (λ fits. Replays replay.old replay.new entry.now fits) }
+    ensures copied { IfOk result (λ fits. fits ≡ true
+        → AreCopiedAfter replay.new.scenario replay.new.entries copies.new.items) }
+{
+    if !replay.take(entry)? {
+        return Ok(false);
+    }
+    if entry.step % COPY_STEPS != COPY_STEPS - 1 {
+        return Ok(true);
+    }
+    match replay.device(entry.device) {
+        None => Ok(true),
+        Some(machine) => {
+            let own = &mut copies[usize::from(entry.device)];
+            add_copy(own, machine)?;
+            Ok(true)
+        }
+    }
+}
+
+/// The copies of each row's device along its entries, if these are a run. Each step of it is made once.
+pub(crate) fn copies_of_run(
+    alloc: Global,
+    scenario: &Scenario,
+    entries: &[Entry],
+) -> Result<Vec<Copies>, OpenFault>
+    ensures run { OnOk result (IsRun scenario.now entries.now) }
+    ensures rows { IfOk result (λ v. length v.items ≡ length scenario.now.rows) }
+    ensures copied { IfOk result (λ v. AreCopied scenario.now entries.now v.items) }
+    ensures not_run { (at : ℕ) → result ≡ Err (OpenFault.NotRun at) → BreaksAt scenario.now entries.now at }
+{
+    let mut replay = Replay::new(alloc, scenario)?;
+    let mut copies = no_copies(alloc, scenario, entries)?;
+    for (at, entry) in entries.iter().enumerate() {
+        if !take_entry(&mut replay, &mut copies, entry)? {
+            return Err(OpenFault::NotRun(at));
+        }
+    }
     Ok(copies)
 }
 

@@ -124,7 +124,7 @@ fn moved_device(
     from: u64,
     to: u64,
 ) -> Result<Moved, AllocError>
-    requires copied { HasCopies scenario.now device to copies.now }
+    requires copied { to < from → HasCopies scenario.now device to copies.now }
     requires shows { ShowsAfter scenario.now device from machine.now }
     requires device { device < length scenario.now.rows }
     requires first { HasSteps scenario.now device from }

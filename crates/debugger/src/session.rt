@@ -13,7 +13,7 @@ ghost use Rattle.debugger.specs.Stops.{IsNextStop};
 ghost use Rattle.debugger.specs.Breaks.{IsTaken, AreAllTaken, IsAdded, IsRemoved};
 
 use crate::breaks::{Break, Stop, StopAt};
-use crate::copies::{Copies, all_copies};
+use crate::copies::{Copies, copies_of_run};
 use crate::fault::{AddFault, BackFault, DeviceFault, ForwardFault, OpenFault, RemoveFault};
 use crate::latest::latest_step;
 use crate::moves::{Moves, count_rows, device_before, moved_devices, settle};
@@ -23,7 +23,7 @@ use crate::search::first_stop;
 use crate::slots::{free_slot, is_taken, no_breaks};
 use crate::watches::watch_devices;
 use device_machine::{Device, Output};
-use fleet_core::{Verdict, check, start_devices};
+use fleet_core::start_devices;
 use lwm2m_values::Value;
 use notifier::Observations;
 use object_defs::Path;
@@ -33,9 +33,10 @@ use std::marker::Model;
 use trace_file::Entries;
 
 /// A debugger over a run: it stands at a place, from 0 to the count of the entries, and shows each device as it is
-/// after the entries before the place, in their order. It keeps a copy of each device after each 64 of its entries, so
-/// that a move back makes few steps, and where each device has its entries. Contracts see the scenario, the run, the
-/// place, the breakpoints, and how many steps devices took in the last move by a number of entries.
+/// after the entries before the place, in their order. It keeps a copy of each device after each 64 of its entries, as
+/// long as others can follow, so that a move back makes few steps, and where each device has its entries. Contracts see
+/// the scenario, the run, the place, the breakpoints, and how many steps devices took in the last move by a number of
+/// entries.
 #[derive(Drop)]
 pub struct Debugger<'a> {
     alloc: Global,
@@ -73,7 +74,8 @@ impl<'a> Model for Debugger<'a> {
 
 impl<'a> Debugger<'a> {
     /// Opens a debugger before the first entry, without a breakpoint, over a run. `NotRun`: the entries are not a run
-    /// of the scenario; the ones before its place are, and with the one at it they are not.
+    /// of the scenario; the ones before its place are, and with the one at it they are not. Each step of the run is
+    /// made once, and none past that place.
     pub fn open(
         alloc: Global,
         scenario: &'a Scenario,
@@ -83,14 +85,10 @@ impl<'a> Debugger<'a> {
         ensures run { OnOk result (IsRun scenario.now entries) }
         ensures not_run { (at : ℕ) → result ≡ Err (OpenFault.NotRun at) → BreaksAt scenario.now entries at }
     {
-        match check(alloc, scenario, entries.as_slice())? {
-            Verdict::Run => {}
-            Verdict::NotRun(at) => return Err(OpenFault::NotRun(at)),
-        }
+        let copies = copies_of_run(alloc, scenario, entries.as_slice())?;
         let devices = start_devices(alloc, scenario)?;
         let made = count_rows(alloc, scenario, entries.as_slice(), 0)?;
         let breaks = no_breaks(alloc)?;
-        let copies = all_copies(alloc, scenario, entries.as_slice())?;
         let places = all_places(alloc, scenario, entries.as_slice())?;
         Ok(Debugger {
             alloc,

@@ -115,16 +115,10 @@ count_before-count-requires c =
     c.as_slice-indexes.result.now has
 
 pub moved_device-requires-clause-copied : goal.moved_device-requires-clause-copied
-moved_device-requires-clause-copied c =
+moved_device-requires-clause-copied c = λ less.
     let passed = passed_is c.args.scenario.now c.args.entries.now c.min-first.result c.max-last.result
     c.loop-index.index c.args.from c.args.to c.index-entries-index.result c.requires.run c.max-last.ensures
     c.requires.from c.requires.to c.loop-index.auto.index c.loop-index-test.true c.index-entries-index.is in
-    let has = places_of c.args.scenario.now c.args.entries.now c.min-first.result c.loop-index.index c.from-row.result
-    c.index-entries-index.result c.args.places.now c.index-places-row.result c.as_slice-indexes.result.now passed
-    c.requires.placed c.requires.listed c.from-row.ensures c.index-places-row.is c.as_slice-indexes.ensures.value in
-    let count = count_is c.args.entries.now c.index-entries-index.result.device c.args.to c.count_before-count.result
-    c.as_slice-indexes.result.now has c.requires.to c.count_before-count.ensures.within
-    c.count_before-count.ensures.before c.count_before-count.ensures.after in
     let row : c.index-entries-index.result.device < length c.args.copies.now =
     omega (
       arith,
@@ -132,9 +126,12 @@ moved_device-requires-clause-copied c =
           c.index-entries-index.result passed,
       c.requires.sources,
     ) in
-    copies_for c.args.scenario.now c.args.entries.now c.index-entries-index.result.device c.from-row.result c.args.to
-    c.count_before-count.result c.args.copies.now c.index-copies-row.result c.as_slice-sources.result.now
-    c.requires.copied row c.from-row.ensures c.index-copies-row.is c.as_slice-sources.ensures.value count
+    copies_for c.args.scenario.now c.args.entries.now c.index-entries-index.result.device c.from-row.result c.args.from
+    (slice_index c.args.made.now c.from-row.result) c.count_before-count.result c.args.copies.now
+    c.index-copies-row.result c.as_slice-sources.result.now c.requires.copied row c.from-row.ensures
+    c.index-copies-row.is c.as_slice-sources.ensures.value
+    (count_of c.args.scenario.now c.args.entries.now c.args.from c.min-first.result c.loop-index.index
+    c.from-row.result c.index-entries-index.result c.args.made.now passed c.requires.counted c.from-row.ensures) less
 
 pub moved_device-requires-clause-shows : goal.moved_device-requires-clause-shows
 moved_device-requires-clause-shows c =
