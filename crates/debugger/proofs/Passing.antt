@@ -1,9 +1,8 @@
 -- The entries that a move passes, and the devices that it finds by them.
-use Rattle.std.proofs.Common.{◌≡◌, ℕ, ◌+◌, ◌-◌, ◌*◌, ◌^◌, ◌<◌, ◌≤◌, ◌⊎◌, inl, inr, nat_lt, nat_le, cond, Bool, true, false}
+use Rattle.std.proofs.Common.{◌≡◌, ℕ, ◌+◌, ◌-◌, ◌*◌, ◌^◌, ◌<◌, ◌≤◌, ◌⊎◌, inl, inr, nat_lt, cond, Bool, true, false}
 use Rattle.std.proofs.Common.{List, [], ◌∷◌, ◌++◌, length, take, min, max, None, Some, slice_get, slice_index}
 use Rattle.std.proofs.Common.{get_or, refl, sym, ap, subst, ◌∙◌, arith}
-use Rattle.std.proofs.lemmas.Bool.{cases_eq, cases_lt, lt-ltb, le-ltb, ltb-true, ltb-false, leb-true, leb-false}
-use Rattle.std.proofs.lemmas.Bool.{and_parts, and_cases}
+use Rattle.std.proofs.lemmas.Bool.{cases_eq, cases_lt, lt-ltb, le-ltb}
 use Rattle.std.proofs.lemmas.Option.{slice_get_within}
 use Rattle.lemmas.proofs.Lists.{pushed_cases, item_pushed, item_before}
 use Rattle.device_machine.specs.State.{Device}
@@ -14,7 +13,7 @@ use Rattle.fleet_core.specs.Board.{ShowsAfter}
 use Rattle.debugger.specs.declared.moves.Moved.{Moved}
 use Rattle.debugger.specs.Moves.{IsMoved, IsAmong, IsReady, IsSettled, AreMoved, steps_between, steps_over}
 use Rattle.debugger.specs.declared.places.Places.{Places}
-use Rattle.debugger.specs.Places.{HasPlaces, ArePlaced, has_earlier}
+use Rattle.debugger.specs.Places.{HasPlaces, ArePlaced}
 use Rattle.debugger.specs.Session.{AreAt, AreCounted}
 use Rattle.debugger.proofs.Counting.{entry_at, entry_row}
 use Rattle.debugger.proofs.Placing.{made_order, place_at, place_before, place_after, places_read, count_within}
@@ -42,40 +41,36 @@ step_within s es first i e indexes passed has =
     (step_before s es e.device i e passed.run passed.stands refl)
 
 -- after another one of its device
-pub earlier_yes : (s : Scenario) (es : List Entry) (n first i : ℕ) (e : Entry) (indexes : List ℕ) (r : Bool)
+pub earlier_yes : (s : Scenario) (es : List Entry) (n first i : ℕ) (e : Entry) (indexes : List ℕ)
     → IsPassed s es first i e → HasPlaces es n e.device indexes → e.step ≤ length indexes
-    → r ≡ has_earlier indexes e.step first → r ≡ true
+    → (k : ℕ) × (k < e.step) × (first ≤ slice_index indexes k)
     → made_by e.device (take first es) < made_by e.device (take i es)
-earlier_yes s es n first i e indexes r passed has room is so =
-    let parts = and_parts (nat_lt 0 e.step) (nat_le first (slice_index indexes (e.step - 1))) (sym is ∙ so) in
-    let some : 0 < e.step = ltb-true 0 e.step parts.0 in
-    let more : first ≤ slice_index indexes (e.step - 1) = leb-true first (slice_index indexes (e.step - 1)) parts.1 in
-    let place = place_at es n e.device (e.step - 1) indexes has (omega (arith, some, room)) in
-    let less = place_after es e.device (e.step - 1) (slice_index indexes (e.step - 1)) first place more in
-    omega (arith, less, some, step_before s es e.device i e passed.run passed.stands refl)
+earlier_yes s es n first i e indexes passed has room other =
+    let place = place_at es n e.device other.0 indexes has (omega (arith, other.1, room)) in
+    let less = place_after es e.device other.0 (slice_index indexes other.0) first place other.2 in
+    omega (arith, less, other.1, step_before s es e.device i e passed.run passed.stands refl)
 
 first_of : (s : Scenario) (es : List Entry) (n first i : ℕ) (e : Entry) (indexes : List ℕ) → IsPassed s es first i e
-    → HasPlaces es n e.device indexes → e.step ≤ length indexes → (e.step ≡ 0) ⊎ (e.step ≡ 0 → ⊥)
-    → (nat_lt 0 e.step ≡ false) ⊎ (nat_le first (slice_index indexes (e.step - 1)) ≡ false)
+    → HasPlaces es n e.device indexes → e.step ≤ length indexes
+    → ((k : ℕ) × (k < e.step) × (first ≤ slice_index indexes k) → ⊥) → (e.step ≡ 0) ⊎ (e.step ≡ 0 → ⊥)
+    → (slice_index indexes (e.step - 1) < first) ⊎ (first ≤ slice_index indexes (e.step - 1))
     → e.step ≤ made_by e.device (take first es)
-first_of s es n first i e indexes passed has room (inl none) not_so = omega (arith, none)
-first_of s es n first i e indexes passed has room (inr some) (inl not_so) =
-    absurd (omega (arith, some, ltb-false 0 e.step not_so))
-first_of s es n first i e indexes passed has room (inr some) (inr not_so) =
-    let less : slice_index indexes (e.step - 1) < first =
-    leb-false first (slice_index indexes (e.step - 1)) not_so in
+first_of s es n first i e indexes passed has room none (inl zeroth) before = omega (arith, zeroth)
+first_of s es n first i e indexes passed has room none (inr some) (inr more) =
+    absurd (none (e.step - 1, omega (arith, some), more))
+first_of s es n first i e indexes passed has room none (inr some) (inl less) =
     let place = place_at es n e.device (e.step - 1) indexes has (omega (arith, some, room)) in
     let more = place_before es e.device (e.step - 1) (slice_index indexes (e.step - 1)) first place less in
     omega (arith, more, some)
 
 -- or the first one of its device
-pub earlier_no : (s : Scenario) (es : List Entry) (n first i : ℕ) (e : Entry) (indexes : List ℕ) (r : Bool)
+pub earlier_no : (s : Scenario) (es : List Entry) (n first i : ℕ) (e : Entry) (indexes : List ℕ)
     → IsPassed s es first i e → HasPlaces es n e.device indexes → e.step ≤ length indexes
-    → r ≡ has_earlier indexes e.step first → r ≡ false
+    → ((k : ℕ) × (k < e.step) × (first ≤ slice_index indexes k) → ⊥)
     → made_by e.device (take i es) ≡ made_by e.device (take first es)
-earlier_no s es n first i e indexes r passed has room is not_so =
-    let more = first_of s es n first i e indexes passed has room (cases_eq e.step 0)
-    (and_cases (nat_lt 0 e.step) (nat_le first (slice_index indexes (e.step - 1))) (sym is ∙ not_so)) in
+earlier_no s es n first i e indexes passed has room none =
+    let more = first_of s es n first i e indexes passed has room none (cases_eq e.step 0)
+    (cases_lt (slice_index indexes (e.step - 1)) first) in
     let order = made_order es e.device first i passed.low in
     omega (arith, more, order, step_before s es e.device i e passed.run passed.stands refl)
 

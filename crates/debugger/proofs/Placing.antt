@@ -1,8 +1,10 @@
 -- Where in the run a device has its entries.
-use Rattle.std.proofs.Common.{◌≡◌, ℕ, suc, ◌+◌, ◌-◌, ◌<◌, ◌≤◌, ◌⊎◌, inl, inr, List, [], ◌∷◌, ◌++◌, length, take, set}
-use Rattle.std.proofs.Common.{get_or, None, Some, slice_get, slice_index, refl, sym, ap, subst, ◌∙◌, arith}
+use Rattle.std.proofs.Common.{◌≡◌, ℕ, suc, ◌+◌, ◌-◌, ◌<◌, ◌≤◌, ◌⊎◌, inl, inr, List, [], ◌∷◌, ◌++◌, length, map, replicate, take}
+use Rattle.std.proofs.Common.{set, get_or, None, Some, slice_get, slice_index, refl, sym, ap, subst, ◌∙◌, arith}
 use Rattle.std.proofs.lemmas.Bool.{cases_eq, cases_lt}
 use Rattle.std.proofs.lemmas.List.{length-set, get_or_read, take-take, take_all}
+use Rattle.std.proofs.lemmas.List.Sorted.{IsNonDecreasingBy-from_default}
+use Rattle.std.specs.List.Sorted.{IsNonDecreasing}
 use Rattle.std.proofs.lemmas.Option.{slice_get_within, slice_get_read, slice_get-get_or, same_Some}
 use Rattle.lemmas.proofs.Lists.{pushed_cases, set_gives, set_elsewhere, length_pushed, take_none}
 use Rattle.scenario_image.specs.Scenario.{Scenario}
@@ -14,6 +16,7 @@ use Rattle.debugger.specs.declared.places.Places.{Places}
 use Rattle.debugger.specs.Places.{IsPlace, HasPlaces, ArePlaced}
 use Rattle.debugger.proofs.Copying.{made_before}
 use Rattle.debugger.proofs.Counting.{entry_at, entry_row}
+use Rattle.debugger.proofs.Empties.{empty_at}
 use Rattle.debugger.proofs.Runs.{made_own, made_else, own_outputs}
 
 -- before a later place a device has no fewer entries
@@ -22,22 +25,6 @@ made_order es d a b order =
     subst (λ l. made_by d l ≤ made_by d (take b es)) (take-take a b es order) (made_before (take b es) d a)
 
 -- ---- the lists as they are made
-
-pub none_first : (places : List Places) → places ≡ [] → (d : ℕ) (x : Places) → slice_get places d ≡ Some x
-    → x.indexes.items ≡ []
-none_first places none d x h = let e : None ≡ Some x = ap (λ l. slice_get l d) (sym none) ∙ h in absurd cc
-
-none_pushed : (places : List Places) (y : Places) (d : ℕ) (x : Places)
-    → ((k : ℕ) (z : Places) → slice_get places k ≡ Some z → z.indexes.items ≡ []) → y.indexes.items ≡ []
-    → (slice_get places d ≡ Some x) ⊎ ((d ≡ length places) × (y ≡ x)) → x.indexes.items ≡ []
-none_pushed places y d x none empty (inl h) = none d x h
-none_pushed places y d x none empty (inr h) = ap (λ p. p.indexes.items) (sym h.1) ∙ empty
-
-pub none_more : (places more : List Places) (y : Places)
-    → ((k : ℕ) (z : Places) → slice_get places k ≡ Some z → z.indexes.items ≡ []) → y.indexes.items ≡ []
-    → more ≡ places ++ y ∷ [] → (d : ℕ) (x : Places) → slice_get more d ≡ Some x → x.indexes.items ≡ []
-none_more places more y none empty added d x h =
-    none_pushed places y d x none empty (pushed_cases places y d x (ap (λ l. slice_get l d) (sym added) ∙ h))
 
 no_entry : (es : List Entry) (d : ℕ) (indexes : List ℕ) → indexes ≡ [] → HasPlaces es 0 d indexes
 no_entry es d indexes none =
@@ -48,9 +35,11 @@ no_entry es d indexes none =
       count = count ∙ sym made;
     }
 
-pub none_placed : (es : List Entry) (places : List Places)
-    → ((d : ℕ) (x : Places) → slice_get places d ≡ Some x → x.indexes.items ≡ []) → ArePlaced es 0 places
-none_placed es places none = record { each = λ d x h. no_entry es d x.indexes.items (none d x h) }
+pub none_placed : (es : List Entry) (n : ℕ) (places : List Places)
+    → map (λ x. x.indexes.items) places ≡ replicate n [] → ArePlaced es 0 places
+none_placed es n places are = record {
+  each = λ d x h. no_entry es d x.indexes.items (empty_at (λ y. y.indexes.items) n places d x are h);
+}
 
 place_pushed : (es : List Entry) (i d : ℕ) (e : Entry) (indexes : List ℕ) (k j : ℕ) → slice_get es i ≡ Some e
     → e.device ≡ d → HasPlaces es i d indexes → (slice_get indexes k ≡ Some j) ⊎ ((k ≡ length indexes) × (i ≡ j))
@@ -210,12 +199,13 @@ rise es d i j a b first second order (inl less) =
     absurd (omega (arith, before, first.before, order))
 
 -- the indexes rise
-pub places_rise : (es : List Entry) (n d : ℕ) (indexes : List ℕ) → HasPlaces es n d indexes
-    → (i j : ℕ) → i ≤ j → j < length indexes → slice_index indexes i ≤ slice_index indexes j
-places_rise es n d indexes has i j order within =
+pub places_rise : (es : List Entry) (n d : ℕ) (indexes : List ℕ) → HasPlaces es n d indexes → IsNonDecreasing indexes
+places_rise es n d indexes has =
+    IsNonDecreasingBy-from_default (λ (x : ℕ). x) indexes 0
+    (λ i j order within.
     rise es d i j (slice_index indexes i) (slice_index indexes j)
     (place_at es n d i indexes has (omega (arith, order, within))) (place_at es n d j indexes has within) order
-    (cases_lt (slice_index indexes j) (slice_index indexes i))
+    (cases_lt (slice_index indexes j) (slice_index indexes i)))
 
 count_most : (es : List Entry) (n d to r m : ℕ) (indexes : List ℕ) → HasPlaces es n d indexes
     → m ≡ made_by d (take to es) → r ≤ length indexes → ((k : ℕ) → k < r → slice_index indexes k < to)

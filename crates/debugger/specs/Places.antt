@@ -1,5 +1,5 @@
 -- The places of devices' entries, as clauses of private functions name them. No promise rests on it.
-use Rattle.std.specs.Prelude.{◌≡◌, ℕ, ◌-◌, ◌&&◌, Bool, nat_lt, nat_le, List, length, take, Some, slice_get, slice_index}
+use Rattle.std.specs.Prelude.{◌≡◌, ℕ, List, length, take, Some, slice_get}
 use Rattle.trace_file.specs.declared.entry.Entry.{Entry}
 use Rattle.fleet_core.specs.Run.{made_by}
 use Rattle.debugger.specs.declared.places.Places.{Places}
@@ -19,7 +19,3 @@ pub record HasPlaces (es : List Entry) (n d : ℕ) (indexes : List ℕ) : Type 0
 -- so for each row
 pub record ArePlaced (es : List Entry) (n : ℕ) (places : List Places) : Type 0 where
   pub each : (d : ℕ) (x : Places) → slice_get places d ≡ Some x → HasPlaces es n d x.indexes.items
-
--- a device's entry of this step follows another one of the device from a place on
-abbrev pub has_earlier : List ℕ → ℕ → ℕ → Bool
-has_earlier indexes step from = nat_lt 0 step && nat_le from (slice_index indexes (step - 1))

@@ -1,10 +1,11 @@
 //! Where in the run each device has its entries.
 
-ghost use Rattle.std.specs.Prelude.{◌≡◌, ℕ, ◌<◌, ◌≤◌, [], ◌∷◌, ◌++◌, Some, length, slice_get, slice_index, IfOk, OnOk};
+ghost use Rattle.std.specs.Prelude.{◌≡◌, ℕ, ◌<◌, ◌≤◌, ◌↔◌, [], ◌∷◌, ◌++◌, length, map, replicate, slice_index};
+ghost use Rattle.std.specs.Prelude.{IsTrue, IfOk, OnOk};
+ghost use Rattle.std.specs.List.Sorted.{IsNonDecreasing};
 ghost use Rattle.fleet_core.specs.Run.{IsRun};
-ghost use Rattle.debugger.specs.Places.{HasPlaces, ArePlaced, has_earlier};
+ghost use Rattle.debugger.specs.Places.{HasPlaces, ArePlaced};
 ghost use Rattle.debugger.specs.Shown.{latest};
-ghost use Rattle.debugger.specs.declared.places.Places.{Places};
 
 use device_machine::Output;
 use scenario_image::Scenario;
@@ -21,8 +22,7 @@ pub(crate) struct Places {
 
 /// Empty lists for this many rows.
 fn no_places(alloc: Global, rows: usize) -> Result<Vec<Places>, AllocError>
-    ensures count { IfOk result (λ v. length v.items ≡ rows) }
-    ensures none { IfOk result (λ v. (d : ℕ) (x : Places) → slice_get v.items d ≡ Some x → x.indexes.items ≡ []) }
+    ensures { IfOk result (λ v. map (λ x. x.indexes.items) v.items ≡ replicate rows []) }
 {
     let mut places = Vec::with_capacity(alloc, rows)?;
     for _row in 0..rows {
@@ -62,8 +62,7 @@ pub(crate) fn all_places(
 
 /// How many of these indexes, which rise, are below this one.
 pub(crate) fn count_before(indexes: &[usize], to: usize) -> usize
-    requires { (i : ℕ) (j : ℕ) → i ≤ j → j < length indexes.now
-        → slice_index indexes.now i ≤ slice_index indexes.now j }
+    requires { IsNonDecreasing indexes.now }
     ensures within { result ≤ length indexes.now }
     ensures before { (k : ℕ) → k < result → slice_index indexes.now k < to }
     ensures after { (k : ℕ) → result ≤ k → k < length indexes.now → to ≤ slice_index indexes.now k }
@@ -71,10 +70,12 @@ pub(crate) fn count_before(indexes: &[usize], to: usize) -> usize
     indexes.partition_point(|index| *index < to)
 }
 
-/// Whether a device's entry of this step follows another one of the device from a place on.
+/// Whether some entry of a device before that of this step is at a place or after it. The indexes are those of its
+/// entries.
 pub(crate) fn has_earlier(indexes: &[usize], step: u32, from: usize) -> bool
-    requires { step ≤ length indexes.now }
-    ensures { result ≡ has_earlier indexes.now step from }
+    requires rise { IsNonDecreasing indexes.now }
+    requires step { step ≤ length indexes.now }
+    ensures { IsTrue result ↔ ((k : ℕ) × (k < step) × (from ≤ slice_index indexes.now k)) }
 {
     0 < step && from <= indexes[step as usize - 1]
 }

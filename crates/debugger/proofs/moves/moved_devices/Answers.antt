@@ -1,4 +1,5 @@
-use Rattle.std.proofs.Common.{◌≡◌, ◌+◌, ◌*◌, ◌^◌, ◌<◌, ◌≤◌, length, slice_index, sym, subst, arith}
+use Rattle.std.proofs.Common.{◌≡◌, ◌+◌, ◌*◌, ◌^◌, ◌<◌, ◌≤◌, length, slice_index, sym, subst, arith, ◌∙◌}
+use Rattle.std.proofs.lemmas.Bool.{false≢true}
 use Rattle.debugger.specs.Moves.{HasSteps}
 use Rattle.debugger.proofs.Copying.{copies_for}
 use Rattle.debugger.proofs.Moving.{device_at}
@@ -92,8 +93,19 @@ offset_bounds-made-row c =
     c.index-entries-index.result c.args.made.now passed c.from-row.ensures c.requires.counted.rows in
     omega (arith, room)
 
-pub has_earlier-requires : goal.has_earlier-requires
-has_earlier-requires c =
+pub has_earlier-requires-clause-rise : goal.has_earlier-requires-clause-rise
+has_earlier-requires-clause-rise c =
+    let passed = passed_is c.args.scenario.now c.args.entries.now c.min-first.result c.max-last.result
+    c.loop-index.index c.args.from c.args.to c.index-entries-index.result c.requires.run c.max-last.ensures
+    c.requires.from c.requires.to c.loop-index.auto.index c.loop-index-test.true c.index-entries-index.is in
+    let has = places_of c.args.scenario.now c.args.entries.now c.min-first.result c.loop-index.index c.from-row.result
+    c.index-entries-index.result c.args.places.now c.index-places-row.result c.as_slice-indexes.result.now passed
+    c.requires.placed c.requires.listed c.from-row.ensures c.index-places-row.is c.as_slice-indexes.ensures.value in
+    places_rise c.args.entries.now (length c.args.entries.now) c.index-entries-index.result.device
+    c.as_slice-indexes.result.now has
+
+pub has_earlier-requires-clause-step : goal.has_earlier-requires-clause-step
+has_earlier-requires-clause-step c =
     let passed = passed_is c.args.scenario.now c.args.entries.now c.min-first.result c.max-last.result
     c.loop-index.index c.args.from c.args.to c.index-entries-index.result c.requires.run c.max-last.ensures
     c.requires.from c.requires.to c.loop-index.auto.index c.loop-index-test.true c.index-entries-index.is in
@@ -189,10 +201,10 @@ loop-index-preserved-then-has_earlier c =
     c.index-entries-index.result c.args.places.now c.index-places-row.result c.as_slice-indexes.result.now passed
     c.requires.placed c.requires.listed c.from-row.ensures c.index-places-row.is c.as_slice-indexes.ensures.value in
     let some = earlier_yes c.args.scenario.now c.args.entries.now (length c.args.entries.now) c.min-first.result
-    c.loop-index.index c.index-entries-index.result c.as_slice-indexes.result.now c.has_earlier.result passed has
+    c.loop-index.index c.index-entries-index.result c.as_slice-indexes.result.now passed has
     (step_within c.args.scenario.now c.args.entries.now c.min-first.result c.loop-index.index
-    c.index-entries-index.result c.as_slice-indexes.result.now passed has) c.has_earlier.ensures
-    c.if-has_earlier.true in
+    c.index-entries-index.result c.as_slice-indexes.result.now passed has)
+    (c.has_earlier.ensures.0 c.if-has_earlier.true) in
     record {
       found = found_same c.args.scenario.now c.args.entries.now c.args.to c.min-first.result c.loop-index.index
           c.index-entries-index.result c.loop-index.moved.items c.loop-index.invariant.found passed some;
@@ -212,10 +224,10 @@ overflow_add-steps c =
     c.as_slice-indexes.result.now has c.requires.to c.count_before-count.ensures.within
     c.count_before-count.ensures.before c.count_before-count.ensures.after in
     let none = earlier_no c.args.scenario.now c.args.entries.now (length c.args.entries.now) c.min-first.result
-    c.loop-index.index c.index-entries-index.result c.as_slice-indexes.result.now c.has_earlier.result passed has
+    c.loop-index.index c.index-entries-index.result c.as_slice-indexes.result.now passed has
     (step_within c.args.scenario.now c.args.entries.now c.min-first.result c.loop-index.index
-    c.index-entries-index.result c.as_slice-indexes.result.now passed has) c.has_earlier.ensures
-    c.if-has_earlier.false in
+    c.index-entries-index.result c.as_slice-indexes.result.now passed has)
+    (λ other. false≢true (sym c.if-has_earlier.false ∙ c.has_earlier.ensures.1 other)) in
     let sum : c.loop-index.steps + c.in_ok-next.next.steps ≡ steps_by c.args.scenario.now c.args.entries.now c.args.from
     c.args.to c.min-first.result (c.loop-index.index + 1) =
     steps_next c.args.scenario.now c.args.entries.now c.args.from c.args.to c.min-first.result
@@ -246,10 +258,10 @@ loop-index-preserved c =
     c.as_slice-indexes.result.now has c.requires.to c.count_before-count.ensures.within
     c.count_before-count.ensures.before c.count_before-count.ensures.after in
     let none = earlier_no c.args.scenario.now c.args.entries.now (length c.args.entries.now) c.min-first.result
-    c.loop-index.index c.index-entries-index.result c.as_slice-indexes.result.now c.has_earlier.result passed has
+    c.loop-index.index c.index-entries-index.result c.as_slice-indexes.result.now passed has
     (step_within c.args.scenario.now c.args.entries.now c.min-first.result c.loop-index.index
-    c.index-entries-index.result c.as_slice-indexes.result.now passed has) c.has_earlier.ensures
-    c.if-has_earlier.false in
+    c.index-entries-index.result c.as_slice-indexes.result.now passed has)
+    (λ other. false≢true (sym c.if-has_earlier.false ∙ c.has_earlier.ensures.1 other)) in
     record {
       found = found_more c.args.scenario.now c.args.entries.now c.args.to c.min-first.result c.loop-index.index
           c.count_before-count.result _ c.index-entries-index.result c.loop-index.moved.items c.push.new.self.items

@@ -1,11 +1,13 @@
 use Rattle.std.proofs.Common.{arith, ◌∙◌}
+use Rattle.debugger.proofs.Empties.{empty_count}
 use Rattle.debugger.proofs.Placing.{next_is, next_placed, next_count, none_placed, placed_end}
 use Rattle.debugger.proofs.places.all_places.Goals as goal
 
 pub loop-index-init : goal.loop-index-init
 loop-index-init c = record {
-  count = c.in_ok-places.ensures.count ∙ c.rows-rows.ensures.count;
-  placed = none_placed c.args.entries.now c.in_ok-places.places.items c.in_ok-places.ensures.none;
+  count = empty_count (λ x. x.indexes.items) c.rows-rows.result c.in_ok-places.places.items c.in_ok-places.ensures
+      ∙ c.rows-rows.ensures.count;
+  placed = none_placed c.args.entries.now c.rows-rows.result c.in_ok-places.places.items c.in_ok-places.ensures;
 }
 
 pub index_mut-own-requires : goal.index_mut-own-requires
