@@ -1,20 +1,16 @@
 -- A move to another place.
-use Rattle.std.proofs.Common.{◌≡◌, ℕ, ◌≤◌, List, length, take, Option, refl, sym, ap, subst, ◌∙◌}
+use Rattle.std.proofs.Common.{◌≡◌, ℕ, ◌≤◌, List, length, take, refl, sym, ap, subst, ◌∙◌}
 use Rattle.device_machine.specs.State.{Device}
 use Rattle.scenario_image.specs.Scenario.{Scenario}
 use Rattle.trace_file.specs.declared.entry.Entry.{Entry}
-use Rattle.debugger.specs.declared.breaks.Break.{Break}
-use Rattle.debugger.specs.declared.copies.Copies.{Copies}
 use Rattle.debugger.specs.declared.moves.Moved.{Moved}
-use Rattle.debugger.specs.Session.{Session, IsKept, AreAt, AreCounted}
+use Rattle.debugger.specs.Session.{Session, Fields, IsDebugger, AreAt, AreCounted}
 use Rattle.debugger.specs.Moves.{AreMoved, steps_over, steps_to}
 use Rattle.debugger.proofs.Keeping.{IsInside, kept_moved}
 
-pub to_within : (v : Session) (s : Scenario) (es : List Entry) (place to : ℕ) (made : List ℕ) (devices : List Device)
-    (breaks : List (Option Break)) (copies : List Copies) (replayed : ℕ)
-    (read : List Entry) → IsInside v s es place made devices breaks copies replayed → read ≡ es → to ≤ length v.entries
-    → to ≤ length read
-to_within v s es place to made devices breaks copies replayed read inside same within =
+pub to_within : {v : Session} {s : Scenario} {es : List Entry} {f : Fields} {replayed : ℕ} (to : ℕ)
+    (read : List Entry) → IsInside v s es f replayed → read ≡ es → to ≤ length v.entries → to ≤ length read
+to_within to read inside same within =
     subst (λ l. to ≤ length l) (sym same) (subst (λ w. to ≤ length w.entries) (sym inside.view) within)
 
 pub same_at : (s : Scenario) (made m : List ℕ) (devices ds : List Device) → m ≡ made → ds ≡ devices
@@ -30,19 +26,16 @@ same_moves s es read again to made m devices ds moved p q r t are =
     (subst (λ l. AreMoved s (take to read) l devices moved) r
     (subst (λ l. AreMoved s (take to read) m l moved) t are))
 
-pub go_keeps : (v : Session) (s : Scenario) (es : List Entry) (place to : ℕ) (made : List ℕ) (devices : List Device)
-    (breaks : List (Option Break)) (copies : List Copies) (replayed : ℕ) (read : List Entry) (counts : List ℕ)
-    (new : List Device) → IsInside v s es place made devices breaks copies replayed → to ≤ length v.entries → read ≡ es
-    → AreCounted s (take to read) counts → length new ≡ length devices → AreAt s counts new
-    → IsKept s es to counts new breaks copies
-go_keeps v s es place to made devices breaks copies replayed read counts new inside within p counted count at =
-    kept_moved s es place to made counts devices new breaks copies inside.kept
-    (to_within v s es place to made devices breaks copies replayed es inside refl within)
+pub go_keeps : {v : Session} {s : Scenario} {es : List Entry} {f : Fields} {replayed : ℕ} (to : ℕ) (read : List Entry)
+    (counts : List ℕ) (new : List Device) → IsInside v s es f replayed → to ≤ length v.entries → read ≡ es
+    → AreCounted s (take to read) counts → length new ≡ length f.devices → AreAt s counts new
+    → IsDebugger s es (record f { place = to; made = counts; devices = new })
+go_keeps {s = s} {es = es} {f = f} to read counts new inside within p counted count at =
+    kept_moved s es f to counts new inside.kept (to_within to es inside refl within)
     (subst (λ l. AreCounted s (take to l) counts) p counted) count at
 
-pub go_steps : (v : Session) (s : Scenario) (es : List Entry) (place to steps : ℕ) (made : List ℕ)
-    (devices : List Device) (breaks : List (Option Break)) (copies : List Copies) (replayed : ℕ) (read : List Entry)
-    → IsInside v s es place made devices breaks copies replayed → read ≡ es → steps ≡ steps_over s read place to
+pub go_steps : {v : Session} {s : Scenario} {es : List Entry} {f : Fields} {replayed : ℕ} (to steps : ℕ)
+    (read : List Entry) → IsInside v s es f replayed → read ≡ es → steps ≡ steps_over s read f.place to
     → steps ≡ steps_to v to
-go_steps v s es place to steps made devices breaks copies replayed read inside p is =
-    is ∙ (ap (λ l. steps_over s l place to) p ∙ ap (λ w. steps_to w to) inside.view)
+go_steps {s = s} {f = f} to steps read inside p is =
+    is ∙ (ap (λ l. steps_over s l f.place to) p ∙ ap (λ w. steps_to w to) inside.view)

@@ -18,11 +18,11 @@ use Rattle.fleet_core.specs.Run.{made_by, IsRun}
 use Rattle.fleet_core.specs.Board.{AreStarted, ShowsAfter}
 use Rattle.fleet_core.proofs.Taken.{shows_first}
 use Rattle.debugger.specs.declared.breaks.Break.{Break}
-use Rattle.debugger.specs.declared.copies.Copies.{Copies}
 use Rattle.debugger.specs.Copies.{AreCopied}
+use Rattle.debugger.specs.Places.{ArePlaced}
 use Rattle.debugger.specs.Shown.{latest, value_shown, observations_shown, outputs_shown}
-use Rattle.debugger.specs.Session.{Session, IsSession, IsKept, AreAt, AreCounted, most_breaks, at_place, with_breaks}
-use Rattle.debugger.specs.Session.{with_replayed}
+use Rattle.debugger.specs.Session.{Session, IsSession, Fields, IsDebugger, AreAt, AreCounted, most_breaks, at_place}
+use Rattle.debugger.specs.Session.{with_breaks, with_replayed}
 use Rattle.debugger.specs.Moves.{steps_to}
 use Rattle.debugger.specs.Replayed.{devices_between, events_among, IsReplayedBack}
 use Rattle.debugger.specs.Breaks.{IsTaken, AreAllTaken, IsAdded}
@@ -30,33 +30,32 @@ use Rattle.debugger.proofs.Rows.{value_is, observations_are}
 use Rattle.debugger.proofs.Numbers.{free_not_all, all_taken}
 use Rattle.debugger.proofs.Replaying.{few_on, replayed_back, steps_back, steps_on}
 
-pub kept_start : (s : Scenario) (es : List Entry) (made : List ℕ) (devices : List Device)
-    (breaks : List (Option Break)) (copies : List Copies) → IsRun s es
-    → AreCounted s (take 0 es) made → length devices ≡ length s.rows → AreStarted s devices
-    → breaks ≡ replicate most_breaks None → length copies ≡ length s.rows → AreCopied s es copies
-    → IsKept s es 0 made devices breaks copies
-kept_start s es made devices breaks copies run counted count started free sources copied = record {
+pub kept_start : (s : Scenario) (es : List Entry) (f : Fields) → f.place ≡ 0 → IsRun s es
+    → AreCounted s (take 0 es) f.made → length f.devices ≡ length s.rows → AreStarted s f.devices
+    → f.breaks ≡ replicate most_breaks None → length f.copies ≡ length s.rows → AreCopied s es f.copies
+    → length f.places ≡ length s.rows → ArePlaced es (length es) f.places → IsDebugger s es f
+kept_start s es f first run counted count started free sources copied listed placed = record {
   run = run;
-  within = omega arith;
+  within = omega (arith, first);
   slots = ap length free ∙ length-replicate {A = Option Break} most_breaks None;
-  counted = counted;
+  counted = subst (λ n. AreCounted s (take n es) f.made) (sym first) counted;
   count = count;
   shown = record {
     each = λ d x at.
-        let within : d < length s.rows = omega (arith, slice_get_within devices d x at, count) in
+        let within : d < length s.rows = omega (arith, slice_get_within f.devices d x at, count) in
         subst (λ k. ShowsAfter s d k x) (sym (counted.is d within ∙ ap (made_by d) (take_none es)))
-        (shows_first s devices d x started at);
+        (shows_first s f.devices d x started at);
   };
   sources = sources;
   copied = copied;
+  listed = listed;
+  placed = placed;
 }
 
-pub kept_moved : (s : Scenario) (es : List Entry) (place to : ℕ) (made counts : List ℕ) (devices new : List Device)
-    (breaks : List (Option Break)) (copies : List Copies)
-    → IsKept s es place made devices breaks copies → to ≤ length es → AreCounted s (take to es) counts
-    → length new ≡ length devices
-    → AreAt s counts new → IsKept s es to counts new breaks copies
-kept_moved s es place to made counts devices new breaks copies kept within counted count at = record {
+pub kept_moved : (s : Scenario) (es : List Entry) (f : Fields) (to : ℕ) (counts : List ℕ) (new : List Device)
+    → IsDebugger s es f → to ≤ length es → AreCounted s (take to es) counts → length new ≡ length f.devices
+    → AreAt s counts new → IsDebugger s es (record f { place = to; made = counts; devices = new })
+kept_moved s es f to counts new kept within counted count at = record {
   run = kept.run;
   within = within;
   slots = kept.slots;
@@ -65,21 +64,23 @@ kept_moved s es place to made counts devices new breaks copies kept within count
   shown = at;
   sources = kept.sources;
   copied = kept.copied;
+  listed = kept.listed;
+  placed = kept.placed;
 }
 
-pub kept_break : (s : Scenario) (es : List Entry) (place : ℕ) (made : List ℕ) (devices : List Device)
-    (breaks : List (Option Break)) (copies : List Copies)
-    (slot : ℕ) (point : Option Break) → IsKept s es place made devices breaks copies
-    → IsKept s es place made devices (slice_set breaks slot point) copies
-kept_break s es place made devices breaks copies slot point kept = record {
+pub kept_break : (s : Scenario) (es : List Entry) (f : Fields) (slot : ℕ) (point : Option Break) → IsDebugger s es f
+    → IsDebugger s es (record f { breaks = slice_set f.breaks slot point })
+kept_break s es f slot point kept = record {
   run = kept.run;
   within = kept.within;
-  slots = length-set breaks slot point ∙ kept.slots;
+  slots = length-set f.breaks slot point ∙ kept.slots;
   counted = kept.counted;
   count = kept.count;
   shown = kept.shown;
   sources = kept.sources;
   copied = kept.copied;
+  listed = kept.listed;
+  placed = kept.placed;
 }
 
 -- a session of these parts
@@ -87,26 +88,16 @@ abbrev pub seen : Scenario → List Entry → ℕ → List (Option Break) → �
 seen s es place breaks replayed =
     record { scenario = s; entries = es; place = place; breaks = breaks; replayed = replayed }
 
-pub session_is : (v : Session) (s : Scenario) (es : List Entry) (place : ℕ) (made : List ℕ) (devices : List Device)
-    (breaks : List (Option Break)) (copies : List Copies) (replayed : ℕ)
-    → seen s es place breaks replayed ≡ v
-    → IsKept s es place made devices breaks copies → IsSession v
-session_is v s es place made devices breaks copies replayed view kept =
-    subst IsSession view (record { run = kept.run; within = kept.within; slots = kept.slots })
-
 -- the state that a device of a session shows
-pub shows_at : (s : Scenario) (es : List Entry) (place d : ℕ) (made : List ℕ) (devices : List Device)
-    (breaks : List (Option Break)) (copies : List Copies) (x : Device)
-    → IsKept s es place made devices breaks copies → slice_get devices d ≡ Some x
-    → ShowsAfter s d (made_by d (take place es)) x
-shows_at s es place d made devices breaks copies x kept at =
-    let within : d < length s.rows = omega (arith, slice_get_within devices d x at, kept.count) in
+pub shows_at : (s : Scenario) (es : List Entry) (f : Fields) (d : ℕ) (x : Device) → IsDebugger s es f
+    → slice_get f.devices d ≡ Some x → ShowsAfter s d (made_by d (take f.place es)) x
+shows_at s es f d x kept at =
+    let within : d < length s.rows = omega (arith, slice_get_within f.devices d x at, kept.count) in
     subst (λ k. ShowsAfter s d k x) (kept.counted.is d within) (kept.shown.each d x at)
 
-pub row_at : (s : Scenario) (es : List Entry) (place d : ℕ) (made : List ℕ) (devices : List Device)
-    (breaks : List (Option Break)) (copies : List Copies) (x : Device)
-    → IsKept s es place made devices breaks copies → slice_get devices d ≡ Some x → d < length s.rows
-row_at s es place d made devices breaks copies x kept at = omega (arith, slice_get_within devices d x at, kept.count)
+pub row_at : (s : Scenario) (es : List Entry) (f : Fields) (d : ℕ) (x : Device) → IsDebugger s es f
+    → slice_get f.devices d ≡ Some x → d < length s.rows
+row_at s es f d x kept at = omega (arith, slice_get_within f.devices d x at, kept.count)
 
 pub iff_yes : {P Q : Type 0} → P → Q → P ↔ Q
 iff_yes p q = ((λ _. q), (λ _. p))
@@ -115,63 +106,55 @@ pub iff_no : {P Q : Type 0} → (P → ⊥) → (Q → ⊥) → P ↔ Q
 iff_no p q = ((λ h. absurd (p h)), (λ h. absurd (q h)))
 
 -- what is kept of a session
-pub record IsInside (v : Session) (s : Scenario) (es : List Entry) (place : ℕ) (made : List ℕ) (devices : List Device)
-    (breaks : List (Option Break)) (copies : List Copies) (replayed : ℕ) : Type 0 where
-  pub view : seen s es place breaks replayed ≡ v
-  pub kept : IsKept s es place made devices breaks copies
+pub record IsInside (v : Session) (s : Scenario) (es : List Entry) (f : Fields) (replayed : ℕ) : Type 0 where
+  pub view : seen s es f.place f.breaks replayed ≡ v
+  pub kept : IsDebugger s es f
 
-pub row_in : (v : Session) (s : Scenario) (es : List Entry) (place d : ℕ) (made : List ℕ) (devices : List Device)
-    (breaks : List (Option Break)) (copies : List Copies) (replayed : ℕ)
-    → IsInside v s es place made devices breaks copies replayed → d < length devices → d < length v.scenario.rows
-row_in v s es place d made devices breaks copies replayed inside within =
-    subst (λ w. d < length w.scenario.rows) inside.view (omega (arith, within, inside.kept.count))
+pub inside_is : {s : Scenario} {es : List Entry} {f : Fields} (v : Session) (replayed : ℕ) → IsDebugger s es f
+    → seen s es f.place f.breaks replayed ≡ v → IsInside v s es f replayed
+inside_is v replayed kept view = record { view = view; kept = kept }
 
-pub row_out : (v : Session) (s : Scenario) (es : List Entry) (place d : ℕ) (made : List ℕ) (devices : List Device)
-    (breaks : List (Option Break)) (copies : List Copies) (replayed : ℕ)
-    → IsInside v s es place made devices breaks copies replayed → length devices ≤ d → d < length v.scenario.rows → ⊥
-row_out v s es place d made devices breaks copies replayed inside past within =
+pub session_is : {v : Session} {s : Scenario} {es : List Entry} {f : Fields} {replayed : ℕ}
+    → IsInside v s es f replayed → IsSession v
+session_is inside =
+    subst IsSession inside.view
+    (record { run = inside.kept.run; within = inside.kept.within; slots = inside.kept.slots })
+
+pub row_in : {v : Session} {s : Scenario} {es : List Entry} {f : Fields} {replayed : ℕ} (d : ℕ)
+    → IsInside v s es f replayed → d < length f.devices → d < length v.scenario.rows
+row_in d inside within = subst (λ w. d < length w.scenario.rows) inside.view (omega (arith, within, inside.kept.count))
+
+pub row_out : {v : Session} {s : Scenario} {es : List Entry} {f : Fields} {replayed : ℕ} (d : ℕ)
+    → IsInside v s es f replayed → length f.devices ≤ d → d < length v.scenario.rows → ⊥
+row_out {s = s} d inside past within =
     let h : d < length s.rows = subst (λ w. d < length w.scenario.rows) (sym inside.view) within in
     omega (arith, h, past, inside.kept.count)
 
-pub value_here : (v : Session) (s : Scenario) (es : List Entry) (place d : ℕ) (made : List ℕ) (devices : List Device)
-    (breaks : List (Option Break)) (copies : List Copies) (replayed : ℕ)
-    (x : Device) (path : Path) (r : Option Value) → IsInside v s es place made devices breaks copies replayed
-    → IsValid s
-    → slice_get devices d ≡ Some x
+pub value_here : {v : Session} {s : Scenario} {es : List Entry} {f : Fields} {replayed : ℕ} (d : ℕ) (x : Device)
+    (path : Path) (r : Option Value) → IsInside v s es f replayed → IsValid s → slice_get f.devices d ≡ Some x
     → r ≡ value_in x.flat.kept (full_path path) → r ≡ value_shown v.scenario v.entries v.place d path
-value_here v s es place d made devices breaks copies replayed x path r inside valid at is =
+value_here {s = s} {es = es} {f = f} d x path r inside valid at is =
     subst (λ w. r ≡ value_shown w.scenario w.entries w.place d path) inside.view
-    (is ∙ value_is s d (made_by d (take place es)) x path valid
-    (row_at s es place d made devices breaks copies x inside.kept at)
-    (shows_at s es place d made devices breaks copies x inside.kept at))
+    (is ∙ value_is s d (made_by d (take f.place es)) x path valid (row_at s es f d x inside.kept at)
+    (shows_at s es f d x inside.kept at))
 
-pub observations_here : (v : Session) (s : Scenario) (es : List Entry) (place d : ℕ) (made : List ℕ)
-    (devices : List Device)
-    (breaks : List (Option Break)) (copies : List Copies) (replayed : ℕ) (x : Device) (r : List Observation)
-    → IsInside v s es place made devices breaks copies replayed
-    → IsValid s
-    → slice_get devices d ≡ Some x → r ≡ x.flat.kept.observations
-    → r ≡ observations_shown v.scenario v.entries v.place d
-observations_here v s es place d made devices breaks copies replayed x r inside valid at is =
+pub observations_here : {v : Session} {s : Scenario} {es : List Entry} {f : Fields} {replayed : ℕ} (d : ℕ)
+    (x : Device) (r : List Observation) → IsInside v s es f replayed → IsValid s → slice_get f.devices d ≡ Some x
+    → r ≡ x.flat.kept.observations → r ≡ observations_shown v.scenario v.entries v.place d
+observations_here {s = s} {es = es} {f = f} d x r inside valid at is =
     subst (λ w. r ≡ observations_shown w.scenario w.entries w.place d) inside.view
-    (is ∙ observations_are s d (made_by d (take place es)) x valid
-    (row_at s es place d made devices breaks copies x inside.kept at)
-    (shows_at s es place d made devices breaks copies x inside.kept at))
+    (is ∙ observations_are s d (made_by d (take f.place es)) x valid (row_at s es f d x inside.kept at)
+    (shows_at s es f d x inside.kept at))
 
-pub outputs_here : (v : Session) (s : Scenario) (es : List Entry) (place d : ℕ) (made : List ℕ) (devices : List Device)
-    (breaks : List (Option Break)) (copies : List Copies) (replayed : ℕ) (r : List Output)
-    → IsInside v s es place made devices breaks copies replayed
-    → r ≡ latest s d (made_by d (take place es))
+pub outputs_here : {v : Session} {s : Scenario} {es : List Entry} {f : Fields} {replayed : ℕ} (d : ℕ)
+    (r : List Output) → IsInside v s es f replayed → r ≡ latest s d (made_by d (take f.place es))
     → r ≡ outputs_shown v.scenario v.entries v.place d
-outputs_here v s es place d made devices breaks copies replayed r inside is =
-    subst (λ w. r ≡ outputs_shown w.scenario w.entries w.place d) inside.view is
+outputs_here d r inside is = subst (λ w. r ≡ outputs_shown w.scenario w.entries w.place d) inside.view is
 
 -- the same at another place
-pub moved_is : (v : Session) (s : Scenario) (es : List Entry) (place to : ℕ) (made : List ℕ) (devices : List Device)
-    (breaks : List (Option Break)) (copies : List Copies) (replayed : ℕ)
-    → IsInside v s es place made devices breaks copies replayed
-    → seen s es to breaks replayed ≡ at_place v to
-moved_is v s es place to made devices breaks copies replayed inside = ap (λ w. at_place w to) inside.view
+pub moved_is : {v : Session} {s : Scenario} {es : List Entry} {f : Fields} {replayed : ℕ} (to : ℕ)
+    → IsInside v s es f replayed → seen s es to f.breaks replayed ≡ at_place v to
+moved_is to inside = ap (λ w. at_place w to) inside.view
 
 -- what was read of a list that is another's
 pub got_at : {X : Type 0} (xs ys : List X) (i d : ℕ) (x : X) → ys ≡ xs → i ≡ d → true ≡ nat_lt i (length ys)
@@ -190,31 +173,25 @@ got_none xs ys i d same is past =
 
 -- ---- breakpoints
 
-pub all_is : (v : Session) (s : Scenario) (es : List Entry) (place : ℕ) (made : List ℕ) (devices : List Device)
-    (breaks slots : List (Option Break)) (copies : List Copies) (replayed : ℕ)
-    → IsInside v s es place made devices breaks copies replayed → slots ≡ breaks
-    → ((k : ℕ) → k < length slots → IsTaken slots (k + 1)) → AreAllTaken v.breaks
-all_is v s es place made devices breaks slots copies replayed inside same each =
+pub all_is : {v : Session} {s : Scenario} {es : List Entry} {f : Fields} {replayed : ℕ} (slots : List (Option Break))
+    → IsInside v s es f replayed → slots ≡ f.breaks → ((k : ℕ) → k < length slots → IsTaken slots (k + 1))
+    → AreAllTaken v.breaks
+all_is slots inside same each =
     subst (λ w. AreAllTaken w.breaks) inside.view
     (subst AreAllTaken same (all_taken slots (ap length same ∙ inside.kept.slots) each))
 
-pub not_all_is : (v : Session) (s : Scenario) (es : List Entry) (place : ℕ) (made : List ℕ) (devices : List Device)
-    (breaks slots : List (Option Break)) (copies : List Copies) (replayed : ℕ)
-    (slot : ℕ) → IsInside v s es place made devices breaks copies replayed → slots ≡ breaks
-    → slice_get slots slot ≡ Some None
-    → AreAllTaken v.breaks → ⊥
-not_all_is v s es place made devices breaks slots copies replayed slot inside same free all =
-    free_not_all breaks slot inside.kept.slots (subst (λ l. slice_get l slot ≡ Some None) same free)
+pub not_all_is : {v : Session} {s : Scenario} {es : List Entry} {f : Fields} {replayed : ℕ}
+    (slots : List (Option Break)) (slot : ℕ) → IsInside v s es f replayed → slots ≡ f.breaks
+    → slice_get slots slot ≡ Some None → AreAllTaken v.breaks → ⊥
+not_all_is {f = f} slots slot inside same free all =
+    free_not_all f.breaks slot inside.kept.slots (subst (λ l. slice_get l slot ≡ Some None) same free)
     (subst (λ w. AreAllTaken w.breaks) (sym inside.view) all)
 
-pub added_is : (v : Session) (s : Scenario) (es : List Entry) (place : ℕ) (made : List ℕ) (devices : List Device)
-    (breaks slots : List (Option Break)) (copies : List Copies) (replayed : ℕ)
-    (slot : ℕ) (point : Break) → IsInside v s es place made devices breaks copies replayed → slots ≡ breaks
-    → slice_get slots slot ≡ Some None
-    → ((k : ℕ) → k < slot → IsTaken slots (k + 1))
-    → IsAdded v (seen s es place (slice_set breaks slot (Some point)) replayed)
-    point (slot + 1)
-added_is v s es place made devices breaks slots copies replayed slot point inside same free least = record {
+pub added_is : {v : Session} {s : Scenario} {es : List Entry} {f : Fields} {replayed : ℕ}
+    (slots : List (Option Break)) (slot : ℕ) (point : Break) → IsInside v s es f replayed → slots ≡ f.breaks
+    → slice_get slots slot ≡ Some None → ((k : ℕ) → k < slot → IsTaken slots (k + 1))
+    → IsAdded v (seen s es f.place (slice_set f.breaks slot (Some point)) replayed) point (slot + 1)
+added_is slots slot point inside same free least = record {
   slot = slot;
   number = refl;
   free = subst (λ w. slice_get w.breaks slot ≡ Some None) inside.view
@@ -227,56 +204,44 @@ added_is v s es place made devices breaks slots copies replayed slot point insid
 -- ---- forward and back
 
 -- where the move was, once its steps are kept
-pub moved_by : (v between fields : Session) (s : Scenario) (es : List Entry) (place to steps : ℕ) (made : List ℕ)
-    (devices : List Device) (breaks : List (Option Break)) (copies : List Copies) (replayed : ℕ)
-    (by : ℕ → ℕ) → IsInside v s es place made devices breaks copies replayed → to ≡ by place → between ≡ at_place v to
-    → fields ≡ between → with_replayed fields steps ≡ with_replayed (at_place v (by v.place)) steps
-moved_by v between fields s es place to steps made devices breaks copies replayed by inside is moved view =
-    let same : place ≡ v.place = ap (λ w. w.place) inside.view in
-    ap (λ w. with_replayed w steps) (view ∙ (moved ∙ ap (at_place v) (is ∙ ap by same)))
+pub moved_by : {v : Session} {s : Scenario} {es : List Entry} {f : Fields} {replayed : ℕ} (between fields : Session)
+    (steps : ℕ) (by : ℕ → ℕ) → IsInside v s es f replayed → between ≡ at_place v (by f.place) → fields ≡ between
+    → with_replayed fields steps ≡ with_replayed (at_place v (by v.place)) steps
+moved_by {v = v} between fields steps by inside moved view =
+    ap (λ w. with_replayed w steps) (view ∙ (moved ∙ ap (λ w. at_place v (by w.place)) inside.view))
 
 -- how many steps were made
-pub forward_steps : (v : Session) (s : Scenario) (es : List Entry) (place to count left steps : ℕ) (made : List ℕ)
-    (devices : List Device) (breaks : List (Option Break)) (copies : List Copies) (replayed : ℕ)
-    → IsInside v s es place made devices breaks copies replayed → left ≡ length es - place → count ≤ left
-    → to ≡ place + count → steps ≡ steps_to v to
+pub forward_steps : {v : Session} {s : Scenario} {es : List Entry} {f : Fields} {replayed : ℕ} (count steps : ℕ)
+    → IsInside v s es f replayed → count ≤ length es - f.place → steps ≡ steps_to v (f.place + count)
     → steps ≡ events_among v.scenario (slice_range v.entries v.place (v.place + count))
-forward_steps v s es place to count left steps made devices breaks copies replayed inside rest more is made_steps =
-    let within : to ≤ length es = omega (arith, rest, more, is, inside.kept.within) in
-    let u = seen s es place breaks replayed in
-    let here : steps ≡ steps_to u to = subst (λ w. steps ≡ steps_to w to) (sym inside.view) made_steps in
-    let all : steps ≡ events_among s (slice_range es place to) =
-    here ∙ steps_on u to inside.kept.run (omega (arith, is)) within in
+forward_steps {v = v} {s = s} {es = es} {f = f} {replayed = replayed} count steps inside more made_steps =
+    let within : f.place + count ≤ length es = omega (arith, more, inside.kept.within) in
+    let u = seen s es f.place f.breaks replayed in
+    let here : steps ≡ steps_to u (f.place + count) =
+    subst (λ w. steps ≡ steps_to w (f.place + count)) (sym inside.view) made_steps in
     subst (λ w. steps ≡ events_among w.scenario (slice_range w.entries w.place (w.place + count))) inside.view
-    (all ∙ ap (λ k. events_among s (slice_range es place k)) is)
+    (here ∙ steps_on u (f.place + count) inside.kept.run (omega arith) within)
 
 pub forward_few : (v : Session) (steps count : ℕ)
     → steps ≡ events_among v.scenario (slice_range v.entries v.place (v.place + count)) → steps ≤ count
 forward_few v steps count is =
     let few = few_on v.scenario v.entries v.place count in omega (arith, is, few)
 
-pub back_steps : (v : Session) (s : Scenario) (es : List Entry) (place to count steps : ℕ) (made : List ℕ)
-    (devices : List Device) (breaks : List (Option Break)) (copies : List Copies) (replayed : ℕ)
-    → IsInside v s es place made devices breaks copies replayed → to ≡ place - count → steps ≡ steps_to v to
+-- back to the place it was told
+back_to : {v : Session} {s : Scenario} {es : List Entry} {f : Fields} {replayed : ℕ} (count steps : ℕ)
+    → IsInside v s es f replayed → steps ≡ steps_to v (f.place - count) → steps ≡ steps_to v (v.place - count)
+back_to {v = v} count steps inside made_steps = made_steps ∙ ap (λ w. steps_to v (w.place - count)) inside.view
+
+pub back_steps : {v : Session} {s : Scenario} {es : List Entry} {f : Fields} {replayed : ℕ} (count steps : ℕ)
+    → IsInside v s es f replayed → steps ≡ steps_to v (f.place - count)
     → steps ≤ 63 * devices_between v (v.place - count) v.place
-back_steps v s es place to count steps made devices breaks copies replayed inside is made_steps =
-    let same : to ≡ v.place - count = is ∙ ap (λ w. w.place - count) inside.view in
-    let all : steps_to v (v.place - count) ≤ 63 * devices_between v (v.place - count) v.place =
-    steps_back v (v.place - count) (omega arith) in
-    subst (λ n. n ≤ 63 * devices_between v (v.place - count) v.place)
-    (sym (made_steps ∙ ap (steps_to v) same)) all
+back_steps {v = v} count steps inside made_steps =
+    subst (λ n. n ≤ 63 * devices_between v (v.place - count) v.place) (sym (back_to count steps inside made_steps))
+    (steps_back v (v.place - count) (omega arith))
 
-pub back_exactly : (v : Session) (s : Scenario) (es : List Entry) (place to count steps : ℕ) (made : List ℕ)
-    (devices : List Device) (breaks : List (Option Break)) (copies : List Copies) (replayed : ℕ)
-    → IsInside v s es place made devices breaks copies replayed → to ≡ place - count → steps ≡ steps_to v to
+pub back_exactly : {v : Session} {s : Scenario} {es : List Entry} {f : Fields} {replayed : ℕ} (count steps : ℕ)
+    → IsInside v s es f replayed → steps ≡ steps_to v (f.place - count)
     → IsReplayedBack v (v.place - count) steps
-back_exactly v s es place to count steps made devices breaks copies replayed inside is made_steps =
-    subst (IsReplayedBack v (v.place - count))
-    (sym (made_steps ∙ ap (steps_to v) (is ∙ ap (λ w. w.place - count) inside.view)))
+back_exactly {v = v} count steps inside made_steps =
+    subst (IsReplayedBack v (v.place - count)) (sym (back_to count steps inside made_steps))
     (replayed_back v (v.place - count))
-
-pub to_in : (v : Session) (s : Scenario) (es : List Entry) (place to : ℕ) (made : List ℕ) (devices : List Device)
-    (breaks : List (Option Break)) (copies : List Copies) (replayed : ℕ)
-    → IsInside v s es place made devices breaks copies replayed → to ≤ length es → to ≤ length v.entries
-to_in v s es place to made devices breaks copies replayed inside within =
-    subst (λ w. to ≤ length w.entries) inside.view within

@@ -10,11 +10,10 @@ use Rattle.trace_file.specs.declared.entry.Entry.{Entry}
 use Rattle.fleet_core.specs.Run.{made_by, step_at}
 use Rattle.fleet_core.specs.Board.{ShowsAfter}
 use Rattle.fleet_core.proofs.Taken.{row_below}
-use Rattle.debugger.specs.declared.breaks.Break.{Break}
 use Rattle.debugger.specs.declared.copies.Copies.{Copies}
 use Rattle.debugger.specs.Copies.{HasCopies}
 use Rattle.debugger.specs.Moves.{HasSteps}
-use Rattle.debugger.specs.Session.{AreCounted, Session}
+use Rattle.debugger.specs.Session.{AreCounted, Fields, Session}
 use Rattle.debugger.specs.Shown.{ShowsState, before_shown, latest_step, state_before, state_of, step_shown}
 use Rattle.debugger.proofs.Copying.{fewer_copies, made_before}
 use Rattle.debugger.proofs.Keeping.{IsInside}
@@ -31,12 +30,11 @@ made_here s es place d m made counted at =
     sym (get_or_from_slice_get made d m 0 at) ∙ counted.is d within
 
 -- a device has no more entries than its row has steps
-pub made_steps : (v : Session) (s : Scenario) (es : List Entry) (place d m : ℕ) (made : List ℕ) (devices : List Device)
-    (breaks : List (Option Break)) (copies : List Copies) (replayed : ℕ)
-    → IsInside v s es place made devices breaks copies replayed → slice_get made d ≡ Some m → HasSteps s d m
-made_steps v s es place d m made devices breaks copies replayed inside at =
-    subst (HasSteps s d) (sym (made_here s es place d m made inside.kept.counted at))
-    (has_steps s es d place inside.kept.run)
+pub made_steps : {v : Session} {s : Scenario} {es : List Entry} {f : Fields} {replayed : ℕ} (d m : ℕ)
+    → IsInside v s es f replayed → slice_get f.made d ≡ Some m → HasSteps s d m
+made_steps {s = s} {es = es} {f = f} d m inside at =
+    subst (HasSteps s d) (sym (made_here s es f.place d m f.made inside.kept.counted at))
+    (has_steps s es d f.place inside.kept.run)
 
 -- ---- the device before it
 
@@ -56,12 +54,11 @@ has_made s d (suc k) h =
     let step = some_of (step_at s d k) h in
     record { before = k; is = refl; row = row_below s d k step.0 step.1 }
 
-made_some : (v : Session) (s : Scenario) (es : List Entry) (place d : ℕ) (made : List ℕ) (devices : List Device)
-    (breaks : List (Option Break)) (copies : List Copies) (replayed : ℕ)
-    → IsInside v s es place made devices breaks copies replayed
-    → IsSome (step_shown v.scenario v.entries v.place d) → HasMade s d (made_by d (take place es))
-made_some v s es place d made devices breaks copies replayed inside some =
-    has_made s d (made_by d (take place es))
+made_some : {v : Session} {s : Scenario} {es : List Entry} {f : Fields} {replayed : ℕ} (d : ℕ)
+    → IsInside v s es f replayed → IsSome (step_shown v.scenario v.entries v.place d)
+    → HasMade s d (made_by d (take f.place es))
+made_some {s = s} {es = es} {f = f} d inside some =
+    has_made s d (made_by d (take f.place es))
     (subst (λ w. IsSome (step_shown w.scenario w.entries w.place d)) (sym inside.view) some)
 
 -- what was read of a list at the device
@@ -70,42 +67,39 @@ read_at : {X : Type 0} (xs : List X) (i d : ℕ) (x : X) → i ≡ d → d < len
 read_at xs i d x same within read =
     slice_get_read xs (length xs) d x refl within (subst (λ j. x ≡ get_or xs j x) same read)
 
-counted_read : (v : Session) (s : Scenario) (es : List Entry) (place d i m : ℕ) (made : List ℕ) (devices : List Device)
-    (breaks : List (Option Break)) (copies : List Copies) (replayed : ℕ)
-    → IsInside v s es place made devices breaks copies replayed → d < length s.rows → i ≡ d → m ≡ get_or made i m
-    → m ≡ made_by d (take place es)
-counted_read v s es place d i m made devices breaks copies replayed inside row same read =
-    let within : d < length made = omega (arith, row, inside.kept.counted.rows) in
-    made_here s es place d m made inside.kept.counted (read_at made i d m same within read)
+counted_read : {v : Session} {s : Scenario} {es : List Entry} {f : Fields} {replayed : ℕ} (d i m : ℕ)
+    → IsInside v s es f replayed → d < length s.rows → i ≡ d → m ≡ get_or f.made i m
+    → m ≡ made_by d (take f.place es)
+counted_read {s = s} {es = es} {f = f} d i m inside row same read =
+    let within : d < length f.made = omega (arith, row, inside.kept.counted.rows) in
+    made_here s es f.place d m f.made inside.kept.counted (read_at f.made i d m same within read)
 
 -- the copies go as far as to the step
-pub copies_read : (v : Session) (s : Scenario) (es : List Entry) (place d i m j : ℕ) (made : List ℕ)
-    (devices : List Device) (breaks : List (Option Break)) (copies : List Copies) (replayed : ℕ) (x : Copies)
-    (slice : List Device) → IsInside v s es place made devices breaks copies replayed
-    → IsSome (step_shown v.scenario v.entries v.place d) → i ≡ d → m ≡ get_or made i m → j ≡ d
-    → x ≡ get_or copies j x → slice ≡ x.devices.items → HasCopies s d (m - 1) slice
-copies_read v s es place d i m j made devices breaks copies replayed x slice inside some same read here kept is =
-    let has = made_some v s es place d made devices breaks copies replayed inside some in
-    let count = counted_read v s es place d i m made devices breaks copies replayed inside has.row same read in
-    let within : d < length copies = omega (arith, has.row, inside.kept.sources) in
-    let few : m - 1 ≤ made_by d es - 1 = omega (arith, count, made_before es d place) in
+pub copies_read : {v : Session} {s : Scenario} {es : List Entry} {f : Fields} {replayed : ℕ} (d i m j : ℕ)
+    (x : Copies) (slice : List Device) → IsInside v s es f replayed
+    → IsSome (step_shown v.scenario v.entries v.place d) → i ≡ d → m ≡ get_or f.made i m → j ≡ d
+    → x ≡ get_or f.copies j x → slice ≡ x.devices.items → HasCopies s d (m - 1) slice
+copies_read {s = s} {es = es} {f = f} d i m j x slice inside some same read here kept is =
+    let has = made_some d inside some in
+    let count = counted_read d i m inside has.row same read in
+    let within : d < length f.copies = omega (arith, has.row, inside.kept.sources) in
+    let few : m - 1 ≤ made_by d es - 1 = omega (arith, count, made_before es d f.place) in
     subst (HasCopies s d (m - 1)) (sym is)
     (fewer_copies s d (made_by d es - 1) (m - 1) x.devices.items
-    (inside.kept.copied.each d x (read_at copies j d x here within kept)) few)
+    (inside.kept.copied.each d x (read_at f.copies j d x here within kept)) few)
 
 state_at_step : (s : Scenario) (d k j : ℕ) (x : Device) → k ≡ suc j → ShowsState (state_of s d j) x
     → ShowsState (state_before s d k) x
 state_at_step s d k j x same h = subst (λ n. ShowsState (state_before s d n) x) (sym same) h
 
-pub before_read : (v : Session) (s : Scenario) (es : List Entry) (place d i m : ℕ) (made : List ℕ)
-    (devices : List Device) (breaks : List (Option Break)) (copies : List Copies) (replayed : ℕ) (x : Device)
-    → IsInside v s es place made devices breaks copies replayed → IsValid s
-    → IsSome (step_shown v.scenario v.entries v.place d) → i ≡ d → m ≡ get_or made i m → ShowsAfter s d (m - 1) x
+pub before_read : {v : Session} {s : Scenario} {es : List Entry} {f : Fields} {replayed : ℕ} (d i m : ℕ) (x : Device)
+    → IsInside v s es f replayed → IsValid s → IsSome (step_shown v.scenario v.entries v.place d) → i ≡ d
+    → m ≡ get_or f.made i m → ShowsAfter s d (m - 1) x
     → ShowsState (before_shown v.scenario v.entries v.place d) x
-before_read v s es place d i m made devices breaks copies replayed x inside valid some same read shows =
-    let has = made_some v s es place d made devices breaks copies replayed inside some in
-    let count = counted_read v s es place d i m made devices breaks copies replayed inside has.row same read in
+before_read {s = s} {es = es} {f = f} d i m x inside valid some same read shows =
+    let has = made_some d inside some in
+    let count = counted_read d i m inside has.row same read in
     let step : m - 1 ≡ has.before = omega (arith, count, has.is) in
     subst (λ w. ShowsState (before_shown w.scenario w.entries w.place d) x) inside.view
-    (state_at_step s d (made_by d (take place es)) has.before x has.is
+    (state_at_step s d (made_by d (take f.place es)) has.before x has.is
     (shows_state s d has.before x valid has.row (subst (λ n. ShowsAfter s d n x) step shows)))

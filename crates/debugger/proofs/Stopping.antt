@@ -10,10 +10,9 @@ use Rattle.fleet_core.specs.Run.{made_by}
 use Rattle.debugger.specs.declared.breaks.Break.{Break as Point}
 use Rattle.debugger.specs.declared.breaks.Stop.{Stop}
 use Rattle.debugger.specs.declared.breaks.Stop.TheVariants.{Break, End}
-use Rattle.debugger.specs.declared.copies.Copies.{Copies}
 use Rattle.debugger.specs.declared.points.Numbered.{Numbered}
 use Rattle.debugger.specs.declared.watches.Watch.{Watch}
-use Rattle.debugger.specs.Session.{Session, IsKept, at_place}
+use Rattle.debugger.specs.Session.{Session, Fields, IsDebugger, at_place}
 use Rattle.debugger.specs.Stops.{Holds, IsNextStop}
 use Rattle.debugger.specs.Searches.{AreCopiesOf, AreNowhere, AreSet, AreSilent, AreStill, AreWatched, AreWatching}
 use Rattle.debugger.specs.Searches.{IsHeld, IsListed, IsStill, IsStopBy}
@@ -159,45 +158,40 @@ next_is s es place replayed breaks points End p are is = record {
       quiet_at s es breaks points place p q i b are is.before after (omega (arith, within, is.last)) h;
 }
 
-pub stop_is : (v : Session) (s : Scenario) (es : List Entry) (place : ℕ) (made : List ℕ) (devices : List Device)
-    (breaks : List (Option Point)) (copies : List Copies) (replayed : ℕ) (read : List Entry)
-    (slots : List (Option Point)) (points ps : List Numbered) (stop : Stop) (p : ℕ)
-    → IsInside v s es place made devices breaks copies replayed → read ≡ es → slots ≡ breaks → ps ≡ points
-    → AreSet slots (length slots) points → IsStopBy s read ps place stop p → IsNextStop v stop p
-stop_is v s es place made devices breaks copies replayed read slots points ps stop p inside a b c are is =
+pub stop_is : {v : Session} {s : Scenario} {es : List Entry} {f : Fields} {replayed : ℕ} (read : List Entry)
+    (slots : List (Option Point)) (points ps : List Numbered) (stop : Stop) (p : ℕ) → IsInside v s es f replayed
+    → read ≡ es → slots ≡ f.breaks → ps ≡ points → AreSet slots (length slots) points
+    → IsStopBy s read ps f.place stop p → IsNextStop v stop p
+stop_is {s = s} {es = es} {f = f} {replayed = replayed} read slots points ps stop p inside a b c are is =
     subst (λ w. IsNextStop w stop p) inside.view
-    (next_is s es place replayed breaks points stop p (subst (λ l. AreSet l (length l) points) b are)
-    (subst (λ l. IsStopBy s l points place stop p) a (subst (λ l. IsStopBy s read l place stop p) c is)))
+    (next_is s es f.place replayed f.breaks points stop p (subst (λ l. AreSet l (length l) points) b are)
+    (subst (λ l. IsStopBy s l points f.place stop p) a (subst (λ l. IsStopBy s read l f.place stop p) c is)))
 
 place_by : (s : Scenario) (es : List Entry) (points : List Numbered) (place : ℕ) (stop : Stop) (p : ℕ)
     → IsStopBy s es points place stop p → p ≤ length es
 place_by s es points place (Break id) p is = is.within
 place_by s es points place End p is = omega (arith, is.last)
 
-pub stop_within : (v : Session) (s : Scenario) (es : List Entry) (place : ℕ) (made : List ℕ) (devices : List Device)
-    (breaks : List (Option Point)) (copies : List Copies) (replayed : ℕ) (read : List Entry) (points : List Numbered)
-    (stop : Stop) (p : ℕ) → IsInside v s es place made devices breaks copies replayed → read ≡ es
-    → IsStopBy s read points place stop p → p ≤ length v.entries
-stop_within v s es place made devices breaks copies replayed read points stop p inside a is =
+pub stop_within : {v : Session} {s : Scenario} {es : List Entry} {f : Fields} {replayed : ℕ} (read : List Entry)
+    (points : List Numbered) (stop : Stop) (p : ℕ) → IsInside v s es f replayed → read ≡ es
+    → IsStopBy s read points f.place stop p → p ≤ length v.entries
+stop_within {s = s} {f = f} read points stop p inside a is =
     subst (λ w. p ≤ length w.entries) inside.view
-    (subst (λ l. p ≤ length l) a (place_by s read points place stop p is))
+    (subst (λ l. p ≤ length l) a (place_by s read points f.place stop p is))
 
 -- ---- where it begins
 
-watched_at : (s : Scenario) (es : List Entry) (place : ℕ) (made : List ℕ) (devices : List Device)
-    (breaks : List (Option Point)) (copies : List Copies) (watched : List Watch)
-    → IsKept s es place made devices breaks copies → AreCopiesOf devices watched → AreWatched s (take place es) watched
-watched_at s es place made devices breaks copies watched kept are = record {
-  each = λ k w h. shows_at s es place w.device made devices breaks copies w.machine kept (are.each k w h);
-}
+watched_at : (s : Scenario) (es : List Entry) (f : Fields) (watched : List Watch) → IsDebugger s es f
+    → AreCopiesOf f.devices watched → AreWatched s (take f.place es) watched
+watched_at s es f watched kept are =
+    record { each = λ k w h. shows_at s es f w.device w.machine kept (are.each k w h) }
 
-pub watched_start : (s : Scenario) (es : List Entry) (place : ℕ) (made : List ℕ) (devices : List Device)
-    (breaks : List (Option Point)) (copies : List Copies) (read : List Entry) (ds : List Device) (watched : List Watch)
-    → IsKept s es place made devices breaks copies → read ≡ es → ds ≡ devices → AreCopiesOf ds watched
-    → AreWatched s (take place read) watched
-watched_start s es place made devices breaks copies read ds watched kept a b are =
-    subst (λ l. AreWatched s (take place l) watched) (sym a)
-    (watched_at s es place made devices breaks copies watched kept (subst (λ l. AreCopiesOf l watched) b are))
+pub watched_start : {s : Scenario} {es : List Entry} {f : Fields} (read : List Entry) (ds : List Device)
+    (watched : List Watch) → IsDebugger s es f → read ≡ es → ds ≡ f.devices → AreCopiesOf ds watched
+    → AreWatched s (take f.place read) watched
+watched_start {s = s} {es = es} {f = f} read ds watched kept a b are =
+    subst (λ l. AreWatched s (take f.place l) watched) (sym a)
+    (watched_at s es f watched kept (subst (λ l. AreCopiesOf l watched) b are))
 
 pub same_watching : (watched : List Watch) (a b : List Device) (p q : List Numbered) → a ≡ b → p ≡ q
     → AreWatching watched (length a) (length p) p → AreWatching watched (length b) (length q) q
@@ -205,23 +199,20 @@ same_watching watched a b p q same points are =
     subst (λ l. AreWatching watched (length b) (length l) l) points
     (subst (λ l. AreWatching watched (length l) (length p) p) same are)
 
-still_here : (s : Scenario) (es : List Entry) (place : ℕ) (made : List ℕ) (devices : List Device)
-    (breaks : List (Option Point)) (copies : List Copies) (points : List Numbered)
-    → IsKept s es place made devices breaks copies → IsValid s → AreStill s es devices place points
-still_here s es place made devices breaks copies points kept valid = record {
+still_here : (s : Scenario) (es : List Entry) (f : Fields) (points : List Numbered) → IsDebugger s es f → IsValid s
+    → AreStill s es f.devices f.place points
+still_here s es f points kept valid = record {
   each = λ k q h d path is x at.
-      sym (value_is s d (made_by d (take place es)) x path valid
-      (row_at s es place d made devices breaks copies x kept at)
-      (shows_at s es place d made devices breaks copies x kept at));
+      sym (value_is s d (made_by d (take f.place es)) x path valid (row_at s es f d x kept at)
+      (shows_at s es f d x kept at));
 }
 
-pub still_start : (s : Scenario) (es : List Entry) (place : ℕ) (made : List ℕ) (devices : List Device)
-    (breaks : List (Option Point)) (copies : List Copies) (read : List Entry) (ds : List Device)
-    (points : List Numbered) → IsKept s es place made devices breaks copies → IsValid s → read ≡ es → ds ≡ devices
-    → AreStill s read ds place points
-still_start s es place made devices breaks copies read ds points kept valid a b =
-    subst (λ l. AreStill s l ds place points) (sym a) (subst (λ l. AreStill s es l place points) (sym b)
-    (still_here s es place made devices breaks copies points kept valid))
+pub still_start : {s : Scenario} {es : List Entry} {f : Fields} (read : List Entry) (ds : List Device)
+    (points : List Numbered) → IsDebugger s es f → IsValid s → read ≡ es → ds ≡ f.devices
+    → AreStill s read ds f.place points
+still_start {s = s} {es = es} {f = f} read ds points kept valid a b =
+    subst (λ l. AreStill s l ds f.place points) (sym a) (subst (λ l. AreStill s es l f.place points) (sym b)
+    (still_here s es f points kept valid))
 
 -- ---- after the move to the stop
 

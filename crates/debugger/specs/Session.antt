@@ -57,22 +57,27 @@ pub record AreCounted (s : Scenario) (es : List Entry) (made : List ℕ) : Type 
   pub rows : length made ≡ length s.rows
   pub is : (d : ℕ) → d < length s.rows → slice_index made d ≡ made_by d es
 
--- what a debugger keeps of devices: one for each row, in the state after the steps that it has among the entries before
--- the place, and copies of it along all of its entries
-pub record IsKept (s : Scenario) (es : List Entry) (place : ℕ) (made : List ℕ) (devices : List Device)
-    (breaks : List (Option Break)) (copies : List Copies) : Type 0 where
-  pub run : IsRun s es
-  pub within : place ≤ length es
-  pub slots : length breaks ≡ most_breaks
-  pub counted : AreCounted s (take place es) made
-  pub count : length devices ≡ length s.rows
-  pub shown : AreAt s made devices
-  pub sources : length copies ≡ length s.rows
-  pub copied : AreCopied s es copies
+-- the fields of a debugger, but for the scenario, the run and the count of steps: the place, how many entries each
+-- device has before it, the devices, the breakpoints, copies of the devices along their entries, and where in the run
+-- these entries are
+pub record Fields : Type 0 where
+  pub place : ℕ
+  pub made : List ℕ
+  pub devices : List Device
+  pub breaks : List (Option Break)
+  pub copies : List Copies
+  pub places : List Places
 
--- what a debugger keeps: the devices, and where in the run each has its entries
-pub record IsDebugger (s : Scenario) (es : List Entry) (place : ℕ) (made : List ℕ) (devices : List Device)
-    (breaks : List (Option Break)) (copies : List Copies) (places : List Places) : Type 0 where
-  pub kept : IsKept s es place made devices breaks copies
-  pub listed : length places ≡ length s.rows
-  pub placed : ArePlaced es (length es) places
+-- what a debugger keeps: a run, a place in it, and for each row its device in the state after the steps that it has
+-- among the entries before the place, with copies of it and the places of its entries
+pub record IsDebugger (s : Scenario) (es : List Entry) (f : Fields) : Type 0 where
+  pub run : IsRun s es
+  pub within : f.place ≤ length es
+  pub slots : length f.breaks ≡ most_breaks
+  pub counted : AreCounted s (take f.place es) f.made
+  pub count : length f.devices ≡ length s.rows
+  pub shown : AreAt s f.made f.devices
+  pub sources : length f.copies ≡ length s.rows
+  pub copied : AreCopied s es f.copies
+  pub listed : length f.places ≡ length s.rows
+  pub placed : ArePlaced es (length es) f.places

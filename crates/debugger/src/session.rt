@@ -68,8 +68,14 @@ impl<'a> Model for Debugger<'a> {
       replayed = b.replayed;
     } };
 
-    ghost invariant = { λ b. IsDebugger b.scenario.now b.entries b.place b.made.items b.devices.items b.breaks.items
-        b.copies.items b.places.items };
+    ghost invariant = { λ b. IsDebugger b.scenario.now b.entries (record {
+      place = b.place;
+      made = b.made.items;
+      devices = b.devices.items;
+      breaks = b.breaks.items;
+      copies = b.copies.items;
+      places = b.places.items;
+    }) };
 }
 
 impl<'a> Debugger<'a> {

@@ -2,13 +2,13 @@ use Rattle.std.proofs.Common.{◌<◌, length, sym, ap, subst, arith, ◌∙◌}
 use Rattle.fleet_core.specs.Run.{IsRun}
 use Rattle.debugger.specs.Places.{HasPlaces}
 use Rattle.debugger.specs.Shown.{latest}
-use Rattle.debugger.proofs.Keeping.{outputs_here}
+use Rattle.debugger.proofs.Keeping.{inside_is, outputs_here}
 use Rattle.debugger.proofs.Placing.{places_read, count_read, count_within}
 use Rattle.debugger.proofs.session.Debugger.outputs.Goals as goal
 
 pub latest_outputs-requires-clause-run : goal.latest_outputs-requires-clause-run
 latest_outputs-requires-clause-run c =
-    subst (IsRun c.self.inside.scenario.now) (sym c.as_slice-entries.ensures) c.self.invariant.kept.run
+    subst (IsRun c.self.inside.scenario.now) (sym c.as_slice-entries.ensures) c.self.invariant.run
 
 pub latest_outputs-requires-clause-places : goal.latest_outputs-requires-clause-places
 latest_outputs-requires-clause-places c =
@@ -19,7 +19,7 @@ latest_outputs-requires-clause-places c =
       c.len.ensures,
       c.from-row.ensures,
       c.self.inside.devices.ok.0,
-      c.self.invariant.kept.count,
+      c.self.invariant.count,
       c.self.invariant.listed,
     ) in
     subst (λ l. HasPlaces l (length l) c.args.device c.as_slice-indexes.result.now) (sym c.as_slice-entries.ensures)
@@ -36,7 +36,7 @@ latest_outputs-requires-clause-made c =
       c.len.ensures,
       c.from-row.ensures,
       c.self.inside.devices.ok.0,
-      c.self.invariant.kept.count,
+      c.self.invariant.count,
       c.self.invariant.listed,
     ) in
     count_within c.self.inside.entries c.self.inside.place c.args.device c.index-count.result.now
@@ -44,9 +44,9 @@ latest_outputs-requires-clause-made c =
     (places_read c.self.inside.entries (length c.self.inside.entries) c.args.device c.from-row.result
     c.self.inside.places.items c.index-own.result.now c.as_slice-indexes.result.now c.self.invariant.placed within
     c.from-row.ensures c.index-own.ensures c.as_slice-indexes.ensures.value)
-    c.self.invariant.kept.within
+    c.self.invariant.within
     (count_read c.self.inside.scenario.now c.self.inside.entries c.self.inside.place c.args.device c.from-row.result
-    c.index-count.result.now c.self.inside.made.items c.self.invariant.kept.counted
+    c.index-count.result.now c.self.inside.made.items c.self.invariant.counted
     (omega (arith, within, c.self.invariant.listed)) c.from-row.ensures c.index-count.ensures)
 
 pub returns-clause-outputs : goal.returns-clause-outputs
@@ -58,13 +58,11 @@ returns-clause-outputs c =
       c.len.ensures,
       c.from-row.ensures,
       c.self.inside.devices.ok.0,
-      c.self.invariant.kept.count,
+      c.self.invariant.count,
     ) in
-    outputs_here c.args.self.now c.self.inside.scenario.now c.self.inside.entries c.self.inside.place c.args.device
-    c.self.inside.made.items c.self.inside.devices.items c.self.inside.breaks.items c.self.inside.copies.items
-    c.self.inside.replayed c.latest_outputs.result.now
-    (record { view = c.self.view_is; kept = c.self.invariant.kept })
+    outputs_here c.args.device c.latest_outputs.result.now
+    (inside_is c.args.self.now c.self.inside.replayed c.self.invariant c.self.view_is)
     (c.latest_outputs.ensures ∙ ap (latest c.self.inside.scenario.now c.args.device)
     (count_read c.self.inside.scenario.now c.self.inside.entries c.self.inside.place c.args.device c.from-row.result
-    c.index-count.result.now c.self.inside.made.items c.self.invariant.kept.counted row c.from-row.ensures
+    c.index-count.result.now c.self.inside.made.items c.self.invariant.counted row c.from-row.ensures
     c.index-count.ensures))
