@@ -1,26 +1,15 @@
 -- The devices before which all others are at the ends of their rows.
 use Rattle.std.proofs.Common.{◌≡◌, ℕ, ◌<◌, ◌⊎◌, inl, inr, true, false, List, set, Some, slice_get}
-use Rattle.std.proofs.Common.{refl, sym, subst, ◌∙◌, arith}
+use Rattle.std.proofs.Common.{sym, subst, ◌∙◌, arith}
 use Rattle.std.proofs.lemmas.Bool.{cases_eq, false≢true, not-true}
 use Rattle.lemmas.proofs.Lists.{set_elsewhere}
 use Rattle.scenario_image.specs.Scenario.{Scenario}
 use Rattle.trace_file.specs.declared.entry.Entry.{Entry}
 use Rattle.fleet_core.specs.Waiting.{is_waiting}
-use Rattle.fleet_core.specs.declared.next.Next.{Next}
-use Rattle.fleet_core.specs.declared.next.Next.TheVariants.{End, Free, Waits}
-use Rattle.shared_trace.specs.declared.station.Place.{Place}
-use Rattle.shared_trace.specs.declared.station.Place.TheVariants.{Parked, Out}
 use Rattle.shared_trace.specs.declared.station.Station.{Station}
 use Rattle.shared_trace.specs.Kept.{is_end}
-use Rattle.shared_trace.specs.Kept.{IsTrace, AreEnded, is_ready_in}
+use Rattle.shared_trace.specs.Kept.{IsTrace, AreEnded}
 use Rattle.shared_trace.proofs.Stations.{left_is}
-
--- a device at its end is not ready
-pub not_ready : (posts : ℕ → ℕ) (p : Place) (n : Next) → is_end n ≡ true → is_ready_in posts p n ≡ false
-not_ready posts (Parked x) End h = refl
-not_ready posts (Parked x) Free h = absurd (false≢true h)
-not_ready posts (Parked x) (Waits group count) h = absurd (false≢true h)
-not_ready posts (Out w) n h = refl
 
 pub none_ended : (stations : List Station) → AreEnded stations 0
 none_ended stations i x less at = absurd (omega (arith, less))

@@ -4,7 +4,9 @@ pub mod Nexts
 pub mod Open
 pub mod Stations
 pub mod Ended
-pub mod Idle
+pub mod Woken
+pub mod Waits
+pub mod Rostering
 pub mod Handing
 pub mod Stepping
 pub mod Stopping

@@ -1,5 +1,5 @@
 -- What changes where a worker stops the trace.
-use Rattle.std.proofs.Common.{◌≡◌, ℕ, List, [], sym, ap, subst, append-nil, refl}
+use Rattle.std.proofs.Common.{◌≡◌, ℕ, [], sym, ap, subst, append-nil, refl}
 use Rattle.std.specs.Prelude.{◌||◌}
 use Rattle.std.proofs.lemmas.Bool.{ne_eqb}
 use Rattle.ticket_lock.specs.Log.{Adds}

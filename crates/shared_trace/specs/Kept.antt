@@ -1,5 +1,5 @@
 -- What a trace and a job keep beside what contracts see.
-use Rattle.std.specs.Prelude.{◌≡◌, ℕ, ◌+◌, ◌<◌, ◌≤◌, ◌==◌, ◌⊎◌, max, Bool, true, false, List, [], ◌∷◌, ◌++◌}
+use Rattle.std.specs.Prelude.{◌≡◌, ℕ, ◌+◌, ◌<◌, ◌≤◌, ◌==◌, max, Bool, true, false, List, [], ◌∷◌, ◌++◌}
 use Rattle.std.specs.Prelude.{length, map}
 use Rattle.std.specs.Prelude.{count_by, Some}
 use Rattle.std.specs.Prelude.{slice_get, slice_index}
@@ -16,6 +16,8 @@ use Rattle.fleet_core.specs.Board.{HoldsAfter, Holding}
 use Rattle.shared_trace.specs.declared.station.Place.{Place}
 use Rattle.shared_trace.specs.declared.station.Place.TheVariants.{Parked, Out}
 use Rattle.shared_trace.specs.declared.station.Station.{Station}
+use Rattle.shared_trace.specs.declared.roster.Roster.{Roster}
+use Rattle.shared_trace.specs.Roster.{CandidatesModel, WaitersModel, IsCandidate, IsListedFor}
 use Rattle.shared_trace.specs.Trace.{IsPlaced}
 use Rattle.shared_trace.specs.Job.{IsOf}
 
@@ -86,10 +88,48 @@ abbrev pub AreIdle : (ℕ → ℕ) → List Station → ℕ → Type 0
 AreIdle posts stations first =
     (i : ℕ) (x : Station) → i < first → slice_get stations i ≡ Some x → is_ready posts x ≡ false
 
--- after posts to these groups a ready device is looked for after those at the ends of their rows, and without any
--- after those that were not ready, and from the device that is parked on
-abbrev pub LooksFrom : ℕ → ℕ → ℕ → List ℕ → ℕ → Type 0
-LooksFrom first low d groups i = (i ≡ low) ⊎ ((groups ≡ []) × (i ≤ first) × (i ≤ d))
+-- each device that is ready is a candidate
+abbrev pub AreCandidates : (ℕ → ℕ) → List Station → CandidatesModel → Type 0
+AreCandidates posts stations c =
+    (i : ℕ) (x : Station) → slice_get stations i ≡ Some x → is_ready posts x ≡ true → IsCandidate c i
+
+-- a device that waits for posts to a group is in its list, unless nothing is posted to the group
+abbrev pub IsListedAt : List WaitersModel → ℕ → Next → Type 0
+IsListedAt waiting d End = Unit {0}
+IsListedAt waiting d Free = Unit {0}
+IsListedAt waiting d (Waits g n) = g < length waiting → IsListedFor waiting g d n
+
+-- each device that is parked, and waits for more posts than there are, is listed
+abbrev pub AreListed : (ℕ → ℕ) → List Station → List WaitersModel → Type 0
+AreListed posts stations waiting =
+    (i : ℕ) (x : Station) → slice_get stations i ≡ Some x → is_parked x.place ≡ true
+    → may_pass posts x.next ≡ false → IsListedAt waiting i x.next
+
+-- a roster finds each device that is ready, now or after more posts
+pub record IsRosterOf (counts : List ℕ) (stations : List Station) (r : Roster) : Type 0 where
+  pub groups : length r.waiting.items ≡ length counts
+  pub ready : AreCandidates (λ g. slice_index counts g) stations r.candidates
+  pub listed : AreListed (λ g. slice_index counts g) stations r.waiting.items
+
+-- those that wait still do
+pub record KeepsLists (old new : List WaitersModel) : Type 0 where
+  pub groups : length new ≡ length old
+  pub lists : (g d n : ℕ) → IsListedFor old g d n → IsListedFor new g d n
+
+-- the device was added: where each group has so many posts it is a candidate, or it waits
+pub record IsAdded (counts : List ℕ) (old new : Roster) (d : ℕ) (next : Next) : Type 0 where
+  pub kept : KeepsLists old.waiting.items new.waiting.items
+  pub candidates : (e : ℕ) → IsCandidate old.candidates e → IsCandidate new.candidates e
+  pub ready : may_pass (λ g. slice_index counts g) next ≡ true → IsCandidate new.candidates d
+  pub listed : may_pass (λ g. slice_index counts g) next ≡ false → IsListedAt new.waiting.items d next
+
+-- those that wait for no more than these posts to the group were woken, and the others still wait
+pub record IsPosted (old new : Roster) (g posts : ℕ) : Type 0 where
+  pub groups : length new.waiting.items ≡ length old.waiting.items
+  pub candidates : (d : ℕ) → IsCandidate old.candidates d → IsCandidate new.candidates d
+  pub woken : (d n : ℕ) → IsListedFor old.waiting.items g d n → n ≤ posts → IsCandidate new.candidates d
+  pub waiting : (h d n : ℕ) → IsListedFor old.waiting.items h d n → (g ≡ h → posts < n)
+      → IsListedFor new.waiting.items h d n
 
 -- what a trace keeps: a run, a station for each device, and the counts of the posts
 pub record IsTrace (s : Scenario) (es : List Entry) (stations : List Station) (counts : List ℕ) : Type 0 where

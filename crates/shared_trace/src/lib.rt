@@ -3,15 +3,18 @@
 //! A worker claims a device under the trace's lock, lets it make steps outside the lock, and puts them into the trace.
 #![tactic(auto)]
 
+mod candidates;
 mod claims;
 mod entries;
 mod job;
 mod pages;
+mod roster;
 mod start;
 mod station;
 mod stops;
 mod tables;
 mod trace;
+mod wait_queue;
 mod work;
 
 pub use claims::Claim;

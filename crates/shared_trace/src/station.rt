@@ -3,7 +3,7 @@
 ghost use Rattle.std.specs.Prelude.{◌≡◌, ℕ, ◌<◌, true, false, [], Some, IfSome, IfNone, slice_get, slice_index};
 ghost use Rattle.shared_trace.specs.declared.station.Station.{Station};
 ghost use Rattle.shared_trace.specs.declared.station.Place.TheVariants.{Parked, Out};
-ghost use Rattle.shared_trace.specs.Kept.{AreEnded, AreIdle, LooksFrom, is_end, is_parked, is_ready};
+ghost use Rattle.shared_trace.specs.Kept.{AreEnded, AreIdle, is_end, is_parked, is_ready};
 
 use fleet_core::{Held, Next, may_pass};
 use std::alloc::Global;
@@ -78,6 +78,19 @@ impl Station {
     }
 }
 
+/// Whether the device is ready.
+pub(crate) fn is_ready_at(stations: &[Station], device: u16, posts: &[u32]) -> bool
+    ensures ready { result ≡ true → (x : Station) × (slice_get stations.now device ≡ Some x)
+        × (is_ready (λ g. slice_index posts.now g) x ≡ true) }
+    ensures not { result ≡ false → (x : Station) → slice_get stations.now device ≡ Some x
+        → is_ready (λ g. slice_index posts.now g) x ≡ false }
+{
+    match stations.get(usize::from(device)) {
+        None => false,
+        Some(station) => station.is_ready(posts),
+    }
+}
+
 /// The lowest device that is ready. None before `first` is.
 pub(crate) fn lowest_ready(stations: &[Station], first: usize, posts: &[u32]) -> Option<usize>
     requires { AreIdle (λ g. slice_index posts.now g) stations.now first }
@@ -148,16 +161,5 @@ pub(crate) fn count_ended(stations: &[Station], low: usize) -> usize
     match first_left(stations, low) {
         Some(device) => device,
         None => stations.len(),
-    }
-}
-
-/// From where on a ready device is looked for once this one is parked, after posts to these groups.
-pub(crate) fn look_from(first: usize, low: usize, device: u16, groups: &[u8]) -> usize
-    ensures { LooksFrom first low device groups.now result }
-{
-    if groups.is_empty() {
-        first.min(usize::from(device))
-    } else {
-        low
     }
 }

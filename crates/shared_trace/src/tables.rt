@@ -1,11 +1,13 @@
 //! Tables of the posts to each group.
 
-ghost use Rattle.std.specs.Prelude.{◌≡◌, ℕ, ◌+◌, ◌^◌, ◌<◌, ◌==◌, ◌++◌, length, slice_get, slice_index, count_by, OnOk};
+ghost use Rattle.std.specs.Prelude.{◌≡◌, ℕ, ◌+◌, ◌^◌, ◌<◌, ◌==◌, ◌++◌, List, length, slice_get, slice_index, count_by, OnOk};
 ghost use Rattle.std.specs.List.{AllByRecursion};
 ghost use Rattle.fleet_core.specs.Run.{steps_in};
 ghost use Rattle.scenario_image.specs.Scenario.{IsValid};
-ghost use Rattle.shared_trace.specs.Kept.{groups_in, places_for, places_for_steps, table_length};
+ghost use Rattle.shared_trace.specs.declared.station.Station.{Station};
+ghost use Rattle.shared_trace.specs.Kept.{groups_in, places_for, places_for_steps, table_length, IsRosterOf};
 
+use crate::roster::Roster;
 use scenario_image::{Scenario, Step};
 use std::alloc::AllocError;
 
@@ -52,16 +54,21 @@ pub(crate) fn table_length(scenario: &Scenario) -> usize
     most
 }
 
-/// Counts a post to each of these groups.
-pub(crate) fn add_posts(posts: &mut Vec<u32>, groups: &[u8])
+/// Counts a post to each of these groups, and wakes the devices that waited for it.
+pub(crate) fn add_posts(posts: &mut Vec<u32>, roster: &mut Roster, groups: &[u8])
     requires within { AllByRecursion (λ h. h < length posts.old.items) groups.now }
     requires room { (g : ℕ) → slice_index posts.old.items g + count_by (λ h. h == g) groups.now < 2 ^ 32 }
+    requires groups { length roster.old.waiting.items ≡ length posts.old.items }
     ensures count { length posts.new.items ≡ length posts.old.items }
     ensures sums { (g : ℕ) → slice_index posts.new.items g
         ≡ slice_index posts.old.items g + count_by (λ h. h == g) groups.now }
+    ensures roster { (stations : List Station) → IsRosterOf posts.old.items stations roster.old
+        → IsRosterOf posts.new.items stations roster.new }
 {
     for group in groups {
-        posts[usize::from(*group)] += 1;
+        let count = &mut posts[usize::from(*group)];
+        *count += 1;
+        roster.post(*group, *count);
     }
 }
 

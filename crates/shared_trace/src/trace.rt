@@ -17,8 +17,9 @@ use crate::claims::Claim;
 use crate::entries::EntryIter;
 use crate::job::Job;
 use crate::pages::Pages;
+use crate::roster::Roster;
 use crate::start::start_stations;
-use crate::station::{Place, Station, any_out, count_ended, first_left, look_from, lowest_ready};
+use crate::station::{Place, Station, any_out, count_ended, first_left};
 use crate::stops::Stops;
 use crate::tables::{add_posts, table_length};
 use crate::work::OpenWork;
@@ -40,8 +41,8 @@ pub struct Trace {
     posts: Vec<u32>,
     /// Each device before this one is at the end of its row.
     low: usize,
-    /// No device before this one is ready.
-    first: usize,
+    /// Finds the lowest device that is ready.
+    roster: Roster,
     /// The device that was handed out last.
     last: usize,
     stops: Stops,
@@ -53,8 +54,7 @@ impl Model for Trace {
     ghost use Rattle.device_requests.specs.Client.{attributes_code};
     ghost use Rattle.shared_trace.specs.Trace.{TraceModel};
     ghost use Rattle.shared_trace.specs.Stops.{numbers_in};
-    ghost use Rattle.std.specs.Prelude.{slice_index};
-    ghost use Rattle.shared_trace.specs.Kept.{IsTrace, AreEnded, AreIdle, places_of};
+    ghost use Rattle.shared_trace.specs.Kept.{IsTrace, AreEnded, IsRosterOf, places_of};
 
     ghost Value = { TraceModel };
 
@@ -68,7 +68,7 @@ impl Model for Trace {
     } };
 
     ghost invariant = { λ t. IsTrace t.subject.value t.entries.held t.stations.items t.posts.items
-        × AreEnded t.stations.items t.low × AreIdle (λ g. slice_index t.posts.items g) t.stations.items t.first };
+        × AreEnded t.stations.items t.low × IsRosterOf t.posts.items t.stations.items t.roster };
 }
 
 impl Logged for Trace {
@@ -97,6 +97,7 @@ impl Trace {
         let stations = start_stations(alloc, scenario, places)?;
         let posts = vec![in alloc; 0u32; places]?;
         let entries = Pages::new(alloc)?;
+        let roster = Roster::new(alloc, stations.as_slice(), places)?;
         Ok(Trace {
             alloc,
             subject: Snapshot::of(scenario),
@@ -104,7 +105,7 @@ impl Trace {
             stations,
             posts,
             low: 0,
-            first: 0,
+            roster,
             last: 0,
             stops: Stops::Never,
         })
@@ -141,7 +142,7 @@ impl Trace {
             stations,
             posts,
             low,
-            first,
+            roster,
             last,
             stops,
         } = self;
@@ -155,7 +156,7 @@ impl Trace {
                     stations,
                     posts,
                     low,
-                    first,
+                    roster,
                     last,
                     stops,
                 };
@@ -184,23 +185,21 @@ impl Trace {
         }
     }
 
-    /// The lowest device that is ready. `low` moves on to the lowest device that is not at the end of its row, and
-    /// `first` to the one that is ready, each past all devices where there is none.
+    /// The lowest device that is ready. `low` moves on to the lowest device that is not at the end of its row, past all
+    /// devices where there is none.
     fn lowest(&mut self) -> Option<u16>
         ensures same { self.new ≡ self.old }
         ensures ready { IfSome result (λ d. IsReady self.new d × ((i : ℕ) → IsReady self.new i → d ≤ i)) }
         ensures none { IfNone result ((i : ℕ) → IsReady self.new i → ⊥) }
     {
         self.low = count_ended(self.stations.as_slice(), self.low);
-        match lowest_ready(self.stations.as_slice(), self.first, self.posts.as_slice()) {
-            Some(device) => {
-                self.first = device;
-                Some(device as u16)
-            }
-            None => {
-                self.first = self.stations.len();
-                None
-            }
+        match self
+            .roster
+            .candidates
+            .lowest_ready(self.stations.as_slice(), self.posts.as_slice())
+        {
+            Some(device) => Some(device as u16),
+            None => None,
         }
     }
 
@@ -245,6 +244,7 @@ impl Trace {
         let (place, next) = (station.made, station.next);
         let (held, mut known) = station.hand_out(alloc, worker);
         known.copy_from_slice(self.posts.as_slice());
+        self.roster.candidates.take(device);
         self.last = usize::from(device);
         Job {
             alloc,
@@ -292,6 +292,10 @@ impl Trace {
         ensures unchanged { OnErr result (self.new ≡ self.old) }
         ensures shared { IsShared self.new }
     {
+        match self.roster.make_room(job.next) {
+            Ok(()) => {}
+            Err(fault) => return Err((job, fault)),
+        }
         let Job {
             alloc,
             claimed,
@@ -324,14 +328,14 @@ impl Trace {
                 return Err((job, fault));
             }
         }
-        add_posts(&mut self.posts, posted.as_slice());
-        self.first = look_from(self.first, self.low, device, posted.as_slice());
         self.stations[usize::from(device)] = Station {
             place: Place::Parked(held),
             made: place,
             next,
             known,
         };
+        self.roster.add(device, next, self.posts.as_slice());
+        add_posts(&mut self.posts, &mut self.roster, posted.as_slice());
         Ok(())
     }
 }

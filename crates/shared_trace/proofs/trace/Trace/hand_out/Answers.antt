@@ -1,9 +1,9 @@
-use Rattle.std.proofs.Common.{ap, refl, ◌∙◌, length, arith, slice_index}
+use Rattle.std.proofs.Common.{ap, refl, sym, ◌∙◌, length, arith}
 use Rattle.shared_trace.proofs.Stations.{shared_is}
 use Rattle.shared_trace.proofs.Handing.{IsHanded, handed, table_is, out_trace, out_ended, out_view, out_adds}
 use Rattle.shared_trace.proofs.Handing.{out_stands}
 use Rattle.shared_trace.proofs.Handing.{fresh_job, parked_now, shows_now}
-use Rattle.shared_trace.proofs.Idle.{out_idle}
+use Rattle.shared_trace.proofs.Rostering.{out_roster}
 use Rattle.shared_trace.proofs.trace.Trace.hand_out.Goals as goal
 
 hand : (c : goal.After-as_slice)
@@ -48,8 +48,10 @@ invariant_of-self c = (
       c.self.inside.posts.items c.self.inside.low c.args.device c.from.result
       c.index_mut-station.result.now c.hand_out-held.new.self c.requires.ready.held
       (then c) c.from.ensures c.self.invariant.1,
-  out_idle (λ g. slice_index c.self.inside.posts.items g) c.self.inside.stations.items c.self.inside.first
-      c.from.result c.args.worker c.hand_out-held.new.self c.hand_out-held.ensures.place c.self.invariant.2,
+  out_roster c.self.inside.posts.items c.self.inside.stations.items c.from.result c.hand_out-held.new.self
+      c.self.inside.roster (record c.self.inside.roster { candidates = c.take.new.self }) c.args.worker
+      c.self.invariant.2 c.hand_out-held.ensures.place refl
+      (λ e other. c.take.ensures.others e (λ same. other (same ∙ sym c.from.ensures))),
 )
 
 pub invariant_of-result : goal.invariant_of-result

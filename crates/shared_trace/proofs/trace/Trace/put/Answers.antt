@@ -6,18 +6,42 @@ use Rattle.shared_trace.specs.Trace.{IsShared, with_block}
 use Rattle.shared_trace.proofs.Stations.{traced, shared_is}
 use Rattle.shared_trace.proofs.Putting.{IsFitting, fitting, put_within, put_room, put_place, put_trace, put_view}
 use Rattle.shared_trace.proofs.Putting.{put_adds, put_ended}
-use Rattle.shared_trace.specs.Kept.{AreEnded, LooksFrom}
-use Rattle.shared_trace.proofs.Idle.{put_idle}
+use Rattle.shared_trace.specs.Kept.{AreEnded, IsTrace}
+use Rattle.shared_trace.proofs.Rostering.{kept_roster, put_back}
 use Rattle.shared_trace.proofs.trace.Trace.put.Goals as goal
+
+-- where there is no room for the device among those that wait
+pub invariant_of-self : goal.invariant_of-self
+invariant_of-self c = (
+  c.self.invariant.0,
+  c.self.invariant.1,
+  kept_roster c.self.inside.posts.items c.self.inside.stations.items c.self.inside.roster c.make_room.new.self
+      c.self.invariant.2 c.make_room.ensures.candidates c.make_room.ensures.kept,
+)
 
 pub returns-in-Err-clause-shared : goal.returns-in-Err-clause-shared
 returns-in-Err-clause-shared c =
+    shared_is c.self.inside.subject.value c.self.inside.entries.held c.self.inside.stations.items
+    c.self.inside.posts.items c.self.inside.stops c.self.invariant.0
+
+-- where there is none for its entries
+pub invariant_of-self-in-Err-append : goal.invariant_of-self-in-Err-append
+invariant_of-self-in-Err-append c = (
+  subst (λ l. IsTrace c.self.inside.subject.value l c.self.inside.stations.items c.self.inside.posts.items)
+      (sym c.in-Err-append.ensures.unchanged) c.self.invariant.0,
+  c.self.invariant.1,
+  kept_roster c.self.inside.posts.items c.self.inside.stations.items c.self.inside.roster c.make_room.new.self
+      c.self.invariant.2 c.make_room.ensures.candidates c.make_room.ensures.kept,
+)
+
+pub returns-in-Err-append-clause-shared : goal.returns-in-Err-append-clause-shared
+returns-in-Err-append-clause-shared c =
     subst (λ l. IsShared (traced c.self.inside.subject.value l c.self.inside.stations.items c.self.inside.stops))
-    (sym c.in-Err.ensures.unchanged)
+    (sym c.in-Err-append.ensures.unchanged)
     (shared_is c.self.inside.subject.value c.self.inside.entries.held c.self.inside.stations.items
     c.self.inside.posts.items c.self.inside.stops c.self.invariant.0)
 
-fits : (c : goal.After-as_slice)
+fits : (c : goal.After-as_slice-2)
     → IsFitting c.self.inside.subject.value c.self.inside.entries.held c.self.inside.stations.items
     c.self.inside.posts.items c.args.worker c.job.inside.device c.job.inside.claimed.value.entries
     c.job.inside.entries.items c.job.inside.held c.job.inside.known.items c.job.inside.posted.items
@@ -32,13 +56,25 @@ fits c =
 
 pub add_posts-requires-clause-within : goal.add_posts-requires-clause-within
 add_posts-requires-clause-within c =
-    subst (AllByRecursion (λ h. h < length c.self.inside.posts.items)) (sym c.as_slice.ensures.value)
+    subst (AllByRecursion (λ h. h < length c.self.inside.posts.items)) (sym c.as_slice-2.ensures.value)
     (put_within (fits c))
 
 pub add_posts-requires-clause-room : goal.add_posts-requires-clause-room
 add_posts-requires-clause-room c =
     subst (λ l. (g : ℕ) → slice_index c.self.inside.posts.items g + count_by (λ h. h == g) l < 4294967296)
-    (sym c.as_slice.ensures.value) (put_room (fits c))
+    (sym c.as_slice-2.ensures.value) (put_room (fits c))
+
+pub add_posts-requires-clause-groups : goal.add_posts-requires-clause-groups
+add_posts-requires-clause-groups c =
+    let known = put_back c.self.inside.posts.items c.as_slice.result.now c.self.inside.stations.items
+    c.self.inside.roster c.make_room.new.self c.add.new.self c.from.result c.job.inside.device (record {
+      place = Parked c.job.inside.held;
+      made = c.job.inside.place;
+      next = c.job.inside.next;
+      known = c.job.inside.known;
+    }) c.self.invariant.2 c.make_room.ensures.candidates c.make_room.ensures.kept c.as_slice.ensures.value
+    c.from.ensures c.add.ensures in
+    known.groups
 
 pub index_mut-requires : goal.index_mut-requires
 index_mut-requires c =
@@ -87,23 +123,20 @@ invariant_of-self-2 c = (
         c.job.inside.next;
     known = c.job.inside.known;
   })
-      c.from.result c.append.new.self.held c.add_posts.new.posts.items c.from.ensures c.in-Ok.ensures.held refl refl
-      refl refl c.add_posts.ensures.count
+      c.from.result c.append.new.self.held c.add_posts.new.posts.items c.from.ensures
+      c.in-Ok-append.ensures.held refl refl refl refl c.add_posts.ensures.count
       (λ g. c.add_posts.ensures.sums g ∙ ap (λ l. slice_index c.self.inside.posts.items g + count_by (λ h. h == g) l)
-      c.as_slice.ensures.value),
+      c.as_slice-2.ensures.value),
   ended c,
-  put_idle (λ g. slice_index c.self.inside.posts.items g) (λ g. slice_index c.add_posts.new.posts.items g)
-      c.self.inside.stations.items c.self.inside.first c.self.inside.low c.job.inside.device c.from.result
-      c.look_from-self-inside.result c.job.inside.posted.items (record {
+  c.add_posts.ensures.roster _
+      (put_back c.self.inside.posts.items c.as_slice.result.now c.self.inside.stations.items c.self.inside.roster
+      c.make_room.new.self c.add.new.self c.from.result c.job.inside.device (record {
         place = Parked c.job.inside.held;
         made = c.job.inside.place;
         next = c.job.inside.next;
         known = c.job.inside.known;
-      }) (ended c) c.self.invariant.2 c.from.ensures
-      (λ g. c.add_posts.ensures.sums g ∙ ap (λ l. slice_index c.self.inside.posts.items g + count_by (λ h. h == g) l)
-      c.as_slice.ensures.value)
-      (subst (λ l. LooksFrom c.self.inside.first c.self.inside.low c.job.inside.device l c.look_from-self-inside.result)
-      c.as_slice-2.ensures.value c.look_from-self-inside.ensures),
+      }) c.self.invariant.2 c.make_room.ensures.candidates c.make_room.ensures.kept c.as_slice.ensures.value
+      c.from.ensures c.add.ensures),
 )
 
 pub returns-clause-put : goal.returns-clause-put
@@ -116,7 +149,7 @@ returns-clause-put c =
       known =
           c.job.inside.known;
     }) c.from.result c.append.new.self.held c.self.view_is c.from.ensures
-    c.in-Ok.ensures.held refl
+    c.in-Ok-append.ensures.held refl
     ∙ ap (λ t. with_block c.args.self.now t.device t.held t.entries) c.job.view_is
 
 pub returns-clause-adds : goal.returns-clause-adds
@@ -130,7 +163,7 @@ returns-clause-adds c =
       known =
           c.job.inside.known;
     }) c.from.result c.append.new.self.held c.self.view_is c.from.ensures
-    c.in-Ok.ensures.held refl)
+    c.in-Ok-append.ensures.held refl)
 
 pub returns-clause-shared : goal.returns-clause-shared
 returns-clause-shared c = shared_is _ _ _ _ _ (invariant_of-self-2 c).0
