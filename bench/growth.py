@@ -4,10 +4,10 @@
     bench/growth.py USES LWBENCH [TIMES] [NAME ..]
 
 USES and LWBENCH are the built programs, crates/fleet_workers_uses/out/fleet_workers_uses and
-crates/lwbench/out/lwbench. A row of the table that is printed is the least processor time of TIMES rounds (3) of a
-serial run, or of `debug`, less that of the same without the steps or commands that are measured, divided by how many
-these are. CURVES says what each is; with names, these alone are measured. Each scenario is of one class, written as
-text; Python's standard library is all that the script needs.
+crates/lwbench/out/lwbench. A row of the table that is printed is the least processor time of TIMES rounds (3) of a run,
+serial or by one worker, or of `debug`, less that of the same without the steps or commands that are measured, divided
+by how many these are. CURVES says what each is; with names, these alone are measured. Each scenario is of one class,
+written as text; Python's standard library is all that the script needs.
 """
 import os
 import subprocess
@@ -86,17 +86,18 @@ def posts(size):
         last = [step for it in range(count) for step in (f"need 1 {it + 1}", "post 2")]
         return [[*first, "post 9"], *[["need 9 1"]] * size, last]
 
-    return [scenario([], [], rows(it)) for it in (0, 1000)], 2000
+    return [scenario([], [], rows(it)) for it in (1, 1001)], 2000
 
 
-# What each curve grows by, and its sizes.
+# What each curve grows by, its sizes, and what makes the run: `serial`, or one worker with batches of one step.
 RUNS = {
-    "create": (create, "values held", (64, 512, 4096)),
-    "attributes": (attributes, "numbers set", (16, 256, 2048)),
-    "long read": (long_read, "values of 1,024 bytes", (64, 512, 4096)),
-    "long discover": (long_discover, "resources", (64, 512, 4096)),
-    "observations": (observations, "observations", (1, 8, 32)),
-    "posts": (posts, "devices that wait", (64, 1024, 16382)),
+    "create": (create, "values held", (64, 512, 4096), "serial"),
+    "attributes": (attributes, "numbers set", (16, 256, 2048), "serial"),
+    "long read": (long_read, "values of 1,024 bytes", (64, 512, 4096), "serial"),
+    "long discover": (long_discover, "resources", (64, 512, 4096), "serial"),
+    "observations": (observations, "observations", (1, 8, 32), "serial"),
+    "posts": (posts, "devices that wait", (64, 1024, 16382), "serial"),
+    "worker's posts": (posts, "devices that wait", (64, 1024, 16382), "one 1"),
 }
 
 
@@ -116,9 +117,9 @@ def outputs(total):
 
 
 def resumes(total):
-    """Resumed four times, past 63 breakpoints that hold nowhere, to each read of the first device."""
+    """Resumed four times, past 63 breakpoints that hold nowhere, to each read of the first device, and taken back."""
     never = [f"break code {total // 12 - 1} 84"] * 63
-    return [*never, "break code 0 45"], ["resume"] * 4, 4
+    return [*never, "break code 0 45"], [*["resume"] * 4, "back 10"] * 500, 2000
 
 
 # By the number of devices, each with 12 steps. `open` is `debug` without a command, and `check` is of the same files,
@@ -144,11 +145,11 @@ def count_of(image_text):
     return sum(it not in ("", "device 0") for it in lines[begun:])
 
 
-def run_least(uses, lwbench, folder, text, times):
-    """The least processor seconds of a serial run of a scenario."""
+def run_least(uses, lwbench, folder, text, kind, times):
+    """The least processor seconds of a run of a scenario."""
     given = os.path.join(folder, "given")
     with open(assembled(lwbench, folder, text), "rb") as data, open(given, "w", encoding="ascii") as out:
-        out.write(f"serial\n{data.read().hex()}\n")
+        out.write(f"{kind}\n{data.read().hex()}\n")
     return min(once([uses], f"steps {count_of(text)}\n", given)[1] for _ in range(times))
 
 
@@ -169,10 +170,10 @@ def debug_least(lwbench, files, commands, times):
 
 
 def rows_of_runs(uses, lwbench, folder, name, times):
-    make, grows_by, sizes = RUNS[name]
+    make, grows_by, sizes, kind = RUNS[name]
     for size in sizes:
         (without, whole), count = make(size)
-        taken = [run_least(uses, lwbench, folder, it, times) for it in (without, whole)]
+        taken = [run_least(uses, lwbench, folder, it, kind, times) for it in (without, whole)]
         yield [name, grows_by, f"{size:,}", f"{(taken[1] - taken[0]) / count * 1e6:.2f}"]
 
 
