@@ -1,4 +1,4 @@
-ghost use Rattle.std.specs.Prelude.{◌≡◌, ◌↔◌, [], IfOk, MatchOption, OnOk, IsTrue, Ok, Err, is_some};
+ghost use Rattle.std.specs.Prelude.{◌≡◌, ◌↔◌, [], false, IfOk, MatchOption, OnOk, OnErr, IsTrue, Ok, Err, is_some};
 ghost use Rattle.std.specs.Option.{option_copied};
 ghost use Rattle.object_defs.specs.Path.{full_path};
 ghost use Rattle.device_notifications.specs.Outlooks.{outlooks_of};
@@ -142,10 +142,30 @@ impl Device {
         if self.spent || passes_end(self.machine.clock(), event) {
             return Err(StepFault::Spent);
         }
+        match self.take(event) {
+            Ok(outputs) => Ok(outputs),
+            Err(AllocError) => Err(StepFault::Memory),
+        }
+    }
+
+    /// Lets the device take an event that it does not refuse, and gives what it outputs: a step, whose answer is passed
+    /// on as it is. Without memory the device is spent, and left as `step` says.
+    pub fn take(&mut self, event: &Event) -> Result<Outputs, AllocError>
+        requires { is_refused self.old event.now ≡ false }
+        ensures outputs { (f : FlatState) → Shows self.old f → IfOk result (λ o. o ≡ outputs_of f event.now) }
+        ensures shows { (f : FlatState) → Shows self.old f → OnOk result (Shows self.new (flat_after f event.now)) }
+        ensures memory { OnErr result (IsTrue self.new.spent) }
+        ensures may_lack_memory { OnErr result (IsTrue (event_takes_memory self.old.flat.kept event.now)) }
+        ensures left { OnErr result (KeepsRecords self.old.flat self.new.flat) }
+        ensures part { OnErr result (IsLeftBy self.old.flat event.now self.new.flat.kept) }
+    {
         self.spent = true;
-        let outputs = self.machine.react(event)?;
-        self.spent = false;
-        Ok(outputs)
+        let result = self.machine.react(event);
+        match &result {
+            Ok(_) => self.spent = false,
+            Err(AllocError) => {}
+        }
+        result
     }
 
     /// What management requests read and modify; a spent device gives what it was left with.

@@ -72,7 +72,7 @@ impl Outputs {
     }
 
     /// One output, which takes no memory.
-    pub(crate) fn one(alloc: Global, output: Output) -> Result<Outputs, AllocError>
+    pub fn one(alloc: Global, output: Output) -> Result<Outputs, AllocError>
         ensures one { IfOk result (λ o. o ≡ output ∷ []) }
         ensures succeeds { IsOk result }
     {

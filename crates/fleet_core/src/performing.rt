@@ -14,7 +14,7 @@ ghost use Rattle.fleet_core.specs.Board.{AreStarted, ShowsAfter, posts_after};
 ghost use Rattle.scenario_image.specs.declared.step.Step.{Step};
 ghost use Rattle.scenario_image.specs.declared.step.Step.TheVariants.{Post};
 
-use device_machine::{Device, Event, Outputs, StepFault};
+use device_machine::{Device, Event, Outputs};
 use device_template::Template;
 use scenario_image::{Scenario, Step};
 use std::alloc::{AllocError, Global};
@@ -73,11 +73,7 @@ fn perform_event(device: &mut Device, event: &Event) -> Result<Outputs, AllocErr
     ensures outputs { (f : Machine) → Shows device.old f → IfOk result (λ o. o ≡ outputs_of f event.now) }
     ensures shows { (f : Machine) → Shows device.old f → OnOk result (Shows device.new (flat_after f event.now)) }
 {
-    match device.step(event) {
-        Ok(outputs) => Ok(outputs),
-        Err(StepFault::Memory) => Err(AllocError),
-        Err(StepFault::Spent) => unreachable!(),
-    }
+    device.take(event)
 }
 
 /// Lets a device take a step that it does not refuse, and gives what it outputs.

@@ -13,7 +13,7 @@ use Rattle.fleet_core.specs.declared.next.Next.{Next}
 use Rattle.fleet_core.specs.declared.next.Next.TheVariants.{End, Free, Waits}
 use Rattle.fleet_core.proofs.Board.{get_or_any}
 use Rattle.fleet_core.proofs.Queueing.{added_here, added_kept, taken_or}
-use Rattle.shared_trace.specs.Roster.{CandidatesModel, WaitersModel, IsCandidate, IsListedFor, HasRoomFor, no_waiters}
+use Rattle.shared_trace.specs.Roster.{CandidatesModel, WaitersModel, IsCandidate, IsListedFor, no_waiters}
 use Rattle.shared_trace.specs.Kept.{IsListedAt, KeepsLists}
 use Rattle.shared_trace.proofs.Lists.{same_some}
 
@@ -25,9 +25,6 @@ pub record HaveMoved (old now : List (ℕ × ℕ)) (before after : CandidatesMod
   pub either : (d n : ℕ) → Contains old (n, d) → n ≤ posts → Contains now (n, d) ⊎ IsCandidate after d
   pub waiting : (d n : ℕ) → Contains old (n, d) → posts < n → Contains now (n, d)
   pub kept : (d : ℕ) → IsCandidate before d → IsCandidate after d
-
-pub none_moved : (old : List (ℕ × ℕ)) (before : CandidatesModel) (posts : ℕ) → HaveMoved old old before before posts
-none_moved old before posts = record { either = λ d n h le. inl h; waiting = λ d n h less. h; kept = λ d h. h }
 
 moved_one : (now rest : List (ℕ × ℕ)) (after more : CandidatesModel) (x m d n : ℕ) → IsPermutation now ((m, x) ∷ rest)
     → IsCandidate more x → ((e : ℕ) → IsCandidate after e → IsCandidate more e)
@@ -115,19 +112,6 @@ module _ (waiting : List WaitersModel) (w x : WaitersModel) (g : ℕ) (within : 
   pub keeps_added : (d n : ℕ) → IsPermutation ((n, d) ∷ w.pairs) x.pairs → KeepsLists waiting (slice_set waiting g x)
   keeps_added d n added = keeps_lists (λ e m has. added_kept w.pairs x.pairs (n, d) (m, e) added has)
 
-  pub room_here : (next : Next) (h n : ℕ) → next ≡ Waits h n → g ≡ h → 1 ≤ x.room
-      → HasRoomFor (slice_set waiting g x) next
-  room_here next h n at same room =
-      subst (HasRoomFor (slice_set waiting g x)) (sym at)
-      (subst (λ i. i < length (slice_set waiting g x) → 1 ≤ (get_or (slice_set waiting g x) i no_waiters).room) same
-      (λ less. subst (λ (v : WaitersModel). 1 ≤ v.room) (sym changed_here) room))
-
-  pub room_there : (next : Next) (h n : ℕ) → next ≡ Waits h n → g ≡ h → HasRoomFor waiting next → 1 ≤ w.room
-  room_there next h n at same room =
-      let known : h < length waiting → 1 ≤ (get_or waiting h no_waiters).room = subst (HasRoomFor waiting) at room in
-      subst (λ (v : WaitersModel). 1 ≤ v.room) (ap (λ i. get_or waiting i no_waiters) (sym same) ∙ read_here)
-      (known (subst (λ i. i < length waiting) same within))
-
   pub listed_here : (next : Next) (h d n : ℕ) → next ≡ Waits h n → g ≡ h → IsPermutation ((n, d) ∷ w.pairs) x.pairs
       → IsListedAt (slice_set waiting g x) d next
   listed_here next h d n at same added =
@@ -138,30 +122,11 @@ module _ (waiting : List WaitersModel) (w x : WaitersModel) (g : ℕ) (within : 
 
 -- ---- what stays listed
 
-pub all_kept : (waiting : List WaitersModel) → KeepsLists waiting waiting
-all_kept waiting = record { groups = refl; lists = λ g d n h. h }
-
-pub both_keep : (a b c : List WaitersModel) → KeepsLists a b → KeepsLists b c → KeepsLists a c
-both_keep a b c first second = record {
-  groups = second.groups ∙ first.groups;
-  lists = λ g d n h. second.lists g d n (first.lists g d n h);
-}
-
 pub still_listed : (old new : List WaitersModel) (d : ℕ) (next : Next) → KeepsLists old new → IsListedAt old d next
     → IsListedAt new d next
 still_listed old new d End kept h = tt
 still_listed old new d Free kept h = tt
 still_listed old new d (Waits g n) kept h = λ less. kept.lists g d n (h (omega (arith, less, kept.groups)))
-
--- where a group has no place
-pub no_room : (waiting : List WaitersModel) (next : Next) (g n : ℕ) → next ≡ Waits g n → length waiting ≤ g
-    → HasRoomFor waiting next
-no_room waiting next g n at past = subst (HasRoomFor waiting) (sym at) (λ less. absurd (omega (arith, past, less)))
-
-pub not_listed : (waiting : List WaitersModel) (next : Next) (d g n : ℕ) → next ≡ Waits g n → length waiting ≤ g
-    → IsListedAt waiting d next
-not_listed waiting next d g n at past =
-    subst (IsListedAt waiting d) (sym at) (λ less. absurd (omega (arith, past, less)))
 
 -- ---- one station after another
 

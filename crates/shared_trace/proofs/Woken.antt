@@ -1,17 +1,16 @@
 -- The devices that may be ready.
-use Rattle.std.proofs.Common.{◌≡◌, ℕ, ◌<◌, ◌≤◌, ◌⊎◌, inl, inr, true, false, List, [], ◌∷◌, length, get_or}
-use Rattle.std.proofs.Common.{Option, None, Some, slice_get, All, Contains, IsPermutation, IfNone, IfSome, refl, sym, ap}
+use Rattle.std.proofs.Common.{◌≡◌, ℕ, ◌<◌, ◌⊎◌, inl, inr, true, false, List, [], ◌∷◌, length, get_or}
+use Rattle.std.proofs.Common.{Option, None, Some, slice_get, Contains, IsPermutation, IfNone, IfSome, refl, sym, ap}
 use Rattle.std.proofs.Common.{subst, ◌∙◌, arith}
-use Rattle.std.proofs.lemmas.Bool.{false≢true, false_from_ne_true}
+use Rattle.std.proofs.lemmas.Bool.{false≢true}
 use Rattle.std.proofs.lemmas.Option.{slice_get_read}
-use Rattle.std.proofs.lemmas.List.Elements.{All-contains}
 use Rattle.std.proofs.lemmas.List.Sorted.{length_permutation}
 use Rattle.std.specs.declared.cmp.Reverse.{Reverse}
 use Rattle.fleet_core.specs.Queue.{numbers_of}
 use Rattle.fleet_core.proofs.Queueing.{taken_or}
 use Rattle.shared_trace.specs.declared.station.Station.{Station}
 use Rattle.shared_trace.specs.Roster.{CandidatesModel}
-use Rattle.shared_trace.specs.Kept.{AreCandidates, AreIdle, is_ready}
+use Rattle.shared_trace.specs.Kept.{AreCandidates, is_ready}
 
 -- ---- the lowest of the woken ones
 
@@ -49,27 +48,6 @@ module _ (posts : ℕ → ℕ) (stations : List Station) where
   kept_without old new d all fresh taken not i x at ready less =
       kept_by old new d i x at ready not
       (taken_or old.woken new.woken d i taken (all i x at ready (omega (arith, less, fresh))))
-
-  -- none is ready below the lowest of all
-  pub none_lower : (c : CandidatesModel) (d : ℕ) → AreCandidates posts stations c → d < c.fresh
-      → All (λ e. d ≤ e) c.woken
-      → (i : ℕ) (x : Station) → i < d → slice_get stations i ≡ Some x → is_ready posts x ≡ false
-  none_lower c d all before lowest i x less at =
-      false_from_ne_true (is_ready posts x)
-      (λ ready. let more : d ≤ i =
-      All-contains (λ e. d ≤ e) c.woken i lowest (all i x at ready (omega (arith, less, before))) in
-      omega (arith, less, more))
-
-  -- none is ready among those before the others, where no woken one is there
-  pub none_woken : (c : CandidatesModel) → AreCandidates posts stations c → All (λ e. c.fresh ≤ e) c.woken
-      → AreIdle posts stations c.fresh
-  none_woken c all none i x less at =
-      false_from_ne_true (is_ready posts x)
-      (λ ready. let more : c.fresh ≤ i = All-contains (λ e. c.fresh ≤ e) c.woken i none (all i x at ready less) in
-      omega (arith, less, more))
-
-  pub from_idle : (c : CandidatesModel) → AreIdle posts stations c.fresh → AreCandidates posts stations c
-  from_idle c idle i x at ready less = absurd (false≢true (sym (idle i x less at) ∙ ready))
 
 -- ---- the station of a device
 

@@ -1,10 +1,11 @@
 //! Entries, read from the front of bytes, and trace files.
 
-ghost use Rattle.std.specs.Prelude.{◌≡◌, ◌≢◌, List, length, Err, IfOk, IfErr, IsErrAnd, MatchResult};
+ghost use Rattle.std.specs.Prelude.{◌≡◌, ◌≢◌, List, [], length, Err, IfOk, IfErr, IsErrAnd, MatchResult};
 ghost use Rattle.byte_layout.specs.declared.fault.Break.{Break};
 ghost use Rattle.byte_layout.specs.declared.fault.LayoutFault.{LayoutFault};
 ghost use Rattle.byte_layout.specs.declared.fault.LayoutFault.TheVariants.{Memory};
 ghost use Rattle.byte_layout.specs.declared.fault.ReadError.TheVariants as errors;
+ghost use Rattle.byte_layout.specs.Layout.{each};
 ghost use Rattle.byte_layout.specs.Outcome.{Gives};
 ghost use Rattle.byte_layout.specs.Whole.{HasFault, fault_of_break};
 ghost use Rattle.trace_file.specs.declared.entry.Entry.{Entry as EntryData};
@@ -87,11 +88,23 @@ impl Items for OutputItems {
     }
 }
 
+/// One output, which takes no memory beside that of its datagram.
+#[tactic(auto, unfolding(byte_layout::specs::Layout::each))]
+fn one_output_at(alloc: Global, bytes: &[u8]) -> Result<(Outputs, &[u8]), ReadError>
+    ensures { Gives (λ x. (x.0, x.1.now)) result ((each (λ before. output) 1 []).read bytes.now) }
+{
+    let (output, rest) = output_at(alloc, bytes)?;
+    Ok((Outputs::one(alloc, output)?, rest))
+}
+
 #[tactic(auto, unfolding(crate::specs::Layout::output_list))]
 fn outputs_at(alloc: Global, bytes: &[u8]) -> Result<(Outputs, &[u8]), ReadError>
     ensures { Gives (λ x. (x.0, x.1.now)) result (output_list.read bytes.now) }
 {
     let (count, rest) = u32_at(bytes)?;
+    if count == 1 {
+        return one_output_at(alloc, rest);
+    }
     let (items, rest) = items_at(&OutputItems, alloc, count as usize, rest)?;
     Ok((Outputs::from_vec(items), rest))
 }
