@@ -1,12 +1,28 @@
 -- Bytes cut at the first that is one byte.
 use Rattle.std.proofs.Common.{◌≡◌, ℕ, ◌+◌, ◌≤◌, suc, not, Bool, true, false, cond, eqb, ltb, List, [], ◌∷◌, length}
-use Rattle.std.proofs.Common.{take, drop, Some, None, refl, ap, ◌∙◌, arith, ltb-true}
-use Rattle.std.proofs.lemmas.Bool.{ltb-false}
+use Rattle.std.proofs.Common.{take, drop, Option, Some, None, refl, ap, ◌∙◌, sym, arith, ltb-true}
+use Rattle.std.proofs.lemmas.Bool.{ltb-false, lt-ltb, cond-true, cond-false, false_from_ne_true}
 use Rattle.std.specs.List.{slice_split, onto_first, position, position_or_len}
 use Rattle.scenario_words.specs.Words.{HasTwo}
 use Rattle.std.proofs.lemmas.List.Splits.{slice_split_first}
+use Rattle.std.proofs.lemmas.List.Sums.{position_or_len_is}
+use Rattle.memchr.specs.Find.{IsFirstByte, is_byte}
 use Rattle.std.proofs.lemmas.Option.{cond_some}
 use Rattle.lemmas.proofs.Options.{no_choice}
+
+-- the first place that holds the byte, as a search finds it, is the first that passes the test
+pub place_found : (c : ℕ) (bs : List ℕ) (r : Option ℕ) → IsFirstByte (is_byte c) bs r
+    → r ≡ position (λ b. eqb b c) bs
+place_found c bs None h =
+    let at = position_or_len_is (λ b. eqb b c) bs (length bs) 0 (omega arith)
+    (λ k l. false_from_ne_true _ (h k (omega arith) l)) (λ l. absurd (omega (arith, l))) in
+    sym (cond-false (ltb _ _) (Some (position_or_len (λ b. eqb b c) bs)) None
+    (false_from_ne_true _ (λ t. absurd (omega (arith, at, ltb-true _ _ t)))))
+place_found c bs (Some k) h =
+    let at = position_or_len_is (λ b. eqb b c) bs k 0 (omega (arith, h.0.high))
+    (λ i l. false_from_ne_true _ (h.0.before i (omega arith) l)) (λ l. h.1) in
+    sym (cond-true (ltb _ _) (Some (position_or_len (λ b. eqb b c) bs)) None (lt-ltb _ _ (omega (arith, at, h.0.high)))
+    ∙ ap Some at)
 
 -- the first part ends at the first place
 pub split_at_place : (p : ℕ → Bool) (bs : List ℕ) (k : ℕ) → position p bs ≡ Some k

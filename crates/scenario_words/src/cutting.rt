@@ -1,10 +1,13 @@
 ghost use Rattle.std.specs.Prelude.{◌≡◌, ◌==◌, ◌<◌, ◌∷◌, length, option_map, [], IfSome, MatchOption, position};
 ghost use Rattle.scenario_words.specs.Words.{parts, parts_behind, lines, HasTwo};
 
+use memchr::memchr;
+
+/// Where the first byte is that is this one, if one is.
 fn place_of(bytes: &[u8], byte: u8) -> Option<usize>
     ensures { result ≡ position (λ b. b == byte) bytes.now }
 {
-    bytes.iter().position(|b| *b == byte)
+    memchr(byte, bytes)
 }
 
 /// What stands before the first byte that is this one, and, where there is one, what stands after it.
