@@ -1,20 +1,17 @@
 -- Entries that are replayed one after another.
-use Rattle.std.proofs.Common.{◌≡◌, ℕ, ◌+◌, ◌<◌, ◌≤◌, Bool, true, false, List, [], ◌∷◌, ◌++◌, length, take, get_or}
-use Rattle.std.proofs.Common.{nat_lt, Some, IsSome, slice_get, refl, sym, ap, subst, ◌∙◌, arith}
-use Rattle.std.proofs.lemmas.Bool.{false_from_ne_true, false≢true, ltb-true, ltb-false}
+use Rattle.std.proofs.Common.{◌≡◌, ℕ, ◌+◌, ◌<◌, Bool, true, false, List, [], ◌∷◌, ◌++◌, length, take, get_or, add-one}
+use Rattle.std.proofs.Common.{refl, sym, ap, subst, ◌∙◌}
 use Rattle.std.proofs.lemmas.Grind.{take_at_read}
-use Rattle.std.proofs.lemmas.Option.{slice_get_past, slice_get_read}
 use Rattle.lemmas.proofs.Lists.{take_none}
 use Rattle.device_machine.specs.declared.output.Output.{Output}
 use Rattle.device_machine.specs.State.{Device}
 use Rattle.scenario_image.specs.declared.step.Step.{Step}
 use Rattle.scenario_image.specs.Scenario.{Scenario}
 use Rattle.trace_file.specs.declared.entry.Entry.{Entry}
-use Rattle.fleet_core.specs.Run.{steps_in, step_at, made_by, entry_of, is_enabled, out_at, Fits, IsRun}
-use Rattle.fleet_core.specs.Board.{FleetModel, IsFleet, AreParked, HoldsAfter, Holding, ShowsAfter, Continues}
-use Rattle.fleet_core.specs.Board.{Replays}
+use Rattle.fleet_core.specs.Run.{made_by, entry_of, is_enabled, out_at, Fits, IsRun}
+use Rattle.fleet_core.specs.Board.{FleetModel, Holding, ShowsAfter, Continues, Replays}
 use Rattle.fleet_core.specs.Verdict.{BreaksAt}
-use Rattle.fleet_core.proofs.Posts.{run_push, run_last, enabled_fits, fits_enabled}
+use Rattle.fleet_core.proofs.Posts.{run_push, run_last, made_same, enabled_fits, fits_enabled}
 use Rattle.fleet_core.proofs.Board.{Reads, entry_is}
 
 -- ---- one entry
@@ -62,58 +59,15 @@ follows v s es new spent devices e place step old out view r made number same mo
       ready = refl;
     })
 
--- ---- the devices
-
--- what is held of a device, as it was read
-pub held_at : (devices read : List Holding) (i d : ℕ) (held : Holding) → read ≡ devices → i ≡ d
-    → true ≡ nat_lt i (length read) → held ≡ get_or read i held → slice_get devices d ≡ Some held
-held_at devices read i d held same is within got =
-    subst (λ l. slice_get l d ≡ Some held) same
-    (subst (λ j. slice_get read j ≡ Some held) is
-    (slice_get_read read (length read) i held refl (ltb-true i (length read) (sym within)) got))
-
-pub none_at : (devices read : List Holding) (i d : ℕ) → read ≡ devices → i ≡ d → false ≡ nat_lt i (length read)
-    → length devices ≤ d
-none_at devices read i d same is past =
-    omega (arith, ltb-false i (length read) (sym past), ap length same, is)
-
--- the device that is held shows the state after its entries
-pub held_shows : (v : FleetModel) (s : Scenario) (es : List Entry) (spent : Bool) (made posts : List ℕ)
-    (devices : List Holding) (d : ℕ) (held : Holding) (x : Device)
-    → record { scenario = s; entries = es; spent = spent } ≡ v → IsFleet s es made posts devices spent
-    → v.spent ≡ false → slice_get devices d ≡ Some held → x ≡ held.shown
-    → ShowsAfter v.scenario d (made_by d v.entries) x
-held_shows v s es spent made posts devices d held x view fleet ready at is =
-    let parked : AreParked s es devices = fleet.parked (ap (λ w. w.spent) view ∙ ready) in
-    subst (λ w. ShowsAfter w.scenario d (made_by d w.entries) x) view
-    (subst (ShowsAfter s d (made_by d es)) (sym is) (parked.each d held at).shows)
-
--- after its first step, and before its last one, there is the device itself
-pub held_here : (v : FleetModel) (s : Scenario) (es : List Entry) (spent : Bool) (made posts : List ℕ)
-    (devices : List Holding) (d : ℕ) (held : Holding)
-    → record { scenario = s; entries = es; spent = spent } ≡ v → IsFleet s es made posts devices spent
-    → v.spent ≡ false → slice_get devices d ≡ Some held → 1 ≤ made_by d v.entries
-    → IsSome (step_at v.scenario d (made_by d v.entries)) → (held.fresh ≡ false) × (held.gone ≡ false)
-held_here v s es spent made posts devices d held view fleet ready at begun left =
-    let parked : AreParked s es devices = fleet.parked (ap (λ w. w.spent) view ∙ ready) in
-    let holds : HoldsAfter s d (made_by d es) held = parked.each d held at in
-    let some : 1 ≤ made_by d es = subst (λ w. 1 ≤ made_by d w.entries) (sym view) begun in
-    let next : IsSome (step_at s d (made_by d es)) =
-    subst (λ w. IsSome (step_at w.scenario d (made_by d w.entries))) (sym view) left in (
-      false_from_ne_true held.fresh (λ fresh. let none = holds.fresh fresh in absurd (omega (arith, none, some))),
-      false_from_ne_true held.gone (λ gone. false≢true (subst (λ o. IsSome o) (holds.gone gone) next)),
-    )
-
--- a device without a row has no step
-pub no_step : (v : FleetModel) (s : Scenario) (es : List Entry) (spent : Bool) (made posts : List ℕ)
-    (devices : List Holding) (d : ℕ)
-    → record { scenario = s; entries = es; spent = spent } ≡ v → IsFleet s es made posts devices spent
-    → length devices ≤ d → IsSome (step_at v.scenario d (made_by d v.entries)) → ⊥
-no_step v s es spent made posts devices d view fleet none left =
-    let past : length s.rows ≤ d = omega (arith, none, fleet.count) in
-    let next : IsSome (step_at s d (made_by d es)) =
-    subst (λ w. IsSome (step_at w.scenario d (made_by d w.entries))) (sym view) left in
-    false≢true (subst (λ o. IsSome (slice_get (steps_in o) (made_by d es))) (slice_get_past s.rows d past) next)
+-- a copy that was made after the device's step shows the state after its entries
+pub copy_shows : (s : Scenario) (es new : List Entry) (devices : List Holding) (e : Entry) (place : ℕ) (step : Step)
+    (old : Holding) (x : Device) → Reads s es devices e.device place step old → new ≡ es ++ e ∷ []
+    → ShowsAfter s e.device (place + 1) x → ShowsAfter s e.device (made_by e.device new) x
+copy_shows s es new devices e place step old x r more shows =
+    let count : place + 1 ≡ made_by e.device (es ++ e ∷ []) =
+    ap (λ k. k + 1) r.place_is ∙ (add-one (made_by e.device es) ∙ sym (made_same e.device es e refl)) in
+    subst (λ l. ShowsAfter s e.device (made_by e.device l) x) (sym more)
+    (subst (λ k. ShowsAfter s e.device k x) count shows)
 
 -- ---- the list
 

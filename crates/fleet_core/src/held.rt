@@ -1,6 +1,6 @@
 //! What is held of a device: its class alone before its first step, and nothing after its last one.
 
-ghost use Rattle.std.specs.Prelude.{◌≡◌, ℕ, ◌+◌, ◌<◌, List, [], false, Some, IsSome, length, IfOk, OnOk};
+ghost use Rattle.std.specs.Prelude.{◌≡◌, ℕ, ◌+◌, ◌<◌, List, [], false, Some, is_some, length, IfOk, OnOk};
 ghost use Rattle.std.specs.Option.{option_copied};
 ghost use Rattle.device_template.specs.Template.{Template};
 ghost use Rattle.device_machine.specs.State.{Device, Shows};
@@ -91,14 +91,23 @@ impl Held {
         Ok(())
     }
 
-    /// The device, if it is here.
-    pub(crate) fn machine(&self) -> Option<&Device>
-        ensures shown { (x : Device) → option_copied result ≡ Some x → x ≡ self.now.shown }
-        ensures here { self.now.fresh ≡ false → self.now.gone ≡ false → IsSome result }
+    /// A copy of the device, which is here, if one is wanted.
+    #[inline(always)]
+    fn copy(&self, wanted: bool) -> Result<Option<Device>, AllocError>
+        requires fresh { self.now.fresh ≡ false }
+        requires gone { self.now.gone ≡ false }
+        ensures there { IfOk result (λ copy. is_some copy ≡ wanted) }
+        ensures shown { IfOk result (λ copy. (x : Device) → copy ≡ Some x → x ≡ self.now.shown) }
     {
+        if !wanted {
+            return Ok(None);
+        }
         match &self.state {
-            State::Here(machine) => Some(machine),
-            State::Fresh(_) | State::Gone(_) => None,
+            State::Here(machine) => {
+                let copy = machine.copy()?;
+                Ok(Some(copy))
+            }
+            State::Fresh(_) | State::Gone(_) => unreachable!(),
         }
     }
 
@@ -144,6 +153,7 @@ pub(crate) fn step_held(
     requires holds { HoldsAfter scenario.now device place held.old }
     ensures outputs { IfOk result (λ o. o ≡ out_at scenario.now device place) }
     ensures holds { OnOk result (HoldsAfter scenario.now device (place + 1) held.new) }
+    ensures here { OnOk result ((held.new.fresh ≡ false) × (held.new.gone ≡ false)) }
 {
     held.start(scenario, device)?;
     match &mut held.state {
@@ -185,6 +195,34 @@ pub(crate) fn make_outputs(
     let outputs = step_held(alloc, scenario, held, device, place, step)?;
     let_go_at_end(held, next);
     Ok(outputs)
+}
+
+/// Lets the device make a step as `make_outputs` does, and returns a copy of it after the step too, if one is wanted.
+/// The copy is made before the device's memory is let go of, so there is one after its last step too.
+#[inline(always)]
+pub(crate) fn make_copied(
+    alloc: Global,
+    scenario: &Scenario,
+    held: &mut Held,
+    device: u16,
+    place: u32,
+    step: &Step,
+    next: Option<&Step>,
+    wanted: bool,
+) -> Result<(Outputs, Option<Device>), AllocError>
+    requires stands { step_at scenario.now device place ≡ Some step.now }
+    requires next { option_copied next ≡ step_at scenario.now device (place + 1) }
+    requires holds { HoldsAfter scenario.now device place held.old }
+    ensures outputs { IfOk result (λ made. made.0 ≡ out_at scenario.now device place) }
+    ensures there { IfOk result (λ made. is_some made.1 ≡ wanted) }
+    ensures shows { IfOk result (λ made. (x : Device) → made.1 ≡ Some x
+        → ShowsAfter scenario.now device (place + 1) x) }
+    ensures holds { OnOk result (HoldsAfter scenario.now device (place + 1) held.new) }
+{
+    let outputs = step_held(alloc, scenario, held, device, place, step)?;
+    let copy = held.copy(wanted)?;
+    let_go_at_end(held, next);
+    Ok((outputs, copy))
 }
 
 /// Lets the device make the step of this number in its row, and returns its entry under the worker's number. The device

@@ -1,12 +1,12 @@
 //! The steps of a run, made once more.
 
-ghost use Rattle.std.specs.Prelude.{◌≡◌, ◌≤◌, [], false, Some, IsSome, IsTrue, IfOk, OnErr};
+ghost use Rattle.std.specs.Prelude.{◌≡◌, ◌&&◌, [], false, Some, is_some, IsTrue, IfOk, OnErr};
 ghost use Rattle.std.specs.Option.{option_copied};
 ghost use Rattle.device_machine.specs.State.{Device};
 ghost use Rattle.fleet_core.specs.Run.{made_by, step_at, is_enabled};
 ghost use Rattle.fleet_core.specs.Board.{ShowsAfter, Replays};
 
-use crate::held::{Held, held_of_rows, make_outputs};
+use crate::held::{Held, held_of_rows, make_copied};
 use crate::next::{may_pass, next_of};
 use crate::past::Past;
 use crate::performing::{note_post, step_of};
@@ -77,6 +77,53 @@ impl<'a> Replay<'a> {
         may_pass(next_of(self.next_step(device)), self.posts.as_slice())
     }
 
+    /// Takes an entry as `take` does. Returns whether it comes next, and if it does and one is wanted, a copy of its
+    /// device after it. The checker takes each entry by it, so it is a part of that loop.
+    #[inline(always)]
+    fn advance(&mut self, entry: &Entry, wanted: bool) -> Result<(bool, Option<Device>), AllocError>
+        requires { self.old.spent ≡ false }
+        ensures replays { IfOk result (λ took. Replays self.old self.new entry.now took.0) }
+        ensures there { IfOk result (λ took. is_some took.1 ≡ (wanted && took.0)) }
+        ensures shows { IfOk result (λ took. (x : Device) → took.1 ≡ Some x
+            → ShowsAfter self.new.scenario entry.now.device (made_by entry.now.device self.new.entries) x) }
+        ensures scenario { self.new.scenario ≡ self.old.scenario }
+        ensures refused { IfOk result (λ took. took.0 ≡ false → self.new.entries ≡ self.old.entries) }
+        ensures entries { OnErr result (self.new.entries ≡ self.old.entries) }
+        ensures memory { OnErr result (IsTrue self.new.spent) }
+    {
+        let device = entry.device;
+        if !self.is_enabled(device) {
+            return Ok((false, None));
+        }
+        let Some(step) = self.next_step(device) else {
+            unreachable!()
+        };
+        let at = usize::from(device);
+        let place = self.made[at];
+        let held = &mut self.devices[at];
+        let next = place + 1;
+        let following = step_of(self.scenario, device, next);
+        self.spent = true;
+        let (outputs, copy) = make_copied(
+            self.alloc,
+            self.scenario,
+            held,
+            device,
+            place,
+            step,
+            following,
+            wanted,
+        )?;
+        if !is_entry_of(entry, place, outputs.as_slice()) {
+            return Ok((false, None));
+        }
+        self.made[at] = next;
+        note_post(&mut self.posts, step);
+        self.past = self.past.with(entry);
+        self.spent = false;
+        Ok((true, copy))
+    }
+
     /// Takes an entry: its device makes its next step, if it can, and what it outputs is compared with the entry, and
     /// then let go of. Returns whether the entry comes next; one that does not is not taken, and may leave the replay
     /// spent. Without memory the replay is spent, with the entries as they were.
@@ -89,49 +136,22 @@ impl<'a> Replay<'a> {
         ensures entries { OnErr result (self.new.entries ≡ self.old.entries) }
         ensures memory { OnErr result (IsTrue self.new.spent) }
     {
-        let device = entry.device;
-        if !self.is_enabled(device) {
-            return Ok(false);
-        }
-        let Some(step) = self.next_step(device) else {
-            unreachable!()
-        };
-        let at = usize::from(device);
-        let place = self.made[at];
-        let held = &mut self.devices[at];
-        let next = place + 1;
-        let following = step_of(self.scenario, device, next);
-        self.spent = true;
-        let outputs = make_outputs(
-            self.alloc,
-            self.scenario,
-            held,
-            device,
-            place,
-            step,
-            following,
-        )?;
-        if !is_entry_of(entry, place, outputs.as_slice()) {
-            return Ok(false);
-        }
-        self.made[at] = next;
-        note_post(&mut self.posts, step);
-        self.past = self.past.with(entry);
-        self.spent = false;
-        Ok(true)
+        let (fits, _copy) = self.advance(entry, false)?;
+        Ok(fits)
     }
 
-    /// The device after its entries so far, if it is held: it is from its first entry on, as long as it has steps left.
-    pub fn device(&self, device: u16) -> Option<&Device>
-        requires { self.now.spent ≡ false }
-        ensures shows { (x : Device) → option_copied result ≡ Some x
-            → ShowsAfter self.now.scenario device (made_by device self.now.entries) x }
-        ensures held { 1 ≤ made_by device self.now.entries
-            → IsSome (step_at self.now.scenario device (made_by device self.now.entries)) → IsSome result }
+    /// Takes an entry as `take` does, and returns a copy of its device after it; none if the entry does not come next.
+    pub fn take_copied(&mut self, entry: &Entry) -> Result<Option<Device>, AllocError>
+        requires { self.old.spent ≡ false }
+        ensures replays { IfOk result (λ copy. Replays self.old self.new entry.now (is_some copy)) }
+        ensures copied { IfOk result (λ copy. (x : Device) → copy ≡ Some x
+            → ShowsAfter self.new.scenario entry.now.device (made_by entry.now.device self.new.entries) x) }
+        ensures scenario { self.new.scenario ≡ self.old.scenario }
+        ensures refused { IfOk result (λ copy. is_some copy ≡ false → self.new.entries ≡ self.old.entries) }
+        ensures entries { OnErr result (self.new.entries ≡ self.old.entries) }
+        ensures memory { OnErr result (IsTrue self.new.spent) }
     {
-        match self.devices.get(usize::from(device)) {
-            None => None,
-            Some(held) => held.machine(),
-        }
+        let (_fits, copy) = self.advance(entry, true)?;
+        Ok(copy)
     }
 }

@@ -2,9 +2,9 @@ use Rattle.std.proofs.Common.{[], ◌∷◌, ◌++◌, refl, sym, ap, ◌∙◌,
 use Rattle.std.proofs.lemmas.Bool.{false≢true}
 use Rattle.fleet_core.specs.Past.{past_entries}
 use Rattle.fleet_core.proofs.Board.{Reads, reads, step_stands_here, place_early, post_within, posts_room, fleet_push}
-use Rattle.fleet_core.proofs.Checked.{stands_still, is_next, differs, follows}
-use Rattle.fleet_core.proofs.replay.Replay.take.Goals as goal
-use Rattle.fleet_core.proofs.replay.Replay.take.Goals.{After-index_mut-held}
+use Rattle.fleet_core.proofs.Checked.{stands_still, is_next, differs, follows, copy_shows}
+use Rattle.fleet_core.proofs.replay.Replay.advance.Goals as goal
+use Rattle.fleet_core.proofs.replay.Replay.advance.Goals.{After-index_mut-held}
 
 pub returns-then-not-is_enabled-clause-replays : goal.returns-then-not-is_enabled-clause-replays
 returns-then-not-is_enabled-clause-replays c =
@@ -21,15 +21,15 @@ read_here c =
     c.self.view_is c.self.invariant c.requires c.in-Some.ensures c.if-not-is_enabled.ensures c.from-at.ensures
     c.index-place.ensures c.index_mut-held.ensures.value
 
-pub make_outputs-requires-clause-stands : goal.make_outputs-requires-clause-stands
-make_outputs-requires-clause-stands c =
-    let r = read_here (goal.at.make_outputs-requires-clause-stands c).After-index_mut-held in
+pub make_copied-requires-clause-stands : goal.make_copied-requires-clause-stands
+make_copied-requires-clause-stands c =
+    let r = read_here (goal.at.make_copied-requires-clause-stands c).After-index_mut-held in
     step_stands_here c.self.inside.scenario.now (past_entries c.self.inside.past) c.self.inside.devices.items
     c.args.entry.now.device c.index-place.result.now c.in-Some.step.now c.index_mut-held.result.now r
 
-pub make_outputs-requires-clause-holds : goal.make_outputs-requires-clause-holds
-make_outputs-requires-clause-holds c =
-    let r = read_here (goal.at.make_outputs-requires-clause-holds c).After-index_mut-held in
+pub make_copied-requires-clause-holds : goal.make_copied-requires-clause-holds
+make_copied-requires-clause-holds c =
+    let r = read_here (goal.at.make_copied-requires-clause-holds c).After-index_mut-held in
     r.holds
 
 pub overflow_add-next : goal.overflow_add-next
@@ -75,6 +75,14 @@ returns-clause-replays c =
     c.self.view_is r (c.as_slice.ensures ∙ c.in_ok-outputs.ensures.outputs) same.0 same.1
     c.with.ensures
 
+pub returns-clause-shows : goal.returns-clause-shows
+returns-clause-shows c =
+    let r = read_here (goal.at.returns-clause-shows c).After-index_mut-held in
+    λ x is.
+    copy_shows c.self.inside.scenario.now (past_entries c.self.inside.past) _ c.self.inside.devices.items
+    c.args.entry.now c.index-place.result.now c.in-Some.step.now c.index_mut-held.result.now x r c.with.ensures
+    (c.in_ok-outputs.ensures.shows x is)
+
 pub invariant_of-self-2 : goal.invariant_of-self-2
 invariant_of-self-2 c =
     let r = read_here (goal.at.invariant_of-self-2 c).After-index_mut-held in
@@ -82,7 +90,7 @@ invariant_of-self-2 c =
     fleet_push c.self.inside.scenario.now (past_entries c.self.inside.past) _ c.self.inside.made.items
     c.self.inside.posts.items c.note_post.new.posts.items c.self.inside.devices.items
     c.args.entry.now.worker c.args.entry.now.device c.from-at.result
-    c.index-place.result.now c.in-Some.step.now c.index_mut-held.result.now c.make_outputs.new.held
+    c.index-place.result.now c.in-Some.step.now c.index_mut-held.result.now c.make_copied.new.held
     c.args.entry.now c.self.invariant.board c.self.invariant.count r c.from-at.ensures
     c.with.ensures
     (is_next c.self.inside.scenario.now (past_entries c.self.inside.past) c.self.inside.devices.items c.args.entry.now
