@@ -1,8 +1,8 @@
 -- The copies of devices along a run.
 use Rattle.std.proofs.Common.{◌≡◌, ℕ, ◌+◌, ◌-◌, ◌*◌, ◌/◌, ◌%◌, ◌<◌, ◌≤◌, ◌⊎◌, inl, inr, eqb, cond, Bool, List, [], ◌∷◌, ◌++◌}
-use Rattle.std.proofs.Common.{length, map, replicate, take, set, get_or, None, Some, IsSome, slice_get, true, false}
+use Rattle.std.proofs.Common.{length, map, replicate, take, set, get_or, None, Some, slice_get, true, false}
 use Rattle.std.proofs.Common.{refl, sym, ap, subst, ◌∙◌, arith, length-append}
-use Rattle.std.proofs.lemmas.Bool.{cases_eq, false≢true}
+use Rattle.std.proofs.lemmas.Bool.{cases_eq}
 use Rattle.std.proofs.lemmas.List.{length-set, take_all}
 use Rattle.std.proofs.lemmas.List.Sums.{sum_by-take-le}
 use Rattle.std.proofs.lemmas.Option.{slice_get_read}
@@ -13,30 +13,16 @@ use Rattle.scenario_image.specs.declared.step.Step.{Step}
 use Rattle.scenario_image.specs.Scenario.{Scenario}
 use Rattle.scenario_image.specs.Play.{start, IsRowOf}
 use Rattle.trace_file.specs.declared.entry.Entry.{Entry}
-use Rattle.fleet_core.specs.Run.{made_by, step_at, Fits, IsRun}
+use Rattle.fleet_core.specs.Run.{made_by, Fits, IsRun}
 use Rattle.fleet_core.specs.Board.{Continues, FleetModel, Replays, ShowsAfter}
 use Rattle.fleet_core.proofs.Checked.{IsReplayed, begins, replays_on}
 use Rattle.fleet_core.proofs.Posts.{made_same, made_other}
 use Rattle.fleet_core.proofs.Taken.{row_below}
 use Rattle.debugger.specs.declared.copies.Copies.{Copies}
-use Rattle.debugger.specs.Copies.{HasCopies, AreCopied, AreCopiesAfter, AreCopiedAfter}
+use Rattle.debugger.specs.Copies.{AreCopiesAlong, HasCopies, AreCopied}
 use Rattle.debugger.proofs.Empties.{empty_at, empty_count}
 
 -- ---- the copies of one device
-
--- copies for more steps are copies for fewer
-pub fewer_copies : (s : Scenario) (d many few : ℕ) (copies : List Device) → HasCopies s d many copies → few ≤ many
-    → HasCopies s d few copies
-fewer_copies s d many few copies has less =
-    record {
-      shown = has.shown;
-      enough = let h : many < 64 * (length copies + 1) =
-          has.enough in omega (arith, h, less);
-    }
-
-pub before_copies : (s : Scenario) (d to : ℕ) (copies : List Device) → HasCopies s d to copies
-    → HasCopies s d (64 * (to / 64)) copies
-before_copies s d to copies has = fewer_copies s d to (64 * (to / 64)) copies has (omega arith)
 
 pub start_shows : (s : Scenario) (d number : ℕ) (x : Device) → number ≡ 0
     → ((class : Template) (steps : List Step) → IsRowOf s d class steps → Shows x (start class))
@@ -46,65 +32,55 @@ start_shows s d number x none started =
     subst (λ n. ShowsAfter s d (64 * n) x) (sym none) first
 
 pub copy_is : (s : Scenario) (d number : ℕ) (copies : List Device) (kept copy : Device)
-    → HasCopies s d (64 * number) copies → (number ≡ 0 → ⊥) → number - 1 < length copies
-    → kept ≡ get_or copies (number - 1) kept → copy ≡ kept → ShowsAfter s d (64 * number) copy
-copy_is s d number copies kept copy has some within read same =
+    → AreCopiesAlong s d copies → (number ≡ 0 → ⊥) → number ≤ length copies → kept ≡ get_or copies (number - 1) kept
+    → copy ≡ kept → ShowsAfter s d (64 * number) copy
+copy_is s d number copies kept copy along some enough read same =
+    let within : number - 1 < length copies = omega (arith, some, enough) in
     let back : number - 1 + 1 ≡ number = omega (arith, some) in
     subst (ShowsAfter s d (64 * number)) (sym same)
     (subst (λ n. ShowsAfter s d (64 * n) kept) back
-    (has.shown (number - 1) kept (slice_get_read copies (length copies) (number - 1) kept refl within read)))
+    (along.shown (number - 1) kept (slice_get_read copies (length copies) (number - 1) kept refl within read)))
 
 -- before its first step it has none
-none_yet : (s : Scenario) (d : ℕ) (copies : List Device) → copies ≡ [] → AreCopiesAfter s d 0 copies
-none_yet s d copies none =
-    let count : length copies ≡ 0 = ap length none in
-    record {
-      before = record {
-        shown = λ k x h. let e : None ≡ Some x = ap (λ l. slice_get l k) (sym none) ∙ h in absurd cc;
-        enough = omega (arith, count);
-      };
-      left = λ _. count;
-    }
-
--- a step after which it is not copied
-no_copy : (s : Scenario) (d step : ℕ) (copies : List Device)
-    → ((k : ℕ) (x : Device) → slice_get copies k ≡ Some x → ShowsAfter s d (64 * (k + 1)) x)
-    → length copies ≡ step / 64 → (IsSome (step_at s d (step + 1)) → step % 64 ≡ 63 → ⊥)
-    → AreCopiesAfter s d (step + 1) copies
-no_copy s d step copies shown count other = record {
-  before = record { shown = shown; enough = omega (arith, count) };
-  left = λ some. let part = other some in omega (arith, count, part);
+none_yet : (s : Scenario) (d : ℕ) (copies : List Device) → copies ≡ [] → HasCopies s d 0 copies
+none_yet s d copies none = record {
+  along = record {
+    shown = λ k x h. let e : None ≡ Some x = ap (λ l. slice_get l k) (sym none) ∙ h in absurd cc;
+  };
+  count = ap length none;
 }
 
-shown_next : (s : Scenario) (d step k : ℕ) (copies : List Device) (x machine : Device)
-    → ((j : ℕ) (y : Device) → slice_get copies j ≡ Some y → ShowsAfter s d (64 * (j + 1)) y)
-    → length copies ≡ step / 64 → step % 64 ≡ 63 → ShowsAfter s d (step + 1) machine
+-- a step after which it is not copied
+no_copy : (s : Scenario) (d step : ℕ) (copies : List Device) → HasCopies s d step copies → (step % 64 ≡ 63 → ⊥)
+    → HasCopies s d (step + 1) copies
+no_copy s d step copies has other = record { along = has.along; count = omega (arith, has.count, other) }
+
+shown_next : (s : Scenario) (d step k : ℕ) (copies : List Device) (x machine : Device) → HasCopies s d step copies
+    → step % 64 ≡ 63 → ShowsAfter s d (step + 1) machine
     → (slice_get copies k ≡ Some x) ⊎ ((k ≡ length copies) × (machine ≡ x)) → ShowsAfter s d (64 * (k + 1)) x
-shown_next s d step k copies x machine shown count whole now (inl h) = shown k x h
-shown_next s d step k copies x machine shown count whole now (inr h) =
-    let same : step + 1 ≡ 64 * (k + 1) = omega (arith, h.0, count, whole) in
+shown_next s d step k copies x machine has whole now (inl h) = has.along.shown k x h
+shown_next s d step k copies x machine has whole now (inr h) =
+    let same : step + 1 ≡ 64 * (k + 1) = omega (arith, h.0, has.count, whole) in
     subst (ShowsAfter s d (64 * (k + 1))) h.1 (subst (λ n. ShowsAfter s d n machine) same now)
 
 -- one after which it is
-one_copy : (s : Scenario) (d step : ℕ) (copies more : List Device) (machine : Device)
-    → ((k : ℕ) (x : Device) → slice_get copies k ≡ Some x → ShowsAfter s d (64 * (k + 1)) x)
-    → length copies ≡ step / 64 → step % 64 ≡ 63 → ShowsAfter s d (step + 1) machine → more ≡ copies ++ machine ∷ []
-    → AreCopiesAfter s d (step + 1) more
-one_copy s d step copies more machine shown count whole now added =
+one_copy : (s : Scenario) (d step : ℕ) (copies more : List Device) (machine : Device) → HasCopies s d step copies
+    → step % 64 ≡ 63 → ShowsAfter s d (step + 1) machine → more ≡ copies ++ machine ∷ []
+    → HasCopies s d (step + 1) more
+one_copy s d step copies more machine has whole now added =
     let long : length more ≡ length copies + 1 = omega (arith, ap length added, length-append copies (machine ∷ [])) in
     record {
-      before = record {
-        shown = λ k x h. shown_next s d step k copies x machine shown count whole now
+      along = record {
+        shown = λ k x h. shown_next s d step k copies x machine has whole now
             (pushed_cases copies machine k x (ap (λ l. slice_get l k) (sym added) ∙ h));
-        enough = omega (arith, long, count);
       };
-      left = λ _. omega (arith, long, count, whole);
+      count = omega (arith, long, has.count, whole);
     }
 
 -- ---- those of all devices
 
 pub none_copied : (s : Scenario) (n : ℕ) (all : List Copies) → map (λ x. x.devices.items) all ≡ replicate n []
-    → n ≡ length s.rows → AreCopiedAfter s [] all
+    → n ≡ length s.rows → AreCopied s [] all
 none_copied s n all are rows = record {
   rows = empty_count (λ x. x.devices.items) n all are ∙ rows;
   each = λ d x at. none_yet s d x.devices.items (empty_at (λ y. y.devices.items) n all d x are at);
@@ -112,17 +88,17 @@ none_copied s n all are rows = record {
 
 -- an entry that came next was taken, and these are the copies before it
 pub record HasNext (s : Scenario) (before es : List Entry) (e : Entry) (all : List Copies) : Type 0 where
-  pub copied : AreCopiedAfter s before all
+  pub copied : AreCopied s before all
   pub fits : Fits s before e
   pub is : es ≡ before ++ e ∷ []
 
 pub has_next : (old new : FleetModel) (e : Entry) (all : List Copies) (fits : Bool)
-    → AreCopiedAfter old.scenario old.entries all → Replays old new e fits → fits ≡ true
+    → AreCopied old.scenario old.entries all → Replays old new e fits → fits ≡ true
     → HasNext new.scenario old.entries new.entries e all
 has_next old new e all fits copied replays so =
     let more : Continues old new e = subst (Replays old new e) so replays in
     record {
-      copied = subst (λ s. AreCopiedAfter s old.entries all) (sym more.scenario) copied;
+      copied = subst (λ s. AreCopied s old.entries all) (sym more.scenario) copied;
       fits = subst (λ s. Fits s old.entries e) (sym more.scenario) more.fits;
       is = more.entries;
     }
@@ -137,46 +113,32 @@ own_made : (s : Scenario) (before es : List Entry) (e : Entry) (all : List Copie
 own_made s before es e all next =
     omega (arith, ap (made_by e.device) next.is, made_same e.device before e refl, next.fits.count)
 
--- a device that is not held has no step left
-pub none_left : (s : Scenario) (before es : List Entry) (e : Entry) (all : List Copies) → HasNext s before es e all
-    → (1 ≤ made_by e.device es → IsSome (step_at s e.device (made_by e.device es)) → false ≡ true)
-    → IsSome (step_at s e.device (e.step + 1)) → ⊥
-none_left s before es e all next held some =
-    let made : made_by e.device es ≡ e.step + 1 = own_made s before es e all next in
-    false≢true (held (omega (arith, made)) (subst (λ k. IsSome (step_at s e.device k)) (sym made) some))
-
--- how many copies its device has
-own_count : (s : Scenario) (before es : List Entry) (e : Entry) (all : List Copies) (x : Copies)
-    → HasNext s before es e all → slice_get all e.device ≡ Some x → length x.devices.items ≡ e.step / 64
-own_count s before es e all x next at =
-    let stands : step_at s e.device (made_by e.device before) ≡ Some next.fits.step =
-    subst (λ k. step_at s e.device k ≡ Some next.fits.step) next.fits.count next.fits.stands in
-    (next.copied.each e.device x at).left (subst (λ o. IsSome o) (sym stands) refl)
-    ∙ ap (λ n. n / 64) (sym next.fits.count)
+-- the copies of its device before it
+own_before : (s : Scenario) (before es : List Entry) (e : Entry) (all : List Copies) (x : Copies)
+    → HasNext s before es e all → slice_get all e.device ≡ Some x → HasCopies s e.device e.step x.devices.items
+own_before s before es e all x next at =
+    subst (λ n. HasCopies s e.device n x.devices.items) (sym next.fits.count) (next.copied.each e.device x at)
 
 else_after : (s : Scenario) (before es : List Entry) (e : Entry) (all : List Copies) (i : ℕ) (x : Copies)
     → HasNext s before es e all → slice_get all i ≡ Some x → (e.device ≡ i → ⊥)
-    → AreCopiesAfter s i (made_by i es) x.devices.items
+    → HasCopies s i (made_by i es) x.devices.items
 else_after s before es e all i x next at other =
     let same : made_by i es ≡ made_by i before = ap (made_by i) next.is ∙ made_other i before e other in
-    subst (λ n. AreCopiesAfter s i n x.devices.items) (sym same) (next.copied.each i x at)
+    subst (λ n. HasCopies s i n x.devices.items) (sym same) (next.copied.each i x at)
 
 same_at : (s : Scenario) (before es : List Entry) (e : Entry) (all : List Copies) (i : ℕ) (x : Copies)
-    → HasNext s before es e all → (IsSome (step_at s e.device (e.step + 1)) → e.step % 64 ≡ 63 → ⊥)
-    → slice_get all i ≡ Some x → (e.device ≡ i) ⊎ (e.device ≡ i → ⊥)
-    → AreCopiesAfter s i (made_by i es) x.devices.items
+    → HasNext s before es e all → (e.step % 64 ≡ 63 → ⊥) → slice_get all i ≡ Some x
+    → (e.device ≡ i) ⊎ (e.device ≡ i → ⊥) → HasCopies s i (made_by i es) x.devices.items
 same_at s before es e all i x next not_due at (inl same) =
     let own : slice_get all e.device ≡ Some x = ap (slice_get all) same ∙ at in
-    subst (λ j. AreCopiesAfter s j (made_by j es) x.devices.items) same
-    (subst (λ n. AreCopiesAfter s e.device n x.devices.items) (sym (own_made s before es e all next))
-    (no_copy s e.device e.step x.devices.items (next.copied.each e.device x own).before.shown
-    (own_count s before es e all x next own) not_due))
+    subst (λ j. HasCopies s j (made_by j es) x.devices.items) same
+    (subst (λ n. HasCopies s e.device n x.devices.items) (sym (own_made s before es e all next))
+    (no_copy s e.device e.step x.devices.items (own_before s before es e all x next own) not_due))
 same_at s before es e all i x next not_due at (inr other) = else_after s before es e all i x next at other
 
 -- after which its device is not copied
 pub same_copies : (s : Scenario) (before es : List Entry) (e : Entry) (all : List Copies)
-    → HasNext s before es e all → (IsSome (step_at s e.device (e.step + 1)) → e.step % 64 ≡ 63 → ⊥)
-    → AreCopiedAfter s es all
+    → HasNext s before es e all → (e.step % 64 ≡ 63 → ⊥) → AreCopied s es all
 same_copies s before es e all next not_due = record {
   rows = next.copied.rows;
   each = λ i x at. same_at s before es e all i x next not_due at (cases_eq e.device i);
@@ -186,16 +148,15 @@ more_at : (s : Scenario) (before es : List Entry) (e : Entry) (all : List Copies
     (i : ℕ) (z : Copies) → HasNext s before es e all → e.step % 64 ≡ 63 → slice_get all e.device ≡ Some x
     → ShowsAfter s e.device (made_by e.device es) machine → y.devices.items ≡ x.devices.items ++ machine ∷ []
     → slice_get (set all e.device y) i ≡ Some z → (e.device ≡ i) ⊎ (e.device ≡ i → ⊥)
-    → AreCopiesAfter s i (made_by i es) z.devices.items
+    → HasCopies s i (made_by i es) z.devices.items
 more_at s before es e all x y machine i z next due own shows added at (inl same) =
     let is : y ≡ z = set_gives all e.device y z (ap (slice_get (set all e.device y)) same ∙ at) in
     let made : made_by e.device es ≡ e.step + 1 = own_made s before es e all next in
-    subst (λ j. AreCopiesAfter s j (made_by j es) z.devices.items) same
-    (subst (λ w. AreCopiesAfter s e.device (made_by e.device es) w.devices.items) is
-    (subst (λ n. AreCopiesAfter s e.device n y.devices.items) (sym made)
+    subst (λ j. HasCopies s j (made_by j es) z.devices.items) same
+    (subst (λ w. HasCopies s e.device (made_by e.device es) w.devices.items) is
+    (subst (λ n. HasCopies s e.device n y.devices.items) (sym made)
     (one_copy s e.device e.step x.devices.items y.devices.items machine
-    (next.copied.each e.device x own).before.shown (own_count s before es e all x next own) due
-    (subst (λ n. ShowsAfter s e.device n machine) made shows) added)))
+    (own_before s before es e all x next own) due (subst (λ n. ShowsAfter s e.device n machine) made shows) added)))
 more_at s before es e all x y machine i z next due own shows added at (inr other) =
     else_after s before es e all i z next (sym (set_elsewhere all e.device i y other) ∙ at) other
 
@@ -203,12 +164,12 @@ more_at s before es e all x y machine i z next due own shows added at (inr other
 pub more_copies : (s : Scenario) (before es : List Entry) (e : Entry) (all : List Copies) (row : ℕ) (x y : Copies)
     (machine : Device) → HasNext s before es e all → e.step % 64 ≡ 63 → row ≡ e.device → x ≡ get_or all row x
     → ShowsAfter s e.device (made_by e.device es) machine → y.devices.items ≡ x.devices.items ++ machine ∷ []
-    → AreCopiedAfter s es (set all row y)
+    → AreCopied s es (set all row y)
 more_copies s before es e all row x y machine next due is read shows added =
     let own : slice_get all e.device ≡ Some x =
     slice_get_read all (length all) e.device x refl (next_row s before es e all next)
     (subst (λ j. x ≡ get_or all j x) is read) in
-    subst (λ (j : ℕ). AreCopiedAfter s es (set all j y)) (sym is)
+    subst (λ (j : ℕ). AreCopied s es (set all j y)) (sym is)
     (record {
       rows = length-set all e.device y ∙ next.copied.rows;
       each = λ i z at. more_at s before es e all x y machine i z next due own shows added at (cases_eq e.device i);
@@ -219,38 +180,34 @@ more_copies s before es e all row x y machine next due is read shows added =
 -- the first entries are a run and were taken, and the devices are copied after them
 pub record IsCopying (s : Scenario) (es : List Entry) (n : ℕ) (v : FleetModel) (all : List Copies) : Type 0 where
   pub replayed : IsReplayed s es n v
-  pub copied : AreCopiedAfter v.scenario v.entries all
+  pub copied : AreCopied v.scenario v.entries all
 
 pub starts_copying : (s : Scenario) (es : List Entry) (v : FleetModel) (all : List Copies)
-    → v ≡ record { scenario = s; entries = []; spent = false } → AreCopiedAfter s [] all → IsCopying s es 0 v all
+    → v ≡ record { scenario = s; entries = []; spent = false } → AreCopied s [] all → IsCopying s es 0 v all
 starts_copying s es v all is copied = record {
   replayed = begins s es v is;
-  copied = subst (λ w. AreCopiedAfter w.scenario w.entries all) (sym is) copied;
+  copied = subst (λ w. AreCopied w.scenario w.entries all) (sym is) copied;
 }
 
 pub copies_on : (s : Scenario) (es : List Entry) (n : ℕ) (v new : FleetModel) (e : Entry) (was all : List Copies)
     → IsCopying s es n v was → n < length es → e ≡ get_or es n e → Replays v new e true
-    → AreCopiedAfter new.scenario new.entries all → IsCopying s es (n + 1) new all
+    → AreCopied new.scenario new.entries all → IsCopying s es (n + 1) new all
 copies_on s es n v new e was all so_far within is more copied =
     record { replayed = replays_on s es n v new e so_far.replayed within is more; copied = copied }
 
 -- all entries
 pub record IsCopied (s : Scenario) (es : List Entry) (all : List Copies) : Type 0 where
   pub run : IsRun s es
-  pub rows : length all ≡ length s.rows
   pub copied : AreCopied s es all
 
 pub copied_run : (s : Scenario) (es : List Entry) (n : ℕ) (v : FleetModel) (all : List Copies)
     → IsCopying s es n v all → length es ≤ n → IsCopied s es all
 copied_run s es n v all so_far past =
     let whole : take n es ≡ es = take_all n es past in
-    let after : AreCopiedAfter s es all =
-    subst (λ l. AreCopiedAfter s l all) (so_far.replayed.entries ∙ whole)
-    (subst (λ t. AreCopiedAfter t v.entries all) so_far.replayed.scenario so_far.copied) in
     record {
       run = subst (IsRun s) whole so_far.replayed.run;
-      rows = after.rows;
-      copied = record { each = λ d x at. (after.each d x at).before };
+      copied = subst (λ l. AreCopied s l all) (so_far.replayed.entries ∙ whole)
+          (subst (λ t. AreCopied t v.entries all) so_far.replayed.scenario so_far.copied);
     }
 
 -- ---- the copies of a debugger
@@ -259,12 +216,16 @@ copied_run s es n v all so_far past =
 pub made_before : (es : List Entry) (d n : ℕ) → made_by d (take n es) ≤ made_by d es
 made_before es d n = sum_by-take-le (λ e. cond (eqb e.device d) 1 0) es n
 
--- those of a device, as many as it needs where it goes back
-pub copies_for : (s : Scenario) (es : List Entry) (d row from was count : ℕ) (all : List Copies) (x : Copies)
-    (copies : List Device) → AreCopied s es all → d < length all → row ≡ d → x ≡ get_or all row x
-    → copies ≡ x.devices.items → was ≡ made_by d (take from es) → count < was → HasCopies s d count copies
-copies_for s es d row from was count all x copies are within same read is made less =
-    let few : count ≤ made_by d es - 1 = omega (arith, less, made, made_before es d from) in
-    subst (HasCopies s d count) (sym is)
-    (fewer_copies s d (made_by d es - 1) count x.devices.items
-    (are.each d x (slice_get_read all (length all) d x refl within (subst (λ j. x ≡ get_or all j x) same read))) few)
+-- those of a device, along all its entries
+pub copies_of : (s : Scenario) (es : List Entry) (d row : ℕ) (all : List Copies) (x : Copies) (copies : List Device)
+    → AreCopied s es all → d < length s.rows → row ≡ d → x ≡ get_or all row x → copies ≡ x.devices.items
+    → HasCopies s d (made_by d es) copies
+copies_of s es d row all x copies are within same read is =
+    let there : d < length all = omega (arith, within, are.rows) in
+    subst (HasCopies s d (made_by d es)) (sym is)
+    (are.each d x (slice_get_read all (length all) d x refl there (subst (λ j. x ≡ get_or all j x) same read)))
+
+-- they go as far as to any number of steps that it has made at a place
+pub copies_reach : (s : Scenario) (es : List Entry) (d place count : ℕ) (copies : List Device)
+    → HasCopies s d (made_by d es) copies → count ≤ made_by d (take place es) → count / 64 ≤ length copies
+copies_reach s es d place count copies has less = omega (arith, has.count, made_before es d place, less)

@@ -32,9 +32,9 @@ use Rattle.debugger.proofs.Replaying.{few_on, replayed_back, steps_back, steps_o
 
 pub kept_start : (s : Scenario) (es : List Entry) (f : Fields) → f.place ≡ 0 → IsRun s es
     → AreCounted s (take 0 es) f.made → length f.devices ≡ length s.rows → AreStarted s f.devices
-    → f.breaks ≡ replicate most_breaks None → length f.copies ≡ length s.rows → AreCopied s es f.copies
-    → length f.places ≡ length s.rows → ArePlaced es (length es) f.places → IsDebugger s es f
-kept_start s es f first run counted count started free sources copied listed placed = record {
+    → f.breaks ≡ replicate most_breaks None → AreCopied s es f.copies → length f.places ≡ length s.rows
+    → ArePlaced es (length es) f.places → IsDebugger s es f
+kept_start s es f first run counted count started free copied listed placed = record {
   run = run;
   within = omega (arith, first);
   slots = ap length free ∙ length-replicate {A = Option Break} most_breaks None;
@@ -46,7 +46,6 @@ kept_start s es f first run counted count started free sources copied listed pla
         subst (λ k. ShowsAfter s d k x) (sym (counted.is d within ∙ ap (made_by d) (take_none es)))
         (shows_first s f.devices d x started at);
   };
-  sources = sources;
   copied = copied;
   listed = listed;
   placed = placed;
@@ -62,7 +61,6 @@ kept_moved s es f to counts new kept within counted count at = record {
   counted = counted;
   count = count ∙ kept.count;
   shown = at;
-  sources = kept.sources;
   copied = kept.copied;
   listed = kept.listed;
   placed = kept.placed;
@@ -77,7 +75,6 @@ kept_break s es f slot point kept = record {
   counted = kept.counted;
   count = kept.count;
   shown = kept.shown;
-  sources = kept.sources;
   copied = kept.copied;
   listed = kept.listed;
   placed = kept.placed;

@@ -1,5 +1,5 @@
 -- The latest step of a device, and the device right before it.
-use Rattle.std.proofs.Common.{◌≡◌, ℕ, zero, suc, ◌-◌, ◌<◌, ◌≤◌, List, length, take, Option, None, Some, slice_get, refl, sym}
+use Rattle.std.proofs.Common.{◌≡◌, ℕ, zero, suc, ◌-◌, ◌/◌, ◌<◌, ◌≤◌, List, length, take, Option, None, Some, slice_get, refl, sym}
 use Rattle.std.proofs.Common.{get_or, subst, ◌∙◌, arith}
 use Rattle.std.specs.Prelude.{IsSome}
 use Rattle.std.proofs.lemmas.Bool.{false≢true}
@@ -15,7 +15,7 @@ use Rattle.debugger.specs.Copies.{HasCopies}
 use Rattle.debugger.specs.Moves.{HasSteps}
 use Rattle.debugger.specs.Session.{AreCounted, Fields, Session}
 use Rattle.debugger.specs.Shown.{ShowsState, before_shown, latest_step, state_before, state_of, step_shown}
-use Rattle.debugger.proofs.Copying.{fewer_copies, made_before}
+use Rattle.debugger.proofs.Copying.{copies_of, copies_reach}
 use Rattle.debugger.proofs.Keeping.{IsInside}
 use Rattle.debugger.proofs.Rows.{shows_state}
 use Rattle.debugger.proofs.Runs.{has_steps}
@@ -74,19 +74,20 @@ counted_read {s = s} {es = es} {f = f} d i m inside row same read =
     let within : d < length f.made = omega (arith, row, inside.kept.counted.rows) in
     made_here s es f.place d m f.made inside.kept.counted (read_at f.made i d m same within read)
 
--- the copies go as far as to the step
-pub copies_read : {v : Session} {s : Scenario} {es : List Entry} {f : Fields} {replayed : ℕ} (d i m j : ℕ)
-    (x : Copies) (slice : List Device) → IsInside v s es f replayed
-    → IsSome (step_shown v.scenario v.entries v.place d) → i ≡ d → m ≡ get_or f.made i m → j ≡ d
-    → x ≡ get_or f.copies j x → slice ≡ x.devices.items → HasCopies s d (m - 1) slice
-copies_read {s = s} {es = es} {f = f} d i m j x slice inside some same read here kept is =
-    let has = made_some d inside some in
-    let count = counted_read d i m inside has.row same read in
-    let within : d < length f.copies = omega (arith, has.row, inside.kept.sources) in
-    let few : m - 1 ≤ made_by d es - 1 = omega (arith, count, made_before es d f.place) in
-    subst (HasCopies s d (m - 1)) (sym is)
-    (fewer_copies s d (made_by d es - 1) (m - 1) x.devices.items
-    (inside.kept.copied.each d x (read_at f.copies j d x here within kept)) few)
+-- the copies of the device, along all its entries
+pub copies_read : {v : Session} {s : Scenario} {es : List Entry} {f : Fields} {replayed : ℕ} (d j : ℕ) (x : Copies)
+    (slice : List Device) → IsInside v s es f replayed → IsSome (step_shown v.scenario v.entries v.place d) → j ≡ d
+    → x ≡ get_or f.copies j x → slice ≡ x.devices.items → HasCopies s d (made_by d es) slice
+copies_read {s = s} {es = es} {f = f} d j x slice inside some here kept is =
+    copies_of s es d j f.copies x slice inside.kept.copied (made_some d inside some).row here kept is
+
+-- they go as far as to the step
+pub enough_read : {v : Session} {s : Scenario} {es : List Entry} {f : Fields} {replayed : ℕ} (d i m : ℕ)
+    (slice : List Device) → IsInside v s es f replayed → IsSome (step_shown v.scenario v.entries v.place d) → i ≡ d
+    → m ≡ get_or f.made i m → HasCopies s d (made_by d es) slice → (m - 1) / 64 ≤ length slice
+enough_read {s = s} {es = es} {f = f} d i m slice inside some same read has =
+    let count = counted_read d i m inside (made_some d inside some).row same read in
+    copies_reach s es d f.place (m - 1) slice has (omega (arith, count))
 
 state_at_step : (s : Scenario) (d k j : ℕ) (x : Device) → k ≡ suc j → ShowsState (state_of s d j) x
     → ShowsState (state_before s d k) x

@@ -77,7 +77,6 @@ pub record IsDebugger (s : Scenario) (es : List Entry) (f : Fields) : Type 0 whe
   pub counted : AreCounted s (take f.place es) f.made
   pub count : length f.devices ≡ length s.rows
   pub shown : AreAt s f.made f.devices
-  pub sources : length f.copies ≡ length s.rows
   pub copied : AreCopied s es f.copies
   pub listed : length f.places ≡ length s.rows
   pub placed : ArePlaced es (length es) f.places

@@ -1,10 +1,10 @@
 //! Copies of each device along its row, from which a move back goes on.
 
-ghost use Rattle.std.specs.Prelude.{◌≡◌, ℕ, ◌*◌, ◌<◌, [], ◌∷◌, ◌++◌, true, false, length, Err, IfOk, OnOk};
+ghost use Rattle.std.specs.Prelude.{◌≡◌, ℕ, ◌*◌, ◌<◌, ◌≤◌, [], true, false, length, Err, IfOk, OnOk};
 ghost use Rattle.fleet_core.specs.Run.{IsRun};
 ghost use Rattle.fleet_core.specs.Board.{ShowsAfter, Replays};
 ghost use Rattle.fleet_core.specs.Verdict.{BreaksAt};
-ghost use Rattle.debugger.specs.Copies.{HasCopies, AreCopied, AreCopiedAfter};
+ghost use Rattle.debugger.specs.Copies.{AreCopiesAlong, AreCopied};
 
 use crate::fault::OpenFault;
 use device_machine::Device;
@@ -29,7 +29,7 @@ fn no_copies(
     scenario: &Scenario,
     entries: &[Entry],
 ) -> Result<Vec<Copies>, AllocError>
-    ensures { IfOk result (λ v. AreCopiedAfter scenario.now [] v.items) }
+    ensures { IfOk result (λ v. AreCopied scenario.now [] v.items) }
 {
     let rows = scenario.rows();
     let counts = count_entries(alloc, rows, entries)?;
@@ -42,39 +42,27 @@ fn no_copies(
     Ok(all)
 }
 
-/// Adds a copy of this device.
-fn add_copy(own: &mut Copies, machine: &Device) -> Result<(), AllocError>
-    ensures { OnOk result (own.new.devices.items ≡ own.old.devices.items ++ machine.now ∷ []) }
-{
-    let copy = machine.copy()?;
-    own.devices.push(copy)?;
-    Ok(())
-}
-
-/// Takes an entry into the replay, and returns whether it comes next. After each 64 of its entries a device is copied,
-/// as long as it has steps left: after the last one the replay holds it no more, and no move goes back to there.
+/// Takes an entry into the replay, and returns whether it comes next. After each 64 of its entries a device is copied.
 fn take_entry(
     replay: &mut Replay,
     copies: &mut Vec<Copies>,
     entry: &Entry,
 ) -> Result<bool, AllocError>
     requires ready { replay.old.spent ≡ false }
-    requires copied { AreCopiedAfter replay.old.scenario replay.old.entries copies.old.items }
+    requires copied { AreCopied replay.old.scenario replay.old.entries copies.old.items }
     ensures replays { IfOk result (λ fits. Replays replay.old replay.new entry.now fits) }
     ensures copied { IfOk result (λ fits. fits ≡ true
-        → AreCopiedAfter replay.new.scenario replay.new.entries copies.new.items) }
+        → AreCopied replay.new.scenario replay.new.entries copies.new.items) }
 {
-    if !replay.take(entry)? {
-        return Ok(false);
-    }
     if entry.step % COPY_STEPS != COPY_STEPS - 1 {
-        return Ok(true);
+        let fits = replay.take(entry)?;
+        return Ok(fits);
     }
-    match replay.device(entry.device) {
-        None => Ok(true),
-        Some(machine) => {
+    match replay.take_copied(entry)? {
+        None => Ok(false),
+        Some(copy) => {
             let own = &mut copies[usize::from(entry.device)];
-            add_copy(own, machine)?;
+            own.devices.push(copy)?;
             Ok(true)
         }
     }
@@ -87,7 +75,6 @@ pub(crate) fn copies_of_run(
     entries: &[Entry],
 ) -> Result<Vec<Copies>, OpenFault>
     ensures run { OnOk result (IsRun scenario.now entries.now) }
-    ensures rows { IfOk result (λ v. length v.items ≡ length scenario.now.rows) }
     ensures copied { IfOk result (λ v. AreCopied scenario.now entries.now v.items) }
     ensures not_run { (at : ℕ) → result ≡ Err (OpenFault.NotRun at) → BreaksAt scenario.now entries.now at }
 {
@@ -109,7 +96,8 @@ pub(crate) fn copy_at(
     number: u32,
 ) -> Result<Device, AllocError>
     requires device { device < length scenario.now.rows }
-    requires copied { HasCopies scenario.now device (64 * number) copies.now }
+    requires copied { AreCopiesAlong scenario.now device copies.now }
+    requires enough { number ≤ length copies.now }
     ensures { IfOk result (λ x. ShowsAfter scenario.now device (64 * number) x) }
 {
     if number == 0 {

@@ -3,7 +3,7 @@
 ghost use Rattle.std.specs.Prelude.{◌≡◌, ◌-◌, ◌*◌, ◌/◌, ◌<◌, ◌≤◌, length, take, IfOk};
 ghost use Rattle.fleet_core.specs.Run.{IsRun};
 ghost use Rattle.fleet_core.specs.Board.{ShowsAfter};
-ghost use Rattle.debugger.specs.Copies.{HasCopies, AreCopied};
+ghost use Rattle.debugger.specs.Copies.{AreCopiesAlong, AreCopied};
 ghost use Rattle.debugger.specs.Places.{ArePlaced};
 ghost use Rattle.debugger.specs.Session.{AreAt, AreCounted};
 ghost use Rattle.debugger.specs.Replayed.{events_by};
@@ -91,7 +91,8 @@ pub(crate) fn device_before(
 ) -> Result<Moved, AllocError>
     requires device { device < length scenario.now.rows }
     requires row { HasSteps scenario.now device to }
-    requires copied { HasCopies scenario.now device to copies.now }
+    requires copied { AreCopiesAlong scenario.now device copies.now }
+    requires enough { to / 64 ≤ length copies.now }
     ensures { IfOk result (λ m. IsMoved scenario.now device to
         (events_by scenario.now device to - events_by scenario.now device (64 * (to / 64))) m) }
 {
@@ -124,7 +125,8 @@ fn moved_device(
     from: u64,
     to: u64,
 ) -> Result<Moved, AllocError>
-    requires copied { to < from → HasCopies scenario.now device to copies.now }
+    requires copied { AreCopiesAlong scenario.now device copies.now }
+    requires enough { to < from → to / 64 ≤ length copies.now }
     requires shows { ShowsAfter scenario.now device from machine.now }
     requires device { device < length scenario.now.rows }
     requires first { HasSteps scenario.now device from }
@@ -158,7 +160,6 @@ pub(crate) fn moved_devices(
     requires run { IsRun scenario.now entries.now }
     requires listed { length places.now ≡ length scenario.now.rows }
     requires placed { ArePlaced entries.now (length entries.now) places.now }
-    requires sources { length copies.now ≡ length scenario.now.rows }
     requires copied { AreCopied scenario.now entries.now copies.now }
     requires rows { length devices.now ≡ length scenario.now.rows }
     requires shown { AreAt scenario.now made.now devices.now }

@@ -33,10 +33,9 @@ use std::marker::Model;
 use trace_file::Entries;
 
 /// A debugger over a run: it stands at a place, from 0 to the count of the entries, and shows each device as it is
-/// after the entries before the place, in their order. It keeps a copy of each device after each 64 of its entries, as
-/// long as others can follow, so that a move back makes few steps, and where each device has its entries. Contracts see
-/// the scenario, the run, the place, the breakpoints, and how many steps devices took in the last move by a number of
-/// entries.
+/// after the entries before the place, in their order. It keeps a copy of each device after each 64 of its entries, so
+/// that a move back makes few steps, and where each device has its entries. Contracts see the scenario, the run, the
+/// place, the breakpoints, and how many steps devices took in the last move by a number of entries.
 #[derive(Drop)]
 pub struct Debugger<'a> {
     alloc: Global,

@@ -33,11 +33,6 @@ returns-clause-run c =
     (copied_run c.args.scenario.now c.args.entries.now c.loop-at.at c.loop-at.replay c.loop-at.copies.items
     c.loop-at.invariant c.loop-at-test.false).run
 
-pub returns-clause-rows : goal.returns-clause-rows
-returns-clause-rows c =
-    (copied_run c.args.scenario.now c.args.entries.now c.loop-at.at c.loop-at.replay c.loop-at.copies.items
-    c.loop-at.invariant c.loop-at-test.false).rows
-
 pub returns-clause-copied : goal.returns-clause-copied
 returns-clause-copied c =
     (copied_run c.args.scenario.now c.args.entries.now c.loop-at.at c.loop-at.replay c.loop-at.copies.items

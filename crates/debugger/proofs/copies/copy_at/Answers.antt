@@ -1,4 +1,3 @@
-use Rattle.std.proofs.Common.{◌-◌, ◌<◌, length, arith}
 use Rattle.debugger.proofs.Copying.{start_shows, copy_is}
 use Rattle.debugger.proofs.copies.copy_at.Goals as goal
 
@@ -9,7 +8,6 @@ returns-then-number-eq0 c =
 
 pub returns : goal.returns
 returns c =
-    let within : c.args.number - 1 < length c.args.copies.now =
-    omega (arith, c.requires.copied.enough, c.if-number-eq0.false) in
     copy_is c.args.scenario.now c.args.device c.args.number c.args.copies.now c.index-copies-number.result
-    c.in_ok-copy.copy c.requires.copied c.if-number-eq0.false within c.index-copies-number.is c.in_ok-copy.ensures
+    c.in_ok-copy.copy c.requires.copied c.if-number-eq0.false c.requires.enough c.index-copies-number.is
+    c.in_ok-copy.ensures

@@ -1,7 +1,7 @@
 use Rattle.std.proofs.Common.{◌≡◌, ◌+◌, ◌*◌, ◌^◌, ◌<◌, ◌≤◌, length, slice_index, sym, subst, arith, ◌∙◌}
 use Rattle.std.proofs.lemmas.Bool.{false≢true}
 use Rattle.debugger.specs.Moves.{HasSteps}
-use Rattle.debugger.proofs.Copying.{copies_for}
+use Rattle.debugger.proofs.Copying.{copies_of, copies_reach}
 use Rattle.debugger.proofs.Moving.{device_at}
 use Rattle.debugger.proofs.Passing.{earlier_no, earlier_yes, found_more, found_same, moved_all, none_found, passed_is}
 use Rattle.debugger.proofs.Passing.{count_of, passed_row, places_of, row_in, step_within, steps_all, steps_by, steps_few}
@@ -45,7 +45,7 @@ bounds-copies-row c =
     c.loop-index.index c.args.from c.args.to c.index-entries-index.result c.requires.run c.max-last.ensures
     c.requires.from c.requires.to c.loop-index.auto.index c.loop-index-test.true c.index-entries-index.is in
     row_in c.args.scenario.now c.args.entries.now c.min-first.result c.loop-index.index c.from-row.result
-    c.index-entries-index.result c.args.copies.now passed c.from-row.ensures c.requires.sources
+    c.index-entries-index.result c.args.copies.now passed c.from-row.ensures c.requires.copied.rows
 
 pub offset_bounds-copies-row : goal.offset_bounds-copies-row
 offset_bounds-copies-row c =
@@ -54,7 +54,7 @@ offset_bounds-copies-row c =
     c.requires.from c.requires.to c.loop-index.auto.index c.loop-index-test.true c.index-entries-index.is in
     let room : c.from-row.result < length c.args.copies.now =
     row_in c.args.scenario.now c.args.entries.now c.min-first.result c.loop-index.index c.from-row.result
-    c.index-entries-index.result c.args.copies.now passed c.from-row.ensures c.requires.sources in
+    c.index-entries-index.result c.args.copies.now passed c.from-row.ensures c.requires.copied.rows in
     omega (arith, room)
 
 pub bounds-devices-row : goal.bounds-devices-row
@@ -127,23 +127,29 @@ count_before-count-requires c =
     c.as_slice-indexes.result.now has
 
 pub moved_device-requires-clause-copied : goal.moved_device-requires-clause-copied
-moved_device-requires-clause-copied c = λ less.
+moved_device-requires-clause-copied c =
     let passed = passed_is c.args.scenario.now c.args.entries.now c.min-first.result c.max-last.result
     c.loop-index.index c.args.from c.args.to c.index-entries-index.result c.requires.run c.max-last.ensures
     c.requires.from c.requires.to c.loop-index.auto.index c.loop-index-test.true c.index-entries-index.is in
-    let row : c.index-entries-index.result.device < length c.args.copies.now =
-    omega (
-      arith,
-      passed_row c.args.scenario.now c.args.entries.now c.min-first.result c.loop-index.index
-          c.index-entries-index.result passed,
-      c.requires.sources,
-    ) in
-    copies_for c.args.scenario.now c.args.entries.now c.index-entries-index.result.device c.from-row.result c.args.from
-    (slice_index c.args.made.now c.from-row.result) c.count_before-count.result c.args.copies.now
-    c.index-copies-row.result c.as_slice-sources.result.now c.requires.copied row c.from-row.ensures
-    c.index-copies-row.is c.as_slice-sources.ensures.value
-    (count_of c.args.scenario.now c.args.entries.now c.args.from c.min-first.result c.loop-index.index
-    c.from-row.result c.index-entries-index.result c.args.made.now passed c.requires.counted c.from-row.ensures) less
+    let has = copies_of c.args.scenario.now c.args.entries.now c.index-entries-index.result.device c.from-row.result
+    c.args.copies.now c.index-copies-row.result c.as_slice-sources.result.now c.requires.copied
+    (passed_row c.args.scenario.now c.args.entries.now c.min-first.result c.loop-index.index
+    c.index-entries-index.result passed) c.from-row.ensures c.index-copies-row.is c.as_slice-sources.ensures.value in
+    has.along
+
+pub moved_device-requires-clause-enough : goal.moved_device-requires-clause-enough
+moved_device-requires-clause-enough c = λ less.
+    let passed = passed_is c.args.scenario.now c.args.entries.now c.min-first.result c.max-last.result
+    c.loop-index.index c.args.from c.args.to c.index-entries-index.result c.requires.run c.max-last.ensures
+    c.requires.from c.requires.to c.loop-index.auto.index c.loop-index-test.true c.index-entries-index.is in
+    let has = copies_of c.args.scenario.now c.args.entries.now c.index-entries-index.result.device c.from-row.result
+    c.args.copies.now c.index-copies-row.result c.as_slice-sources.result.now c.requires.copied
+    (passed_row c.args.scenario.now c.args.entries.now c.min-first.result c.loop-index.index
+    c.index-entries-index.result passed) c.from-row.ensures c.index-copies-row.is c.as_slice-sources.ensures.value in
+    let count = count_of c.args.scenario.now c.args.entries.now c.args.from c.min-first.result c.loop-index.index
+    c.from-row.result c.index-entries-index.result c.args.made.now passed c.requires.counted c.from-row.ensures in
+    copies_reach c.args.scenario.now c.args.entries.now c.index-entries-index.result.device c.args.from
+    c.count_before-count.result c.as_slice-sources.result.now has (omega (arith, less, count))
 
 pub moved_device-requires-clause-shows : goal.moved_device-requires-clause-shows
 moved_device-requires-clause-shows c =

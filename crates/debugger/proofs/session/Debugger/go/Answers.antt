@@ -20,10 +20,6 @@ moved_devices-requires-clause-placed c =
     (subst (ArePlaced c.self.inside.entries (length c.self.inside.entries)) (sym c.as_slice-2.ensures.value)
     c.self.invariant.placed)
 
-pub moved_devices-requires-clause-sources : goal.moved_devices-requires-clause-sources
-moved_devices-requires-clause-sources c =
-    ap length c.as_slice-3.ensures.value ∙ c.self.invariant.sources
-
 pub moved_devices-requires-clause-copied : goal.moved_devices-requires-clause-copied
 moved_devices-requires-clause-copied c =
     subst (λ l. AreCopied c.self.inside.scenario.now l c.as_slice-3.result.now) (sym c.as_slice.ensures)

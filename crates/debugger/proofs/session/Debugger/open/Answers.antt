@@ -15,7 +15,7 @@ invariant_of-result c =
     (subst (IsRun c.args.scenario.now) c.as_slice.ensures c.in_ok-copies.ensures.run)
     (subst (λ l. AreCounted c.args.scenario.now (take 0 l) c.in_ok-made.made.items) c.as_slice-2.ensures
     c.in_ok-made.ensures)
-    c.in_ok-devices.ensures.count c.in_ok-devices.ensures.started c.in_ok-breaks.ensures c.in_ok-copies.ensures.rows
+    c.in_ok-devices.ensures.count c.in_ok-devices.ensures.started c.in_ok-breaks.ensures
     (subst (λ l. AreCopied c.args.scenario.now l c.in_ok-copies.copies.items) c.as_slice.ensures
     c.in_ok-copies.ensures.copied)
     c.in_ok-places.ensures.count
