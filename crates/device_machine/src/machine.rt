@@ -268,7 +268,9 @@ impl Machine {
     }
 
     /// Takes an event, and forgets the recorded requests that no longer live. Only a tick can end a
-    /// request's life.
+    /// request's life. All that a device does is in here; it stays a call, so that a post and a need cost
+    /// nothing of it.
+    #[inline(never)]
     pub(crate) fn react(&mut self, event: &Event) -> Result<Outputs, AllocError>
         requires fits { IsFalse (passes_end self.old.flat.kept.clock event.now) }
         requires up_to_date { IsUpToDate self.old }

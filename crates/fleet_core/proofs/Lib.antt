@@ -14,4 +14,5 @@ pub mod Queueing
 pub mod Waking
 pub mod Lowest
 pub mod Checked
+pub mod Judged
 pub mod Counted

@@ -2,6 +2,7 @@
 #![tactic(auto)]
 
 mod checking;
+mod checking_file;
 mod fault;
 mod fleet;
 mod held;
@@ -19,6 +20,7 @@ mod waiters;
 mod waiting;
 
 pub use checking::check;
+pub use checking_file::check_file;
 pub use fault::CommitFault;
 pub use fleet::Fleet;
 pub use held::{Held, make_entry};

@@ -65,9 +65,7 @@ pub fn start_devices(alloc: Global, scenario: &Scenario) -> Result<Vec<Device>, 
     Ok(devices)
 }
 
-/// Lets a device take an event that it does not refuse, and gives what it outputs. All that a device does is in here,
-/// so that a post and a need cost nothing of it.
-#[inline(never)]
+/// Lets a device take an event that it does not refuse, and gives what it outputs.
 fn perform_event(device: &mut Device, event: &Event) -> Result<Outputs, AllocError>
     requires { is_refused device.old event.now ≡ false }
     ensures outputs { (f : Machine) → Shows device.old f → IfOk result (λ o. o ≡ outputs_of f event.now) }

@@ -76,8 +76,8 @@ fn part_path(object: &[u8], instance: &[u8], resource: &[u8], part: &[u8]) -> Re
     Ok(Path::Part(object, instance, resource, part))
 }
 
-/// The fault of a word that is no path: the one with which its numbers were read, where each of them has the form of a
-/// number, and `Token` where one has not.
+/// Why a word that is no path is refused: if each of its parts has the form of a number, for `cause`, with which
+/// reading the numbers ended; if one has not, as a `Token`.
 #[inline(never)]
 fn path_fault(numbers: &[u8], cause: Cause) -> Cause
     ensures { result ≡ (if list_all is_number (parts 47 numbers.now) then cause else Token) }

@@ -6,6 +6,7 @@ mod entry;
 mod fault;
 mod laws;
 mod reading;
+mod taking;
 mod writing;
 
 pub use entries::Entries;
@@ -13,4 +14,5 @@ pub use entry::Entry;
 pub use fault::WriteFault;
 pub use laws::{one_trace_file, what_has_a_trace_file};
 pub use reading::read_entries;
+pub use taking::{TakesEntries, take_file};
 pub use writing::write_entries;

@@ -110,7 +110,7 @@ fn outputs_at(alloc: Global, bytes: &[u8]) -> Result<(Outputs, &[u8]), ReadError
 }
 
 #[tactic(auto, unfolding(crate::specs::Layout::entry))]
-fn entry_at(alloc: Global, bytes: &[u8]) -> Result<(Entry, &[u8]), ReadError>
+pub(crate) fn entry_at(alloc: Global, bytes: &[u8]) -> Result<(Entry, &[u8]), ReadError>
     ensures { Gives (λ x. (x.0, x.1.now)) result (entry.read bytes.now) }
 {
     let (worker, rest) = u16_at(bytes)?;
@@ -156,7 +156,7 @@ fn entries_at(alloc: Global, bytes: &[u8]) -> Result<(Entries, &[u8]), ReadError
 }
 
 /// The bytes after the mark and the version.
-fn header_at(bytes: &[u8]) -> Result<&[u8], ReadError>
+pub(crate) fn header_at(bytes: &[u8]) -> Result<&[u8], ReadError>
     ensures read { Gives (λ rest. (tt, rest.now)) result (header.read bytes.now) }
     ensures no_memory { IfErr result (λ e. e ≢ errors.Memory) }
 {
@@ -173,7 +173,7 @@ fn header_at(bytes: &[u8]) -> Result<&[u8], ReadError>
 
 /// How many entries there are, and the numbers of the first of them, after the mark and the version.
 #[tactic(auto, unfolding(crate::specs::Layout::front))]
-fn front_at(bytes: &[u8]) -> Result<((u32, &[u8]), &[u8]), ReadError>
+pub(crate) fn front_at(bytes: &[u8]) -> Result<((u32, &[u8]), &[u8]), ReadError>
     ensures read { Gives (λ x. ((x.0.0, x.0.1.now), x.1.now)) result (front.read bytes.now) }
     ensures no_memory { IfErr result (λ e. e ≢ errors.Memory) }
 {

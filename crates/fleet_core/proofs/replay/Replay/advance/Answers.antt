@@ -1,4 +1,4 @@
-use Rattle.std.proofs.Common.{[], ◌∷◌, ◌++◌, refl, sym, ap, ◌∙◌, arith}
+use Rattle.std.proofs.Common.{refl, sym, ◌∙◌, arith}
 use Rattle.std.proofs.lemmas.Bool.{false≢true}
 use Rattle.fleet_core.specs.Past.{past_entries}
 use Rattle.fleet_core.proofs.Board.{Reads, reads, step_stands_here, place_early, post_within, posts_room, fleet_push}
