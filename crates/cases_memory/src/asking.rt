@@ -97,6 +97,7 @@ fn make(call: &str, given: &Given, marks: &mut Marks, line: &mut Line) {
 fn make_of_run(call: &str, given: &Given, marks: &mut Marks, line: &mut Line) {
     match call {
         "check" => traces::check_run(given, marks, line),
+        "check_file" => traces::check_trace(given, marks, line),
         "unfinished" => traces::find_unfinished(given, marks, line),
         "write_entries" => traces::write_run(given, marks, line),
         "write_sized" => traces::write_sized(given, marks, line),

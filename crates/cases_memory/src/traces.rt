@@ -1,11 +1,11 @@
 //! `check TEXT [N]`, `unfinished TEXT [N]`, `write_entries TEXT`: the entries of the serial run, without entry N where
-//! there is one, counted from 1; `read_entries - HEX`: a trace file; `write_sized - N`: an entry with a datagram of N
-//! bytes.
+//! there is one, counted from 1; `check_file TEXT HEX`, `read_entries - HEX`: a trace file; `write_sized - N`: an entry
+//! with a datagram of N bytes.
 use crate::given::Given;
 use crate::line::Line;
 use crate::marks::Marks;
 use device_machine::{Output, Outputs};
-use fleet_core::{Verdict, check, run_serial, unfinished};
+use fleet_core::{Verdict, check, check_file, run_serial, unfinished};
 use octets::Bytes;
 use std::alloc::AllocError;
 use trace_file::{Entries, Entry, WriteFault, read_entries, write_entries};
@@ -41,9 +41,29 @@ pub fn check_run(given: &Given, marks: &mut Marks, line: &mut Line) {
     let verdict = check(given.alloc, given.scenario, entries.as_slice());
     marks.end();
     match verdict {
-        Ok(Verdict::Run) => line.add("run"),
-        Ok(Verdict::NotRun(place)) => line.add_count("not a run at", place as u64),
+        Ok(verdict) => add_verdict(verdict, line),
         Err(AllocError) => line.refuse(),
+    }
+}
+
+/// The same of the entries of a trace file.
+pub fn check_trace(given: &Given, marks: &mut Marks, line: &mut Line) {
+    let Ok(bytes) = hex::decode(given.alloc, given.words) else {
+        return line.add("no hex");
+    };
+    marks.begin();
+    let verdict = check_file(given.alloc, given.scenario, bytes.as_slice());
+    marks.end();
+    match verdict {
+        Ok(verdict) => add_verdict(verdict, line),
+        Err(fault) => line.add_fault(fault),
+    }
+}
+
+fn add_verdict(verdict: Verdict, line: &mut Line) {
+    match verdict {
+        Verdict::Run => line.add("run"),
+        Verdict::NotRun(place) => line.add_count("not a run at", place as u64),
     }
 }
 

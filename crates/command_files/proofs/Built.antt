@@ -7,7 +7,7 @@ use Rattle.trace_file.specs.declared.entry.Entry.{Entry}
 use Rattle.trace_file.specs.Layout.{IsTraceFile}
 use Rattle.fleet_core.specs.declared.verdict.Verdict.{Verdict}
 use Rattle.fleet_core.specs.Verdict.{Judges}
-use Rattle.command_files.specs.Verdicts.{verdict_line, verdict_status, IsJudged}
+use Rattle.command_files.specs.Verdicts.{verdict_line, verdict_status, IsJudged, IsVerdictAt}
 use Rattle.command_files.specs.Loading.{IsScenarioAt, IsTraceAt, IsImageFault, IsTraceFault, IsCheckRefused, RunPaths}
 use Rattle.command_files.specs.declared.fault.Fault.{Fault}
 use Rattle.command_files.specs.declared.answer.Answer.{Answer}
@@ -22,10 +22,11 @@ pub trace_at : (holds : List ℕ → List ℕ → Type 0) (path bytes : List ℕ
     → IsTraceFile bytes es → IsTraceAt holds path es
 trace_at holds path bytes es held file = record { bytes = bytes; held = held; file = file }
 
-pub judged_as : (s : Scenario) (es : List Entry) (verdict : Verdict) (answer : Answer) → Judges s es verdict
-    → string_bytes answer.text ≡ verdict_line verdict → answer.status ≡ verdict_status verdict → IsJudged s es answer
-judged_as s es verdict answer right said ended =
-    record { verdict = verdict; judged = right; text_is = said; status_is = ended }
+pub verdict_at : (holds : List ℕ → List ℕ → Type 0) (path bytes : List ℕ) (s : Scenario) (verdict : Verdict)
+    → holds path bytes → (es : List Entry) × IsTraceFile bytes es × Judges s es verdict
+    → IsVerdictAt holds path s verdict
+verdict_at holds path bytes s verdict held (es, file, right) =
+    record { entries = es; read = record { bytes = bytes; held = held; file = file }; judged = right }
 
 pub check_image : (holds : List ℕ → List ℕ → Type 0) (fails : List ℕ → Type 0) (paths : RunPaths) (f : Fault)
     → IsImageFault holds fails paths.image f → IsCheckRefused holds fails paths f

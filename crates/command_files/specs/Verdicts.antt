@@ -23,6 +23,13 @@ abbrev pub verdict_status : Verdict → Status
 verdict_status verdicts.Run = Done
 verdict_status (verdicts.NotRun place) = NotRun
 
+-- the file at the path is the trace file of some entries, and the verdict on them is right
+pub record IsVerdictAt (holds : List ℕ → List ℕ → Type 0) (path : List ℕ) (s : Scenario) (verdict : Verdict)
+    : Type 0 where
+  pub entries : List Entry
+  pub read : IsTraceAt holds path entries
+  pub judged : Judges s entries verdict
+
 -- the answer is the verdict on the entries: its line, and the status
 pub record IsJudged (s : Scenario) (es : List Entry) (answer : Answer) : Type 0 where
   pub verdict : Verdict

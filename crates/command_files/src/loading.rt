@@ -5,11 +5,13 @@ ghost use Rattle.scenario_image.specs.Image.{IsImage, HasImageFault};
 ghost use Rattle.command_files.specs.Fault.{IsReadingFault};
 ghost use Rattle.command_files.specs.Loading.{IsImageFault, IsNoImage, IsScenarioAt, IsTextUnread, IsTraceAt};
 ghost use Rattle.command_files.specs.Loading.{IsTraceFault};
+ghost use Rattle.command_files.specs.Verdicts.{IsVerdictAt};
 
 use crate::fault::Fault;
 use crate::files::{FileFault, Files};
 use crate::refusal::{Refusal, Why};
 use byte_layout::LayoutFault;
+use fleet_core::{Verdict, check_file};
 use lwm2m_values::Text;
 use scenario_image::{Scenario, load};
 use std::alloc::Global;
@@ -116,6 +118,26 @@ pub fn load_trace<'a, F: Files>(
     let bytes = read_file(alloc, path, files)?;
     match read_entries(alloc, bytes.as_slice()) {
         Ok(entries) => Ok(entries),
+        Err(fault) => Err(refused_file(path, Fault::from(fault))),
+    }
+}
+
+/// The verdict on the entries whose trace file the file at this path is: whether they are a run of the scenario. Each
+/// is judged as it is read, and none is kept. A fault names the path.
+#[tactic(auto, using(crate::proofs::Faults::reading_file, crate::proofs::Faults::broken_at, crate::proofs::Built::verdict_at))]
+pub fn load_verdict<'a, F: Files>(
+    alloc: Global,
+    path: &'a str,
+    scenario: &Scenario,
+    files: &F,
+) -> Result<Verdict, Refusal<'a>>
+    ensures found { IfOk result (IsVerdictAt (F.holds files.now) path.entry.now scenario.now) }
+    ensures refused { IfErr result (λ r. IsTraceFault (F.holds files.now) (F.fails files.now) path.entry.now r.fault) }
+    ensures names_path { IfErr result (λ r. option_map (λ p. p.now) r.about ≡ Some path.entry.now) }
+{
+    let bytes = read_file(alloc, path, files)?;
+    match check_file(alloc, scenario, bytes.as_slice()) {
+        Ok(verdict) => Ok(verdict),
         Err(fault) => Err(refused_file(path, Fault::from(fault))),
     }
 }

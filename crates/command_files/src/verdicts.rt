@@ -1,29 +1,13 @@
-//! What is said of a trace: whether it is a run.
+//! What is said of a verdict: whether a trace is a run.
 ghost use Rattle.std.specs.Prelude.{◌≡◌, [], IfOk};
 ghost use Rattle.std.specs.String.{string_bytes};
 ghost use Rattle.command_files.specs.Answers.{files_of};
-ghost use Rattle.command_files.specs.Verdicts.{IsJudged, verdict_line, verdict_status};
+ghost use Rattle.command_files.specs.Verdicts.{verdict_line, verdict_status};
 
 use crate::answer::Answer;
 use crate::status::Status;
-use fleet_core::{Verdict, check};
-use scenario_image::Scenario;
+use fleet_core::Verdict;
 use std::alloc::{AllocError, Global};
-use trace_file::Entry;
-
-/// Whether the entries are a run of the scenario, and what is said of that.
-#[tactic(auto, using(crate::proofs::Built::judged_as))]
-pub fn judge<'a>(
-    alloc: Global,
-    scenario: &Scenario,
-    entries: &[Entry],
-) -> Result<Answer<'a>, AllocError>
-    ensures verdict { IfOk result (IsJudged scenario.now entries.now) }
-    ensures made { IfOk result (λ a. files_of a.file ≡ []) }
-{
-    let verdict = check(alloc, scenario, entries)?;
-    told_verdict(alloc, verdict)
-}
 
 /// The answer that entries are not a run, from this one on.
 pub fn no_run<'a>(alloc: Global, place: usize) -> Result<Answer<'a>, AllocError>
@@ -31,10 +15,11 @@ pub fn no_run<'a>(alloc: Global, place: usize) -> Result<Answer<'a>, AllocError>
     ensures status { IfOk result (λ a. a.status ≡ verdict_status (Verdict.NotRun place)) }
     ensures made { IfOk result (λ a. files_of a.file ≡ []) }
 {
-    told_verdict(alloc, Verdict::NotRun(place))
+    verdict_answer(alloc, Verdict::NotRun(place))
 }
 
-fn told_verdict<'a>(alloc: Global, verdict: Verdict) -> Result<Answer<'a>, AllocError>
+/// The answer that a verdict is: its line, and how the program ends.
+pub fn verdict_answer<'a>(alloc: Global, verdict: Verdict) -> Result<Answer<'a>, AllocError>
     ensures text { IfOk result (λ a. string_bytes a.text ≡ verdict_line verdict) }
     ensures status { IfOk result (λ a. a.status ≡ verdict_status verdict) }
     ensures made { IfOk result (λ a. files_of a.file ≡ []) }

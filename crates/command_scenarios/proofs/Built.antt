@@ -14,14 +14,13 @@ use Rattle.fleet_workers.specs.Fleet.{IsFleetRun, AreByBlocks, AreWorkers, left_
 use Rattle.command_scenarios.specs.Runs.{end_status}
 use Rattle.command_texts.specs.Endings.{end_line}
 use Rattle.fleet_core.specs.declared.verdict.Verdict.{Verdict}
-use Rattle.fleet_core.specs.Verdict.{Judges}
 use Rattle.trace_json.specs.Notes.{verdict_json}
 use Rattle.trace_json.specs.Writing.{json_line}
-use Rattle.command_files.specs.Verdicts.{IsJudged, IsCheckDone, verdict_status}
+use Rattle.command_files.specs.Verdicts.{IsCheckDone, IsVerdictAt, verdict_line, verdict_status}
 use Rattle.command_files.specs.Files.{MadeFile}
 use Rattle.command_scenarios.specs.RunAnswer.{IsSavedAs, IsRunBy, IsRunAnswer, IsRunFault, IsWrongBatch, RunOptions}
-use Rattle.command_files.specs.Loading.{IsScenarioAt, IsTraceAt, IsImageFault, RunPaths}
-use Rattle.command_scenarios.specs.Jobs.{IsAsmDone, IsCheckJsonDone, IsDisDone, IsJudgedInJson, IsRunDone}
+use Rattle.command_files.specs.Loading.{IsScenarioAt, IsImageFault, RunPaths}
+use Rattle.command_scenarios.specs.Jobs.{IsAsmDone, IsCheckJsonDone, IsDisDone, IsRunDone}
 use Rattle.command_scenarios.specs.Jobs.{IsRunRefused, TextPaths}
 use Rattle.command_scenarios.specs.Texts.{count_line}
 use Rattle.command_texts.specs.Texts.{IsTextAt}
@@ -98,23 +97,33 @@ pub run_done : (holds : List ℕ → List ℕ → Type 0) (image : List ℕ) (op
     → IsRunDone holds image options trace answer
 run_done holds image options trace s answer found ran = record { scenario = s; found = found; run = ran }
 
-pub check_done : (holds : List ℕ → List ℕ → Type 0) (paths : RunPaths) (s : Scenario) (es : List Entry)
-    (answer : Answer) → IsScenarioAt holds paths.image s → IsTraceAt holds paths.trace es → IsJudged s es answer
+pub check_done : (holds : List ℕ → List ℕ → Type 0) (paths : RunPaths) (s : Scenario) (verdict : Verdict)
+    (answer : Answer) → IsScenarioAt holds paths.image s → IsVerdictAt holds paths.trace s verdict
+    → string_bytes answer.text ≡ verdict_line verdict → answer.status ≡ verdict_status verdict
     → files_of answer.file ≡ [] → IsCheckDone holds paths answer
-check_done holds paths s es answer found read right none =
-    record { scenario = s; found = found; entries = es; read = read; judged = right; made_is = none }
+check_done holds paths s verdict answer found at said ended none =
+    record {
+      scenario = s;
+      found = found;
+      entries = at.entries;
+      read = at.read;
+      judged = record { verdict = verdict; judged = at.judged; text_is = said; status_is = ended };
+      made_is = none;
+    }
 
-pub judged_in_json : (s : Scenario) (es : List Entry) (verdict : Verdict) (answer : Answer) → Judges s es verdict
+pub check_json_done : (holds : List ℕ → List ℕ → Type 0) (paths : RunPaths) (s : Scenario) (verdict : Verdict)
+    (answer : Answer) → IsScenarioAt holds paths.image s → IsVerdictAt holds paths.trace s verdict
     → string_bytes answer.text ≡ json_line (verdict_json verdict) → answer.status ≡ verdict_status verdict
-    → IsJudgedInJson s es answer
-judged_in_json s es verdict answer right said ended =
-    record { verdict = verdict; judged = right; text_is = said; status_is = ended }
-
-pub check_json_done : (holds : List ℕ → List ℕ → Type 0) (paths : RunPaths) (s : Scenario) (es : List Entry)
-    (answer : Answer) → IsScenarioAt holds paths.image s → IsTraceAt holds paths.trace es → IsJudgedInJson s es answer
     → files_of answer.file ≡ [] → IsCheckJsonDone holds paths answer
-check_json_done holds paths s es answer found read right none =
-    record { scenario = s; found = found; entries = es; read = read; judged = right; made_is = none }
+check_json_done holds paths s verdict answer found at said ended none =
+    record {
+      scenario = s;
+      found = found;
+      entries = at.entries;
+      read = at.read;
+      judged = record { verdict = verdict; judged = at.judged; text_is = said; status_is = ended };
+      made_is = none;
+    }
 
 pub run_image : (holds : List ℕ → List ℕ → Type 0) (fails : List ℕ → Type 0) (image : List ℕ) (options : RunOptions)
     (f : Fault) → IsImageFault holds fails image f → IsRunRefused holds fails image options f

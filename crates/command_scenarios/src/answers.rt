@@ -9,9 +9,11 @@ ghost use Rattle.command_texts.specs.Texts.{IsTextFault};
 
 use crate::runs::run_scenario;
 use crate::texts::count_line;
-use crate::verdicts::judge_in_json;
+use crate::verdicts::verdict_in_json;
 use command_files::files::Files;
-use command_files::{Answer, Refusal, Status, image_file, judge, load_scenario, load_trace};
+use command_files::{
+    Answer, Refusal, Status, image_file, load_scenario, load_verdict, verdict_answer,
+};
 use command_texts::load_text;
 use scenario_asm::disassemble;
 use std::alloc::Global;
@@ -89,8 +91,8 @@ pub fn check<'a, F: Files>(
         (record { image = image.entry.now; trace = trace.entry.now }) r.fault) }
 {
     let scenario = load_scenario(alloc, image, files)?;
-    let entries = load_trace(alloc, trace, files)?;
-    Ok(judge(alloc, &scenario, entries.as_slice())?)
+    let verdict = load_verdict(alloc, trace, &scenario, files)?;
+    Ok(verdict_answer(alloc, verdict)?)
 }
 
 /// `check IMAGE TRACE --json`: the same verdict as an object in a line.
@@ -107,6 +109,6 @@ pub fn check_json<'a, F: Files>(
         (record { image = image.entry.now; trace = trace.entry.now }) r.fault) }
 {
     let scenario = load_scenario(alloc, image, files)?;
-    let entries = load_trace(alloc, trace, files)?;
-    Ok(judge_in_json(alloc, &scenario, entries.as_slice())?)
+    let verdict = load_verdict(alloc, trace, &scenario, files)?;
+    Ok(verdict_in_json(alloc, verdict)?)
 }
