@@ -170,6 +170,19 @@ fn request_of(
     entries.get(&key_of(server, kind, mid))
 }
 
+/// Makes room for the first 32 requests at once: a map that grows from nothing would find memory four times for as
+/// many, and place those that it has anew each time.
+fn make_first_room(entries: &mut IndexMap<RecordKey, Recorded>) -> Result<(), AllocError>
+    requires { IsKeyed entries.old }
+    ensures same { values entries.new ≡ values entries.old }
+    ensures keyed { IsKeyed entries.new }
+{
+    if entries.is_empty() {
+        entries.reserve(32)?;
+    }
+    Ok(())
+}
+
 /// Adds a request of a new key at the end.
 fn add(entries: &mut IndexMap<RecordKey, Recorded>, request: Recorded) -> Result<(), AllocError>
     requires keyed { IsKeyed entries.old }
@@ -295,6 +308,7 @@ impl Index {
         ensures indexed { IsIndexed self.new }
     {
         let due = self.due.min(end_of_life(&request));
+        make_first_room(&mut self.entries)?;
         add(&mut self.entries, request)?;
         self.due = due;
         Ok(())

@@ -132,7 +132,8 @@ impl Client {
     }
 
     /// The number and the value of the single resource that a path names, where it is defined and holds one. The path
-    /// exists then, and the value is all that a Read shows there.
+    /// exists then, and the value is all that a Read shows there. Every Read begins with it, so it is a part of it.
+    #[inline(always)]
     fn single_value(&self, path: Path, definition: Option<ResourceDef>) -> Option<(u16, &Value)>
         requires { definition ≡ definition_at self.now.catalog path }
         ensures there { IfSome result (λ _. exists self.now.catalog self.now.store path ≡ true) }

@@ -9,7 +9,8 @@ use Rattle.fleet_core.specs.declared.verdict.Verdict.{Verdict}
 use Rattle.fleet_core.specs.declared.verdict.Verdict.TheVariants as verdicts
 use Rattle.fleet_core.specs.Run.{Fits, IsRun}
 use Rattle.fleet_core.specs.Board.{FleetModel, Replays}
-use Rattle.fleet_core.specs.Verdict.{BreaksAt, Judges, IsChecking}
+use Rattle.fleet_core.specs.Inside.{IsChecking}
+use Rattle.fleet_core.specs.Verdict.{BreaksAt, Judges}
 use Rattle.fleet_core.proofs.Posts.{run_push, run_last}
 use Rattle.byte_layout.proofs.Whole.{one_value}
 use Rattle.trace_file.specs.Layout.{trace_file, IsTraceFile}
@@ -77,7 +78,7 @@ still_broken s es at e h =
       broken = λ all. h.broken (subst (IsRun s) (take-append-le (at + 1) es (e ∷ []) (omega (arith, h.within))) all);
     }
 
--- one did not before
+-- after the first entry that does not come next, another changes nothing of the verdict
 pub stays_broken : (v : FleetModel) (es : List Entry) (n at : ℕ) (e : Entry) → IsChecking v es n (verdicts.NotRun at)
     → IsChecking v (es ++ e ∷ []) (n + 1) (verdicts.NotRun at)
 stays_broken v es n at e so_far = record {
@@ -98,7 +99,7 @@ pub verdict_on : (s : Scenario) (bytes : List ℕ) (taken es : List Entry) (verd
 verdict_on s bytes taken es verdict h k right =
     subst (λ l. Judges s l verdict) (one_value trace_file trace_file_exact bytes taken es h k) right
 
--- one did not before
+-- the same, of a verdict that is only known to say so
 pub stays : (v : FleetModel) (es : List Entry) (n at : ℕ) (e : Entry) (verdict : Verdict)
     → verdict ≡ verdicts.NotRun at → IsChecking v es n verdict → IsChecking v (es ++ e ∷ []) (n + 1) verdict
 stays v es n at e verdict is so_far =

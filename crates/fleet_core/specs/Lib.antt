@@ -3,6 +3,7 @@ pub mod Next
 pub mod Run
 pub mod Board
 pub mod Held
+pub mod Inside
 pub mod Past
 pub mod Queue
 pub mod Roster

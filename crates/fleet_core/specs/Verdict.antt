@@ -1,11 +1,10 @@
 -- What the checker says of a list of entries.
-use Rattle.std.specs.Prelude.{◌≡◌, ℕ, ◌+◌, ◌<◌, false, List, length, take}
+use Rattle.std.specs.Prelude.{ℕ, ◌+◌, ◌<◌, List, length, take}
 use Rattle.scenario_image.specs.Scenario.{Scenario}
 use Rattle.trace_file.specs.declared.entry.Entry.{Entry}
 use Rattle.fleet_core.specs.declared.verdict.Verdict.{Verdict}
 use Rattle.fleet_core.specs.declared.verdict.Verdict.TheVariants as verdicts
 use Rattle.fleet_core.specs.Run.{IsRun}
-use Rattle.fleet_core.specs.Board.{FleetModel}
 
 -- the entries before the place are a run, and with the entry at it they are none
 pub record BreaksAt (s : Scenario) (es : List Entry) (at : ℕ) : Type 0 where
@@ -17,11 +16,3 @@ pub record BreaksAt (s : Scenario) (es : List Entry) (at : ℕ) : Type 0 where
 abbrev pub Judges : Scenario → List Entry → Verdict → Type 0
 Judges s es verdicts.Run = IsRun s es
 Judges s es (verdicts.NotRun at) = BreaksAt s es at
-
--- what a checker knows that has taken so many entries: their verdict, and while they are a run, that its replay has
--- taken each
-pub record IsChecking (replay : FleetModel) (es : List Entry) (count : ℕ) (verdict : Verdict) : Type 0 where
-  pub counted : count ≡ length es
-  pub judged : Judges replay.scenario es verdict
-  pub ready : verdict ≡ verdicts.Run → replay.spent ≡ false
-  pub replayed : verdict ≡ verdicts.Run → replay.entries ≡ es

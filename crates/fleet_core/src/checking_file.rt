@@ -30,7 +30,7 @@ struct Checker<'a> {
 impl<'a> TakesEntries for Checker<'a> {
     ghost use Rattle.scenario_image.specs.Scenario.{Scenario};
     ghost use Rattle.fleet_core.specs.Past.{past_entries};
-    ghost use Rattle.fleet_core.specs.Verdict.{IsChecking};
+    ghost use Rattle.fleet_core.specs.Inside.{IsChecking};
 
     ghost taken = { λ c. past_entries c.past };
 

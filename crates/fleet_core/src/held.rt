@@ -140,7 +140,9 @@ pub(crate) fn held_of_rows(alloc: Global, scenario: &Scenario) -> Result<Vec<Hel
 }
 
 /// Lets the device make the step of this number in its row, and returns what it outputs; it is started first if it is
-/// yet to be. Only an allocation can fail; nothing is promised of what is held then.
+/// yet to be. Only an allocation can fail; nothing is promised of what is held then. Every step is made by it, so it is
+/// a part of each loop over steps.
+#[inline(always)]
 pub(crate) fn step_held(
     alloc: Global,
     scenario: &Scenario,

@@ -76,8 +76,8 @@ fn part_path(object: &[u8], instance: &[u8], resource: &[u8], part: &[u8]) -> Re
     Ok(Path::Part(object, instance, resource, part))
 }
 
-/// Why a word that is no path is refused: if each of its parts has the form of a number, for `cause`, with which
-/// reading the numbers ended; if one has not, as a `Token`.
+/// Why the word is refused whose numbers could not be read, and `cause` is why not: where a part is not even of the
+/// form of a number it is a `Token` whatever the cause, so that a wrong form is told before a number out of range.
 #[inline(never)]
 fn path_fault(numbers: &[u8], cause: Cause) -> Cause
     ensures { result ≡ (if list_all is_number (parts 47 numbers.now) then cause else Token) }

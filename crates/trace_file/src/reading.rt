@@ -53,6 +53,7 @@ fn datagram_at(alloc: Global, bytes: &[u8]) -> Result<(Output, &[u8]), ReadError
 
 /// The number of its kind, 1 a datagram, 2 an act, and what an output of that kind holds.
 #[tactic(auto, unfolding(crate::specs::Layout::output))]
+#[inline(always)]
 fn output_at(alloc: Global, bytes: &[u8]) -> Result<(Output, &[u8]), ReadError>
     ensures read { Gives (λ x. (x.0, x.1.now)) result (output.read bytes.now) }
     ensures broken { (b : Break) → output.read bytes.now ≡ Err b → result ≡ Err (errors.Fault b) }
@@ -109,7 +110,9 @@ fn outputs_at(alloc: Global, bytes: &[u8]) -> Result<(Outputs, &[u8]), ReadError
     Ok((Outputs::from_vec(items), rest))
 }
 
+/// An entry, read in the loop over them.
 #[tactic(auto, unfolding(crate::specs::Layout::entry))]
+#[inline(always)]
 pub(crate) fn entry_at(alloc: Global, bytes: &[u8]) -> Result<(Entry, &[u8]), ReadError>
     ensures { Gives (λ x. (x.0, x.1.now)) result (entry.read bytes.now) }
 {

@@ -74,6 +74,8 @@ fn say_after(client: &Client, observations: &mut Observations, code: Code) -> Re
 
 impl Machine {
     /// Records a request that is no repeat with the datagram that replies to it, if one does, sends that, and acts.
+    /// Each request that is no repeat ends with it, so it is a part of what handles one.
+    #[inline(always)]
     pub(super) fn conclude(
         &mut self,
         server: u16,
