@@ -1,7 +1,7 @@
 use Rattle.std.proofs.Common.{◌≡◌, ◌+◌, [], ◌∷◌, ◌++◌, subst, sym, ap}
 use Rattle.fleet_core.specs.Board.{Replays}
+use Rattle.fleet_core.specs.Inside.{IsChecking}
 use Rattle.fleet_core.specs.Past.{past_entries}
-use Rattle.fleet_core.specs.Verdict.{IsChecking}
 use Rattle.fleet_core.proofs.Judged.{goes_on, breaks_off, stays}
 use Rattle.fleet_core.proofs.checking_file.CheckerTakesEntries.take.Goals.{in-Run+in_ok-take+then-not-branch}
 use Rattle.fleet_core.proofs.checking_file.CheckerTakesEntries.take.Goals.{in-Run+in_ok-take+else-not-branch, in_default}
