@@ -19,6 +19,9 @@ import sys
 import tempfile
 import time
 
+# All programs that the scripts measure run as `./lwbench` lets them: with large pages for large pieces of memory.
+os.environ.setdefault("GLIBC_TUNABLES", "glibc.malloc.hugetlb=1")
+
 SERVER = 1
 BATTERY = (3, 0, 9)
 
