@@ -19,7 +19,7 @@ import sys
 import tempfile
 import time
 
-# All programs that the scripts measure run as `./lwbench` lets them: with large pages for large pieces of memory.
+# What a script measures that imports this one runs as `./lwbench` lets it: with large pages for large pieces of memory.
 os.environ.setdefault("GLIBC_TUNABLES", "glibc.malloc.hugetlb=1")
 
 SERVER = 1
