@@ -1,4 +1,4 @@
--- What clauses of private functions name. No promise rests on it.
+-- What clauses of private functions and ghost items of private types name. No promise rests on it.
 use Rattle.std.specs.Prelude.{◌≡◌, ℕ, false, List, length}
 use Rattle.trace_file.specs.declared.entry.Entry.{Entry}
 use Rattle.fleet_core.specs.declared.verdict.Verdict.{Verdict}

@@ -76,8 +76,8 @@ fn part_path(object: &[u8], instance: &[u8], resource: &[u8], part: &[u8]) -> Re
     Ok(Path::Part(object, instance, resource, part))
 }
 
-/// Why the word is refused whose numbers could not be read, and `cause` is why not: where a part is not even of the
-/// form of a number it is a `Token` whatever the cause, so that a wrong form is told before a number out of range.
+/// Why a word is refused one of whose numbers could not be read, for this cause. Where a part does not even have the
+/// form of a number it is a `Token` whatever the cause: a wrong form is told before a number out of range.
 #[inline(never)]
 fn path_fault(numbers: &[u8], cause: Cause) -> Cause
     ensures { result ≡ (if list_all is_number (parts 47 numbers.now) then cause else Token) }
