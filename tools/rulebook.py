@@ -34,7 +34,7 @@ USES = {"lock": "crates/ticket_lock_uses/stdout", "workers": "crates/fleet_worke
 RULE = "# rule: "
 
 NAMES = {"id", "sentence", "standard", "page", "definition", "code"}
-MORE = {"number", "shown_by", "not_shown", "no_case", "no_wrong_body"}
+MORE = {"number", "also", "shown_by", "not_shown", "no_case", "no_wrong_body"}
 
 
 class Rule:
@@ -43,7 +43,7 @@ class Rule:
     def __init__(self, file, line):
         self.file, self.line = file, line
         self.id = self.sentence = self.standard = self.page = self.definition = self.code = ""
-        self.number = 0
+        self.number, self.also = 0, ""
         self.shown_by, self.not_shown, self.no_case, self.no_wrong_body = [], "", "", ""
         self.cases, self.wrong_bodies = [], []
 
