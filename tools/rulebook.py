@@ -61,7 +61,7 @@ class Subject:
     """The rules of a file."""
 
     def __init__(self, file):
-        self.file, self.title, self.order, self.rules = file, "", 0, []
+        self.file, self.title, self.order, self.also, self.rules = file, "", 0, "", []
 
 
 class Place:
@@ -105,7 +105,7 @@ def read_subject(file, faults):
         except ValueError:
             faults.append((inside(file), number, "neither `name = value` nor `[[rule]]`"))
             continue
-        if rule is None and name in ("title", "order"):
+        if rule is None and name in ("title", "order", "also"):
             setattr(subject, name, value)
         elif rule is not None and name in NAMES | MORE:
             setattr(rule, name, value)
