@@ -66,7 +66,7 @@ impl<'a> Table<'a> {
             "*" => self.add_lines(rest),
             "case" => self.add_case(number, rest, true),
             "!case" => self.add_case(number, rest, false),
-            // what comes where memory is refused; tools/refusals states it in the place of what else comes
+            // what comes where memory is refused; tools/check/refusals states it in the place of what else comes
             "->" => !self.cases.is_empty(),
             "=>" => self.add_stated(rest),
             _ => false,

@@ -1,4 +1,4 @@
-//! One run, for bench/ to measure, or the trace of the serial run, for tools/many-runs to compare with.
+//! One run, for bench/ to measure, or the trace of the serial run, for tools/check/many-runs to compare with.
 ghost use Rattle.std.specs.Prelude.{◌≤◌};
 ghost use Rattle.std.specs.Thread.{IsSync};
 
