@@ -52,12 +52,7 @@ def save(run):
 
 
 def processors(run):
-    return f"{run['processors']} processors" + (f" at {run['MHz'] / 1000:.2f} GHz" if run.get("MHz") else "")
-
-
-def machine(run):
-    memory = f"{run['memory GiB']} GiB" if run.get("memory GiB") else None
-    return ", ".join(filter(None, (processors(run), run.get("processor"), memory)))
+    return f"{run['processors']}" + (f" at {run['MHz'] / 1000:.2f} GHz" if run.get("MHz") else "")
 
 
 def scope(run):
@@ -70,7 +65,8 @@ def page(found):
     """The text of the page."""
     run = found["latest"]
     facts = {
-        "Day": run["day"], "Machine": machine(run), "Toolchain": run.get("toolchain"), "Commit": run.get("commit"),
+        "Day": run["day"], "Processors": ", ".join(filter(None, (processors(run), run.get("processor")))),
+        "Memory": f"{run['memory GiB']} GiB" if run.get("memory GiB") else None, "Toolchain": run.get("toolchain"), "Commit": run.get("commit"),
         "Proofs at once": run.get("jobs"), "Crates": scope(run), "Beside it": run.get("beside"),
         "Processor minutes": run["processor minutes"], "Minutes by the clock": run["minutes"],
         "Memory of all at once": f"{run['memory GB']:.1f} GB", "Last line": f"`{run['verdict']}`",
