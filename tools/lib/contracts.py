@@ -38,7 +38,7 @@ SURFACE = {
 OWNER = re.compile(
     r"^(pub )?(?:unsafe )?(impl|trait)\b(?:<[^{]*?>)? ((?:[\w:]+(?:<.*?>)? for )?)&?(?:'\w+ )?(?:\w+::)*(\w+)"
 )
-FUNCTION = re.compile(r"^( *)(pub )?(?:const )?(?:unsafe )?fn (\w+)")
+FUNCTION = re.compile(r"^( *)(?:pub\(\w+\) |(pub ))?(?:const )?(?:unsafe )?fn (\w+)")
 IMPORT = re.compile(r"ghost use Rattle\.([\w.]+?)(?:\.\{([^}]*)\}| as (\w+))?;", re.S)
 CLAUSE = re.compile(r"\b(?:ensures|requires)\*?\s*\w*\s*\{")
 VIEW = re.compile(r"^ *ghost (?:view|Value|invariant|log)\b[^=\n]*= \{", re.M)
