@@ -4,11 +4,10 @@ For tools/dev/try-wrong-bodies, tools/lib/rulebook.py and tools/check/check-docs
 crates/NAME/wrong-bodies.edits begins with a line `== WHAT-GOES-WRONG`, and only comments stand before the first.
 A file crates/NAME/must-fail/WHAT-GOES-WRONG.edit is read as a section without that line.
 """
-import glob
-import os
+import pathlib
 import re
 
-ROOT = os.path.dirname(os.path.dirname(os.path.dirname(os.path.realpath(__file__))))
+ROOT = pathlib.Path(__file__).resolve().parents[2]
 HEAD = "== "
 RULE = "# rule: "
 NAME = re.compile(r"[a-z0-9]+(-[a-z0-9]+)*")
@@ -19,8 +18,7 @@ OWNER = re.compile(r"(?:pub(?:\(\w+\))? )?(?:impl|trait)\b(?:<.*?>)? (?:[\w:]*?(
 
 
 def read(file):
-    with open(file, encoding="utf-8") as it:
-        return it.read()
+    return pathlib.Path(file).read_text(encoding="utf-8")
 
 
 class WrongBody:
@@ -28,12 +26,13 @@ class WrongBody:
     each with the path of a file of the crate, the old text and the new one. `fault` says why it cannot be read."""
 
     def __init__(self, file, line, name, lines, fault=""):
-        self.file, self.line, self.name, self.crate = file, line, name, file.split("/")[1]
+        self.file, self.line, self.name = file, line, name
+        self.crate = file.relative_to(ROOT).parts[1]
         self.rules, self.pairs = [], []
         self.fault = fault or self.read(lines)
 
     def __str__(self):
-        return f"{self.file}:{self.line}: {self.name}"
+        return f"{self.file.relative_to(ROOT)}:{self.line}: {self.name}"
 
     def read(self, lines):
         """Reads its lines, which have their numbers, and returns the first fault."""
@@ -52,7 +51,7 @@ class WrongBody:
                 old = ""
             elif line and not line.startswith("#"):
                 return f"line {number} is no comment, and no 'file:', 'old:' or 'new:' line in its place"
-        return "" if self.pairs and not old else "an 'old:' and a 'new:' line are missing"
+        return "" if self.pairs and not old else "an 'old:' or a 'new:' line is missing"
 
     def apply(self, folder, texts):
         """Makes the change in texts, which has the edited texts of the crate's folder by their path. Returns where: for
@@ -73,18 +72,16 @@ class WrongBody:
 def wrong_bodies(crate):
     """The wrong bodies of a crate. Text before the first section, which is a fault, is returned as one too."""
     found, sections = [], []
-    file = f"crates/{crate}/wrong-bodies.edits"
-    lines = read(f"{ROOT}/{file}").split("\n") if os.path.isfile(f"{ROOT}/{file}") else []
-    for number, line in enumerate(lines, 1):
+    file = ROOT / "crates" / crate / "wrong-bodies.edits"
+    for number, line in enumerate(read(file).split("\n") if file.is_file() else (), 1):
         if line.startswith(HEAD):
             sections.append((file, number, line[len(HEAD) :], []))
         elif sections:
             sections[-1][3].append((number, line))
         elif line and not line.startswith("#"):
             found.append(WrongBody(file, number, line, [], "it stands before the first section, and is no comment"))
-    for path in sorted(glob.glob(f"{ROOT}/crates/{crate}/must-fail/*.edit")):
-        name = os.path.basename(path)[: -len(".edit")]
-        sections.append((os.path.relpath(path, ROOT), 1, name, [*enumerate(read(path).split("\n"), 1)]))
+    for file in sorted((ROOT / "crates" / crate / "must-fail").glob("*.edit")):
+        sections.append((file, 1, file.stem, [*enumerate(read(file).split("\n"), 1)]))
     names = [name for _, _, name, _ in sections]
     for it in sections:
         found.append(WrongBody(*it, "two wrong bodies of the crate have this name" if names.count(it[2]) > 1 else ""))
@@ -93,7 +90,7 @@ def wrong_bodies(crate):
 
 def all_wrong_bodies():
     """The wrong bodies of all crates."""
-    return [it for crate in sorted(os.listdir(f"{ROOT}/crates")) for it in wrong_bodies(crate)]
+    return [it for crate in sorted((ROOT / "crates").iterdir()) for it in wrong_bodies(crate.name)]
 
 
 def function_at(path, text, at):

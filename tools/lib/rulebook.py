@@ -126,7 +126,7 @@ def read_rules(faults):
             if name in by_id:
                 by_id[name].wrong_bodies.append(body)
             else:
-                faults.append((body.file, line, f"no rule {name}"))
+                faults.append((inside(body.file), line, f"no rule {name}"))
     return subjects
 
 
