@@ -1,5 +1,5 @@
-"""What tools/dev/believed and tools/dev/write-promises read of the crates: the public functions with their comments and clauses,
-what contracts see of types, and the definitions of specs/ with theirs."""
+"""What tools/where, tools/dev/believed and tools/dev/write-promises read of the crates: the functions with their comments
+and clauses, what contracts see of types, and the definitions of specs/ with theirs."""
 import pathlib
 import re
 import sys
@@ -38,7 +38,7 @@ SURFACE = {
 OWNER = re.compile(
     r"^(pub )?(?:unsafe )?(impl|trait)\b(?:<[^{]*?>)? ((?:[\w:]+(?:<.*?>)? for )?)&?(?:'\w+ )?(?:\w+::)*(\w+)"
 )
-FUNCTION = re.compile(r"^( *)(pub )?(?:const )?(?:unsafe )?fn (\w+)")
+FUNCTION = re.compile(r"^( *)(?:pub\(\w+\) |(pub ))?(?:const )?(?:unsafe )?fn (\w+)")
 IMPORT = re.compile(r"ghost use Rattle\.([\w.]+?)(?:\.\{([^}]*)\}| as (\w+))?;", re.S)
 CLAUSE = re.compile(r"\b(?:ensures|requires)\*?\s*\w*\s*\{")
 VIEW = re.compile(r"^ *ghost (?:view|Value|invariant|log)\b[^=\n]*= \{", re.M)
@@ -71,11 +71,12 @@ def imports(found):
 
 
 class Module:
-    """A file of definitions: its imports, and by name the lines of each definition and the comment above it."""
+    """A file of definitions: its imports, and by name each definition's lines, the comment above it, and where it is."""
 
     def __init__(self, path):
-        self.path, self.lines, self.comments, uses, name, depth, above = path, {}, {}, [], None, 0, []
-        for line in path.read_text(encoding="utf-8").split("\n"):
+        self.path, self.lines, self.comments, self.at = path, {}, {}, {}
+        uses, name, depth, above = [], None, 0, []
+        for number, line in enumerate(path.read_text(encoding="utf-8").split("\n"), 1):
             # (what stands in a module without a name is set two columns in)
             depth = min(depth, (len(line) - len(line.lstrip())) // 2) if line.strip() else depth
             line = line[2 * depth :]
@@ -86,7 +87,7 @@ class Module:
                 uses.append(use.groups())
             elif first and not (name and first[1].strip("◌") == name):
                 name = first[1].strip("◌")
-                self.lines[name], self.comments[name] = [line], " ".join(above)
+                self.lines[name], self.comments[name], self.at[name] = [line], " ".join(above), number
             elif line.startswith("--"):
                 above.append(line.strip("- "))
                 continue
@@ -122,10 +123,11 @@ def is_even(text):
 
 
 class Function:
-    """A function: whose it is, whether others can call it, its comment, and its head, which is all before its body."""
+    """A function: whose it is, its line, whether others can call it, its comment, and its head: all before its body."""
 
     def __init__(self, lines, at, owner):
         indent, is_pub, self.name = FUNCTION.match(lines[at]).groups()
+        self.line = at + 1
         is_open, kind, of_trait, self.owner = owner if indent and owner else (None, None, "", None)
         self.of_trait = of_trait[: -len(" for ")]
         self.is_public = bool(is_pub or of_trait or kind == "trait" and is_open or self.name == "main")
