@@ -9,7 +9,7 @@ use std::marker::Model;
 /// where an empty payload is none.
 ///
 /// Contracts see the record of its parts.
-#[derive(Clone, Debug, Drop)]
+#[derive(Clone, Drop)]
 pub struct Message {
     kind: Kind,
     code: u8,

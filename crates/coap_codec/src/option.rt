@@ -8,7 +8,7 @@ use std::marker::Model;
 use std::{mem, slice};
 
 /// An option: its number and its value (RFC 7252 section 5.4).
-#[derive(Clone, Debug, PartialEq, Eq, Drop)]
+#[derive(Clone, PartialEq, Eq, Drop)]
 pub struct Opt {
     pub number: u16,
     pub value: Bytes,
@@ -17,14 +17,14 @@ pub struct Opt {
 /// The options of a message, in the order in which they stand.
 ///
 /// Contracts see the list of the options.
-#[derive(Clone, Debug, Drop)]
+#[derive(Clone, Drop)]
 pub struct Options {
     alloc: Global,
     items: Items,
 }
 
 /// One option, or a list of others.
-#[derive(Clone, Debug, Drop)]
+#[derive(Clone, Drop)]
 enum Items {
     One(Opt),
     Listed(Vec<Opt>),

@@ -18,7 +18,7 @@ use std::alloc::{AllocError, Global};
 use std::marker::Model;
 
 /// What a repeat has in common with its request.
-#[derive(Clone, Debug, PartialEq, Eq, Hash, Drop)]
+#[derive(Clone, PartialEq, Eq, Hash, Drop)]
 pub(crate) struct RecordKey {
     /// The number of its type (RFC 7252 section 3), its server and its message ID, as one number: it is hashed in one
     /// step.

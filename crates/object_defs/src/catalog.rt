@@ -16,7 +16,7 @@ use std::marker::Model;
 
 /// The objects that a device knows. Contracts see the list of their definitions, by ascending
 /// number.
-#[derive(Clone, Debug, Drop)]
+#[derive(Clone, Drop)]
 pub struct Catalog {
     objects: Vec<ObjectDef>,
 }
