@@ -17,10 +17,17 @@ pub struct Opt {
 /// The options of a message, in the order in which they stand.
 ///
 /// Contracts see the list of the options.
-#[derive(Clone, Drop)]
+#[derive(Clone)]
 pub struct Options {
     alloc: Global,
     items: Items,
+}
+
+/// By hand, so that a caller's proof has one step where it is dropped, and no case for each of its parts.
+impl Drop for Options {
+    fn drop(self) {
+        let Options { alloc: _, items: _items } = self;
+    }
 }
 
 /// One option, or a list of others.
