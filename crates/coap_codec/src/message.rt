@@ -176,7 +176,15 @@ impl Message {
     pub fn into_spare(self) -> Vec<Opt>
         ensures { result.items ≡ [] }
     {
-        self.options.into_spare()
+        let Message {
+            kind: _,
+            code: _,
+            mid: _,
+            token: _token,
+            options,
+            payload: _payload,
+        } = self;
+        options.into_spare()
     }
 
     /// The payload, empty where there is none.

@@ -73,8 +73,9 @@ impl Options {
     pub(crate) fn into_spare(self) -> Vec<Opt>
         ensures { result.items ≡ [] }
     {
-        match self.items {
-            Items::One(_) => Vec::new(self.alloc),
+        let Options { alloc, items } = self;
+        match items {
+            Items::One(_) => Vec::new(alloc),
             Items::Listed(items) => {
                 let mut spare = items;
                 spare.clear();

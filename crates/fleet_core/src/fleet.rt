@@ -126,7 +126,16 @@ impl<'a> Fleet<'a> {
     pub fn into_entries(self) -> Entries
         ensures { result ≡ self.entry.entries }
     {
-        self.entries
+        let Fleet {
+            alloc: _,
+            scenario: _,
+            devices: _devices,
+            made: _made,
+            posts: _posts,
+            entries,
+            spent: _,
+        } = self;
+        entries
     }
 
     /// Lets the device make its next step, under the worker's number, and adds just that entry. `NotEnabled`, exactly
