@@ -4,11 +4,11 @@
     bench/plots.py            writes them
     bench/plots.py --check    writes nothing; status 1 where a picture is not that of its figures
 
-The figures of a measurement have lines that say what was measured, when and on which machine, which is the foot of the
-picture; the names of the columns; and the rows, as the scripts print them, with null where there is no figure. PICTURES
-has a function for each picture, which chooses what is drawn. Sizes go by factors, so the axis across is always
-logarithmic; plots of one picture whose axes up have the same name have the same scale. A picture whose figures are not
-there is not drawn. Python's standard library is all that it needs.
+The figures of a measurement have lines that say what was measured, of which program, when and on which machine, which
+is the foot of the picture; the names of the columns; and the rows, as the scripts print them, with null where there is
+no figure. PICTURES has a function for each picture, which chooses what is drawn. Sizes go by factors, so the axis
+across is always logarithmic; plots of one picture whose axes up have the same name have the same scale. A picture whose
+figures are not there is not drawn. Python's standard library is all that it needs.
 """
 import json
 import math

@@ -10,11 +10,11 @@ def words_of(lwbench, *words):
 
 
 class Fleet:
-    """`lwbench fleet`, once all ports are there: at the first thousand of ports that are free, from this one on. Its
-    standard input stays open until `end`, or until it is closed."""
+    """`lwbench fleet`, once all ports are there: at the first thousand of ports that are free, from this one on and then
+    from 10,000 on, since other checks have fleets too. Its standard input stays open until `end`, or until it is closed."""
 
     def __init__(self, lwbench, scenario, *words, at_terminal=False, first=20_000):
-        for self.base in range(first, 32_000, 1000):
+        for self.base in (*range(first, 32_000, 1000), *range(10_000, first, 1000)):
             command = [lwbench, "fleet", scenario, str(self.base), *words]
             ours, theirs = pty.openpty() if at_terminal else os.pipe()
             self.process = subprocess.Popen(

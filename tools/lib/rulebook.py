@@ -3,15 +3,13 @@
 For tools/dev/write-rules, tools/rule and tools/check/check-docs. A file of rules has lines `name = "text"`, `name = ["text", ..]`
 and `[[rule]]`, one each, which is as much of TOML as is read here.
 """
-import importlib.util
 import json
 import pathlib
 import re
-import sys
-from importlib.machinery import SourceFileLoader
+
+from edits import all_wrong_bodies, function_at, read
 
 ROOT = pathlib.Path(__file__).resolve().parents[2]
-sys.dont_write_bytecode = True
 
 # Files of cases: what they are called, and where they are, in one file or in those of a folder. A case carries ids in
 # brackets, at the end of its title (a line `case ..` of a file that `lwbench test` plays) or of a comment.
@@ -29,9 +27,6 @@ PLAYED = ("device", "files", "conformance")
 MARK = re.compile(r" ?\[([a-z0-9]+(?:-[a-z0-9]+)+(?: [a-z0-9]+(?:-[a-z0-9]+)+)*)\]$")
 # A program that uses threads prints a line for each thing that it tries; a rule names the line in `shown_by`.
 USES = {"lock": "crates/ticket_lock_uses/stdout", "workers": "crates/fleet_workers_uses/stdout"}
-
-# A wrong body carries an id in a line that its readers pass over.
-RULE = "# rule: "
 
 NAMES = {"id", "sentence", "standard", "page", "definition", "code"}
 MORE = {"number", "also", "shown_by", "not_shown", "no_case", "no_wrong_body"}
@@ -72,17 +67,6 @@ class Place:
 
     def __str__(self):
         return f"{self.file}:{self.line}"
-
-
-class WrongBody:
-    """A wrong body, and the functions that it changes as the rules name them."""
-
-    def __init__(self, file, line, code):
-        self.file, self.line, self.code, self.name = file, line, code, file.stem
-
-
-def read(file):
-    return file.read_text(encoding="utf-8")
 
 
 def inside(file):
@@ -137,12 +121,12 @@ def read_rules(faults):
                 rule.cases.append(place)
             else:
                 faults.append((rule.file, rule.line, f"no line {words}"))
-    for body, ids in wrong_bodies():
-        for name in ids:
+    for body in all_wrong_bodies():
+        for line, name in body.rules:
             if name in by_id:
                 by_id[name].wrong_bodies.append(body)
             else:
-                faults.append((inside(body.file), body.line, f"no rule {name}"))
+                faults.append((inside(body.file), line, f"no rule {name}"))
     return subjects
 
 
@@ -187,45 +171,22 @@ def shown(words):
     return Place(sheet, USES[sheet], found[0], line) if found else None
 
 
-def trials():
-    """The program that tries wrong bodies: it knows which function a line is of."""
-    loader = SourceFileLoader("try_wrong_bodies", str(ROOT / "tools/dev/try-wrong-bodies"))
-    module = importlib.util.module_from_spec(importlib.util.spec_from_loader(loader.name, loader))
-    loader.exec_module(module)
-    return module
-
-
-def wrong_bodies():
-    """The wrong bodies that carry ids, each with these."""
-    tool = trials()
-    for folder in ("wrong-bodies", "must-fail"):
-        for file in sorted(ROOT.glob(f"crates/*/{folder}/*.edit")):
-            lines = read(file).splitlines()
-            ids = [(number, line) for number, line in enumerate(lines, 1) if line.startswith(RULE)]
-            if ids:
-                names = [name for _, line in ids for name in line[len(RULE) :].split()]
-                yield WrongBody(file, ids[0][0], changed(tool, file, lines)), names
-
-
-def changed(tool, file, lines):
+def changed(body):
     """What a wrong body changes: functions, and constants outside of them, as `crate/module::name`."""
-    crate, path, found = file.parent.parent, "", set()
-    for line in lines:
-        word, _, rest = line.partition(":")
-        if word == "file":
-            path = rest.strip()
-        elif word == "old" and (crate / path).is_file():
-            text = read(crate / path)
-            if text.count(rest[1:]) != 1:
-                continue
-            at = text.count("\n", 0, text.index(rest[1:]))
-            place = tool.function_at(path, text, at)
-            heads = (re.match(r"(?:pub(?:\(\w+\))? )?(?:const|static) (\w+)", it) for it in outside(text, at))
-            const = next((it for it in heads if it), None)
-            name = place[2] if place else const and const.group(1)
-            if name:
-                module = path[len("src/") : -len(".rt")].replace("/", "::")
-                found.add(f"{crate.name}/{module}::{name}")
+    found = set()
+    try:
+        places = body.apply(ROOT / "crates" / body.crate, {})
+    except (OSError, ValueError):
+        # (tools/check/check-docs says why)
+        return found
+    for path, text, at in places:
+        place = function_at(path, text, at)
+        heads = (re.match(r"(?:pub(?:\(\w+\))? )?(?:const|static) (\w+)", it) for it in outside(text, at))
+        const = next((it for it in heads if it), None)
+        name = place[2] if place else const and const.group(1)
+        if name:
+            module = path[len("src/") : -len(".rt")].replace("/", "::")
+            found.add(f"{body.crate}/{module}::{name}")
     return found
 
 
@@ -282,7 +243,7 @@ def heading_place(rule):
 
 def edits_code(rule):
     """The wrong bodies of a rule that change the function that it names."""
-    return [it for it in rule.wrong_bodies if rule.code in it.code]
+    return [it for it in rule.wrong_bodies if rule.code in changed(it)]
 
 
 def rule_faults(rule):
