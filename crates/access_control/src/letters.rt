@@ -3,7 +3,7 @@ ghost use Rattle.access_control.specs.Rights.{letters_in, letters_of, no_right, 
 ghost use Rattle.access_control.specs.Rights.{every_right};
 
 /// What a server may do to an object instance, letter by letter (OMA LwM2M 1.1 Core).
-#[derive(Clone, Copy, Debug, PartialEq, Eq)]
+#[derive(Clone, Copy, PartialEq, Eq)]
 pub struct Rights {
     /// R: Read, Observe and Write-Attributes.
     pub read: bool,

@@ -8,7 +8,7 @@ use thiserror::Error;
 ///
 /// A number is how many bytes are left from the field's first byte on, so that a field's break is the same whatever
 /// stands before it.
-#[derive(Clone, Copy, Debug, PartialEq, Eq)]
+#[derive(Clone, Copy, PartialEq, Eq)]
 pub enum Break {
     /// The number that marks the format is another.
     Magic,
@@ -25,7 +25,7 @@ pub enum Break {
 }
 
 /// Why a field was not read.
-#[derive(Debug, Drop)]
+#[derive(Drop)]
 pub enum ReadError {
     /// No memory was left.
     Memory,

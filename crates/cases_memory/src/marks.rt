@@ -2,7 +2,7 @@
 use std::alloc::Global;
 
 /// What is done around the call that a case is about.
-#[derive(Clone, Copy, Debug, PartialEq, Eq)]
+#[derive(Clone, Copy, PartialEq, Eq)]
 pub enum Mode {
     /// So many boxes are made before the call, and each is freed at once.
     Boxes(u32),

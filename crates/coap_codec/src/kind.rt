@@ -1,5 +1,5 @@
 /// The type of a message (RFC 7252 section 3): confirmable, non-confirmable, acknowledgement, reset.
-#[derive(Clone, Copy, Debug, PartialEq, Eq)]
+#[derive(Clone, Copy, PartialEq, Eq)]
 pub enum Kind {
     Con,
     Non,

@@ -9,7 +9,7 @@ use std::marker::Model;
 /// where an empty payload is none.
 ///
 /// Contracts see the record of its parts.
-#[derive(Clone, Debug, Drop)]
+#[derive(Clone)]
 pub struct Message {
     kind: Kind,
     code: u8,
@@ -17,6 +17,20 @@ pub struct Message {
     token: Bytes,
     options: Options,
     payload: Bytes,
+}
+
+/// By hand, so that a caller's proof has one step where it is dropped, and no case for each of its parts.
+impl Drop for Message {
+    fn drop(self) {
+        let Message {
+            kind: _,
+            code: _,
+            mid: _,
+            token: _token,
+            options: _options,
+            payload: _payload,
+        } = self;
+    }
 }
 
 impl Model for Message {
@@ -162,7 +176,15 @@ impl Message {
     pub fn into_spare(self) -> Vec<Opt>
         ensures { result.items ≡ [] }
     {
-        self.options.into_spare()
+        let Message {
+            kind: _,
+            code: _,
+            mid: _,
+            token: _token,
+            options,
+            payload: _payload,
+        } = self;
+        options.into_spare()
     }
 
     /// The payload, empty where there is none.

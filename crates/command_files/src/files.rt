@@ -15,7 +15,7 @@ pub fn most_bytes() -> u32
 }
 
 /// Why a file was not read or not written, or a text not printed.
-#[derive(Clone, Copy, Debug)]
+#[derive(Clone, Copy)]
 pub enum FileFault {
     /// The system refused it, or the file is too large: why, in words for people.
     Failed(&'static str),

@@ -1,5 +1,5 @@
 /// How findings are printed.
-#[derive(Clone, Copy, Debug, PartialEq, Eq)]
+#[derive(Clone, Copy, PartialEq, Eq)]
 pub enum LintForm {
     /// A line of text for each.
     Text,

@@ -20,7 +20,7 @@ use std::alloc::{AllocError, Global};
 use trace_text::Clocks;
 
 /// A finding of a device.
-#[derive(Clone, Copy, Debug)]
+#[derive(Clone, Copy)]
 pub struct Found {
     /// The device, by its row.
     pub device: u16,

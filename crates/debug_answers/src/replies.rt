@@ -21,7 +21,7 @@ use debugger::{Break, Debugger};
 use std::alloc::{AllocError, Global};
 
 /// What is answered to a line.
-#[derive(Debug, Drop)]
+#[derive(Drop)]
 pub struct Reply {
     /// The lines that are answered, each with the line feed that ends it.
     pub text: String,

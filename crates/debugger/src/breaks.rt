@@ -4,7 +4,7 @@ use object_defs::Path;
 
 /// A breakpoint. It holds at some places of a run, a place being a number of entries: those before it. At a place, each
 /// kind but the first looks at the entry just before it.
-#[derive(Clone, Copy, Debug, PartialEq, Eq)]
+#[derive(Clone, Copy, PartialEq, Eq)]
 pub enum Break {
     /// At this place.
     At(usize),
@@ -37,7 +37,7 @@ pub enum Break {
 }
 
 /// Why a resumed debugger stops.
-#[derive(Clone, Copy, Debug, PartialEq, Eq)]
+#[derive(Clone, Copy, PartialEq, Eq)]
 pub enum Stop {
     /// The breakpoint of this number holds.
     Break(u8),
@@ -46,7 +46,7 @@ pub enum Stop {
 }
 
 /// A stop, and its place.
-#[derive(Clone, Copy, Debug)]
+#[derive(Clone, Copy)]
 pub(crate) struct StopAt {
     /// Why the debugger stops.
     pub(crate) stop: Stop,

@@ -4,7 +4,7 @@ ghost use Rattle.device_firmware.specs.Firmware.{event_of_package, event_of_uri}
 use lwm2m_values::Text;
 
 /// What happens to the firmware of a device.
-#[derive(Debug, Drop)]
+#[derive(Drop)]
 pub enum FirmwareEvent {
     /// An empty Package, one of a single zero byte, or an empty Package URI is written.
     Cleared,

@@ -7,7 +7,7 @@ use crate::event::FirmwareEvent;
 use lwm2m_values::Value;
 
 /// The State of a firmware update (OMA LwM2M 1.1 Core).
-#[derive(Clone, Copy, Debug, PartialEq, Eq)]
+#[derive(Clone, Copy, PartialEq, Eq)]
 pub(crate) enum State {
     /// 0.
     Idle,
@@ -20,7 +20,7 @@ pub(crate) enum State {
 }
 
 /// The State and the Update Result after an event.
-#[derive(Clone, Copy, Debug, PartialEq, Eq)]
+#[derive(Clone, Copy, PartialEq, Eq)]
 pub(crate) struct Outcome {
     pub(crate) state: State,
     pub(crate) code: u8,

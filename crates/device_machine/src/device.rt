@@ -26,11 +26,17 @@ use std::marker::Model;
 /// It shows a flat state, and its outputs and its next state are those that the tables give for
 /// each flat state that it shows. Only a failed allocation makes it spent; a spent device refuses each
 /// event.
-#[derive(Drop)]
 pub struct Device {
     // It has a place of its own, so a device that moves from one owner to another moves few bytes.
     machine: Box<Machine>,
     spent: bool,
+}
+
+/// By hand, so that a caller's proof has one step where it is dropped, and no case for each of its parts.
+impl Drop for Device {
+    fn drop(self) {
+        let Device { machine: _machine, spent: _ } = self;
+    }
 }
 
 impl Model for Device {

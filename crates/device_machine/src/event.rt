@@ -3,7 +3,7 @@ use object_defs::Path;
 use octets::Bytes;
 
 /// What happens to a device.
-#[derive(Clone, Debug, Drop)]
+#[derive(Clone, Drop)]
 pub enum Event {
     /// A datagram arrives.
     Recv {

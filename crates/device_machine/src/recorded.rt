@@ -5,7 +5,7 @@ use octets::Bytes;
 use std::alloc::AllocError;
 
 /// A request that was received.
-#[derive(Debug, Drop)]
+#[derive(Drop)]
 pub struct Recorded {
     /// The Short Server ID of its server.
     pub server: u16,

@@ -10,7 +10,7 @@ use notifier::Observation;
 use std::alloc::AllocError;
 
 /// What an observation does in a second.
-#[derive(Clone, Debug, Drop)]
+#[derive(Clone, Drop)]
 pub enum Evaluation {
     /// Nothing.
     Quiet,

@@ -5,7 +5,7 @@ use request_reasons::Reason;
 
 /// What decides how a device handles a datagram: the first condition of the table of docs/device/requests.md that
 /// holds, down to rule 2; for a request that is not a repeat, what decides its answer.
-#[derive(Debug, Drop)]
+#[derive(Drop)]
 pub enum ArrivalReason {
     /// The server is not an account of the device, which sends and changes nothing.
     Stranger {

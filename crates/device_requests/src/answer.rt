@@ -7,7 +7,7 @@ use octets::Bytes;
 use std::alloc::Global;
 
 /// A response code that a device answers (OMA LwM2M 1.1 Transport, RFC 7252 section 12.1.2).
-#[derive(Clone, Copy, Debug, PartialEq, Eq)]
+#[derive(Clone, Copy, PartialEq, Eq)]
 pub enum Code {
     /// 2.01
     Created,
@@ -98,7 +98,7 @@ pub enum Act {
 }
 
 /// The answer to a request: its code, Location-Path, Content-Format and payload, and what the device does then.
-#[derive(Clone, Debug, Drop)]
+#[derive(Clone, Drop)]
 pub struct Answer {
     /// The code.
     pub code: Code,

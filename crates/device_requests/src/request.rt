@@ -20,7 +20,7 @@ use std::alloc::AllocError;
 
 /// What a request asks for, as its options say it. The queries stay in its message: only a
 /// Write-Attributes reads them.
-#[derive(Clone, Copy, Debug, PartialEq, Eq)]
+#[derive(Clone, Copy, PartialEq, Eq)]
 pub struct Request {
     /// What its Uri-Path names.
     pub path: Path,
@@ -65,7 +65,7 @@ impl Request {
 }
 
 /// What a request is answered, and what it asks of the observation of its server and token.
-#[derive(Debug, Drop)]
+#[derive(Drop)]
 pub struct RequestResult {
     /// The answer.
     pub answer: Answer,

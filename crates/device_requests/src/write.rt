@@ -38,7 +38,7 @@ use object_defs::{Catalog, InstancePath, Path, ResourceDef, ResourcePath};
 use std::alloc::{AllocError, Global};
 
 /// What the payload of a Write gives.
-#[derive(Debug, Drop)]
+#[derive(Drop)]
 enum NewValues {
     /// To resources of an instance.
     Several(Assignments),

@@ -6,9 +6,16 @@ use std::alloc::{AllocError, Global};
 use std::marker::Model;
 
 /// The Short Server IDs of a class's accounts, by ascending number. Contracts see their list.
-#[derive(Clone, Drop)]
+#[derive(Clone)]
 pub(crate) struct Accounts {
     items: Vec<u16>,
+}
+
+/// By hand, so that a caller's proof has one step where it is dropped, and no case for each of its parts.
+impl Drop for Accounts {
+    fn drop(self) {
+        let Accounts { items: _items } = self;
+    }
 }
 
 impl Model for Accounts {

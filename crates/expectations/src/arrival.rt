@@ -2,7 +2,7 @@ use coap_codec::Message;
 use octets::Bytes;
 
 /// A datagram that arrives at a device.
-#[derive(Debug, Drop)]
+#[derive(Drop)]
 pub struct Arrival {
     /// The second of the device in which it arrives.
     pub second: u64,

@@ -5,7 +5,7 @@ use lwm2m_values::Text;
 use std::marker::Model;
 
 /// What a line says that has to arrive at a device, or that nothing does.
-#[derive(Debug, Drop)]
+#[derive(Drop)]
 pub enum Expected {
     /// `<= S WHAT [within N]`: this server has to send this.
     Message {
@@ -24,7 +24,7 @@ pub enum Expected {
 }
 
 /// A line that begins with `<=`.
-#[derive(Debug, Drop)]
+#[derive(Drop)]
 pub struct Expectation {
     /// The line, counted in the file from 1.
     pub line: usize,
@@ -33,7 +33,7 @@ pub struct Expectation {
 }
 
 /// Expectations, in the order of their lines. Contracts see the list of them.
-#[derive(Debug, Drop)]
+#[derive(Drop)]
 pub struct Expectations {
     items: Vec<Expectation>,
 }
@@ -64,7 +64,7 @@ impl Expectations {
 }
 
 /// A case of a file of expectations.
-#[derive(Debug, Drop)]
+#[derive(Drop)]
 pub struct ExpectedCase {
     /// The title.
     pub title: Text,

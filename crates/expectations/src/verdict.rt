@@ -1,5 +1,5 @@
 /// Whether the datagrams of a row are what the lines of a case say.
-#[derive(Clone, Copy, Debug, PartialEq, Eq)]
+#[derive(Clone, Copy, PartialEq, Eq)]
 pub enum Verdict {
     /// They are.
     Met,

@@ -3,7 +3,7 @@ use octets::Bytes;
 use scenario_mnemonics::{Format, Queries, Verb};
 
 /// What an expectation says of a request besides its verb and its path. What is left out may be anything.
-#[derive(Debug, Drop)]
+#[derive(Drop)]
 pub struct Details {
     /// The format that a Read, an Observe or a Cancel accepts, or that of the payload of a Write, an Update or a
     /// Create.
@@ -15,7 +15,7 @@ pub struct Details {
 }
 
 /// A request, without its type, its message ID and its token, which a server chooses.
-#[derive(Debug, Drop)]
+#[derive(Drop)]
 pub struct AskedRequest {
     /// What it asks for.
     pub verb: Verb,
@@ -26,7 +26,7 @@ pub struct AskedRequest {
 }
 
 /// What a server has to send.
-#[derive(Debug, Drop)]
+#[derive(Drop)]
 pub enum What {
     /// `ack`: an ACK that is Empty.
     Ack,

@@ -1,5 +1,5 @@
 /// What a list of entries is.
-#[derive(Clone, Copy, Debug, PartialEq, Eq)]
+#[derive(Clone, Copy, PartialEq, Eq)]
 pub enum Verdict {
     /// It is a run of the scenario.
     Run,

@@ -7,7 +7,7 @@ use fleet_wire::{Happened, Note, WiredPorts};
 use std::alloc::Global;
 
 /// What is counted of a session.
-#[derive(Clone, Copy, Debug)]
+#[derive(Clone, Copy)]
 pub struct Account {
     /// The datagrams that the ports carried.
     pub counts: Counts,

@@ -5,7 +5,7 @@ use live_link::Packet;
 use std::snapshot::Snapshot;
 
 /// A datagram that a device received, or one that it sent.
-#[derive(Debug, Drop)]
+#[derive(Drop)]
 pub struct Shown {
     /// The second at which it was received. For one that was sent: the last one at which the ports were asked.
     pub second: u64,

@@ -39,7 +39,7 @@ impl Receipt {
 }
 
 /// Why ports can serve no device any more.
-#[derive(Clone, Copy, Debug, PartialEq, Eq)]
+#[derive(Clone, Copy, PartialEq, Eq)]
 pub enum PortsFault {
     /// The system failed.
     Failed,

@@ -1,14 +1,14 @@
 //! Which datagrams of a device are chosen, by their numbers.
 
 /// Numbers of datagrams that follow one another, both ends among them.
-#[derive(Clone, Copy, Debug)]
+#[derive(Clone, Copy)]
 pub struct Span {
     pub from: u64,
     pub to: u64,
 }
 
 /// Which datagrams are chosen.
-#[derive(Debug, Drop)]
+#[derive(Drop)]
 pub enum Choice {
     /// None.
     Never,

@@ -7,7 +7,7 @@ use crate::note::Note;
 use crate::plan::Fate;
 
 /// How many datagrams were lost, doubled, exchanged and delayed.
-#[derive(Clone, Copy, Debug, PartialEq, Eq)]
+#[derive(Clone, Copy, PartialEq, Eq)]
 pub struct Happened {
     pub lost: u64,
     pub twice: u64,

@@ -4,7 +4,7 @@ use crate::plan::{Direction, Fate};
 use std::snapshot::Snapshot;
 
 /// What happened to a datagram that did not just go on.
-#[derive(Clone, Copy, Debug)]
+#[derive(Clone, Copy)]
 pub struct Note {
     /// The place of the device in its fleet.
     pub device: usize,

@@ -10,7 +10,7 @@ use rand_core::utils::NextWord;
 use rand_pcg::Pcg32;
 
 /// Which way a datagram goes.
-#[derive(Clone, Copy, Debug, PartialEq, Eq)]
+#[derive(Clone, Copy, PartialEq, Eq)]
 pub enum Direction {
     /// To a device.
     In,
@@ -19,7 +19,7 @@ pub enum Direction {
 }
 
 /// What happens to a datagram on the wire.
-#[derive(Clone, Copy, Debug, PartialEq, Eq)]
+#[derive(Clone, Copy, PartialEq, Eq)]
 pub enum Fate {
     /// It never goes on.
     Lost,
@@ -55,7 +55,7 @@ pub(crate) enum Kind {
 }
 
 /// What a wire does.
-#[derive(Debug, Drop)]
+#[derive(Drop)]
 pub struct Plan {
     /// What all words that are drawn begin from.
     pub seed: u64,

@@ -25,7 +25,7 @@ use ticket_lock::{NUMBERS, Pass, TicketLock};
 use trace_file::Entries;
 
 /// How a run ended.
-#[derive(Debug, Drop)]
+#[derive(Drop)]
 pub enum FleetEnd {
     /// Each row is at its end.
     Done,
@@ -46,7 +46,7 @@ impl FleetEnd {
 }
 
 /// A run that workers made.
-#[derive(Debug, Drop)]
+#[derive(Drop)]
 pub struct FleetRun {
     /// The entries, in order.
     pub entries: Entries,

@@ -1,7 +1,7 @@
 use octets::Bytes;
 
 /// A datagram on a wire, and the server at the other end of the wire.
-#[derive(Clone, Debug, Drop)]
+#[derive(Clone, Drop)]
 pub struct Packet {
     /// The Short Server ID of the server that it comes from or goes to.
     pub server: u16,

@@ -3,7 +3,7 @@ ghost use Rattle.lwm2m_payloads.specs.Arguments.{is_digit, is_text_byte, AreArgu
 ghost use Rattle.lwm2m_payloads.specs.Scanning.{are_arguments, step, is_end, run};
 
 /// A place in the arguments, by what stands before it.
-#[derive(Clone, Copy, Debug, PartialEq, Eq)]
+#[derive(Clone, Copy, PartialEq, Eq)]
 enum Place {
     /// Nothing.
     Start,

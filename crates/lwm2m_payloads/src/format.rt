@@ -6,7 +6,7 @@ use lwm2m_values::ValueKind;
 use object_defs::{Path, ResourceDef};
 
 /// The format of a payload (OMA LwM2M 1.1 Core, data formats).
-#[derive(Clone, Copy, Debug, PartialEq, Eq)]
+#[derive(Clone, Copy, PartialEq, Eq)]
 pub enum Format {
     /// text/plain, number 0.
     PlainText,

@@ -7,7 +7,7 @@ use std::alloc::{AllocError, Global};
 use std::marker::Model;
 
 /// What a payload is for.
-#[derive(Clone, Copy, Debug, PartialEq, Eq)]
+#[derive(Clone, Copy, PartialEq, Eq)]
 pub enum Purpose {
     /// It gives values to writable resources.
     Write,
@@ -16,7 +16,7 @@ pub enum Purpose {
 }
 
 /// How a Write treats what it does not name (OMA LwM2M 1.1 Core, Write).
-#[derive(Clone, Copy, Debug, PartialEq, Eq)]
+#[derive(Clone, Copy, PartialEq, Eq)]
 pub enum Mode {
     /// Replace: what can be removed is removed.
     Replace,
@@ -25,7 +25,7 @@ pub enum Mode {
 }
 
 /// Values of resource instances with their numbers, which contracts see as a list of pairs.
-#[derive(Debug, Drop)]
+#[derive(Drop)]
 pub struct Parts {
     items: Vec<(u16, Value)>,
 }
@@ -83,7 +83,7 @@ impl Parts {
 }
 
 /// What a payload gives to a resource.
-#[derive(Debug, Drop)]
+#[derive(Drop)]
 pub enum Given {
     /// Its single value.
     Single(Value),
@@ -92,7 +92,7 @@ pub enum Given {
 }
 
 /// A resource of an instance, and what it is given.
-#[derive(Debug, Drop)]
+#[derive(Drop)]
 pub struct Assignment {
     /// The resource's number.
     pub resource: u16,
@@ -101,7 +101,7 @@ pub struct Assignment {
 }
 
 /// Assignments in their order, each to a resource of its own, which contracts see as a list.
-#[derive(Debug, Drop)]
+#[derive(Drop)]
 pub struct Assignments {
     items: Vec<Assignment>,
 }
@@ -161,7 +161,7 @@ impl Assignments {
 }
 
 /// What a Create gives: the new instance's number, where an Object Instance alone names it, and the assignments.
-#[derive(Debug, Drop)]
+#[derive(Drop)]
 pub struct Creation {
     /// The number of the new instance, where it is named.
     pub number: Option<u16>,

@@ -5,7 +5,7 @@ use octets::Bytes;
 
 /// A record of TLV with what it holds (OMA LwM2M 1.1 Core, TLV). Contracts see the tree of the identifiers and the
 /// bytes: `tree_of` a node, `trees_of` a list of nodes.
-#[derive(Debug, Drop)]
+#[derive(Drop)]
 pub enum Node {
     /// An Object Instance, which holds Multiple Resources and Resources.
     Instance { id: u16, children: Vec<Node> },

@@ -9,7 +9,7 @@ use object_defs::Path;
 use std::cmp::Ordering;
 
 /// The name of an attribute (OMA LwM2M 1.1 Core, attributes), in this order.
-#[derive(Clone, Copy, Debug, PartialEq, Eq)]
+#[derive(Clone, Copy, PartialEq, Eq)]
 pub enum Name {
     /// Minimum period, in seconds.
     Pmin,
@@ -63,7 +63,7 @@ impl PartialOrd for Name {
 }
 
 /// A change of one attribute.
-#[derive(Clone, Copy, Debug, PartialEq, Eq)]
+#[derive(Clone, Copy, PartialEq, Eq)]
 pub struct Change {
     /// The attribute's name.
     pub name: Name,
@@ -86,7 +86,7 @@ pub enum Level {
 
 /// What an attribute is set for: its server, the numbers of its path, and its name. In this order,
 /// a path before those below it.
-#[derive(Clone, Copy, Debug, PartialEq, Eq, PartialOrd, Ord)]
+#[derive(Clone, Copy, PartialEq, Eq, PartialOrd, Ord)]
 pub struct AttributeKey {
     /// The Short Server ID of the server.
     pub server: u16,

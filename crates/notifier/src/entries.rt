@@ -21,7 +21,7 @@ use std::alloc::AllocError;
 const LONGEST_TOKEN: usize = 8;
 
 /// The name of an observation, its server and its token, without memory of its own.
-#[derive(Clone, Debug, PartialEq, Eq, Hash, Drop)]
+#[derive(Clone, PartialEq, Eq, Hash, Drop)]
 pub(crate) struct Key {
     server: u16,
     /// How many bytes the token has.

@@ -5,7 +5,7 @@ use object_defs::Path;
 use octets::Bytes;
 
 /// What a message of an observation reported.
-#[derive(Clone, Debug, Drop)]
+#[derive(Clone, Drop)]
 pub struct Report {
     /// The payload.
     pub payload: Bytes,
@@ -14,7 +14,7 @@ pub struct Report {
 }
 
 /// What a confirmable notification is sent again by (RFC 7252 section 4.2).
-#[derive(Clone, Debug, Drop)]
+#[derive(Clone, Drop)]
 pub struct Timer {
     /// The bytes of the message.
     pub bytes: Bytes,
@@ -23,7 +23,7 @@ pub struct Timer {
 }
 
 /// An observation (RFC 7641): a server's interest in a path, under a token.
-#[derive(Clone, Debug, Drop)]
+#[derive(Clone, Drop)]
 pub struct Observation {
     /// The Short Server ID of the server.
     pub server: u16,

@@ -30,11 +30,21 @@ const MOST: usize = 32;
 
 /// The observations of a device. Contracts see the list of them, in the order of registration, and beside
 /// it what was last said of each: what its present answer is, and its periods.
-#[derive(Drop)]
 pub struct Observations {
     alloc: Global,
     entries: IndexMap<Key, Observation>,
     said: Vec<Outlook>,
+}
+
+/// By hand, so that a caller's proof has one step where it is dropped, and no case for each of its parts.
+impl Drop for Observations {
+    fn drop(self) {
+        let Observations {
+            alloc: _,
+            entries: _entries,
+            said: _said,
+        } = self;
+    }
 }
 
 impl Model for Observations {

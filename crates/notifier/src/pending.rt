@@ -10,7 +10,7 @@ use crate::trigger::is_due;
 
 /// What the present answer of an observation is, that of a GET of its path by its server, beside what the
 /// observation last reported.
-#[derive(Clone, Copy, Debug, PartialEq, Eq)]
+#[derive(Clone, Copy, PartialEq, Eq)]
 pub enum Pending {
     /// It is content that does not trigger.
     Idle,
@@ -21,7 +21,7 @@ pub enum Pending {
 }
 
 /// What was last said of an observation.
-#[derive(Clone, Copy, Debug, PartialEq, Eq)]
+#[derive(Clone, Copy, PartialEq, Eq)]
 pub struct Outlook {
     /// What its present answer is.
     pub pending: Pending,

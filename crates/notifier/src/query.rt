@@ -114,7 +114,7 @@ fn reading_of(before: &[Change], level: Level, query: &[u8]) -> Result<Change, Q
 }
 
 /// Changes of attributes. Contracts see the list of them, in their order.
-#[derive(Clone, Debug, Drop)]
+#[derive(Clone, Drop)]
 pub struct Changes {
     items: Vec<Change>,
 }

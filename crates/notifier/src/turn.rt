@@ -9,7 +9,7 @@ use crate::observation::Observation;
 use crate::pending::{Outlook, due_of, earlier};
 
 /// What an observation does in a second.
-#[derive(Clone, Copy, Debug, PartialEq, Eq)]
+#[derive(Clone, Copy, PartialEq, Eq)]
 pub enum Turn {
     /// It is evaluated: what it sends is up to its present answer.
     Evaluate,

@@ -16,9 +16,16 @@ use std::marker::Model;
 
 /// The objects that a device knows. Contracts see the list of their definitions, by ascending
 /// number.
-#[derive(Clone, Debug, Drop)]
+#[derive(Clone)]
 pub struct Catalog {
     objects: Vec<ObjectDef>,
+}
+
+/// By hand, so that a caller's proof has one step where it is dropped, and no case for each of its parts.
+impl Drop for Catalog {
+    fn drop(self) {
+        let Catalog { objects: _objects } = self;
+    }
 }
 
 impl Model for Catalog {

@@ -11,7 +11,7 @@ use std::alloc::{AllocError, Global};
 use std::marker::Model;
 
 /// The operations that a resource has (OMA LwM2M 1.1 Core).
-#[derive(Clone, Copy, Debug, PartialEq, Eq)]
+#[derive(Clone, Copy, PartialEq, Eq)]
 pub enum Ops {
     /// Read.
     R,
@@ -56,7 +56,7 @@ impl Ops {
 }
 
 /// The definition of a resource of an object.
-#[derive(Clone, Copy, Debug, PartialEq, Eq)]
+#[derive(Clone, Copy, PartialEq, Eq)]
 pub struct ResourceDef {
     /// The resource's number.
     pub id: u16,
@@ -83,7 +83,7 @@ impl ResourceDef {
 }
 
 /// The definitions of an object's resources, which contracts see as a list.
-#[derive(Clone, Debug, Drop)]
+#[derive(Clone, Drop)]
 pub struct Resources {
     items: Vec<ResourceDef>,
 }
@@ -149,7 +149,7 @@ impl Resources {
 }
 
 /// The definition of an object.
-#[derive(Clone, Debug, Drop)]
+#[derive(Clone, Drop)]
 pub struct ObjectDef {
     /// The object's number.
     pub id: u16,

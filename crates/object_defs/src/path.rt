@@ -6,7 +6,7 @@ use std::alloc::{AllocError, Global};
 
 /// A path to an object, an object instance, a resource or a resource instance (a part), by their
 /// numbers (OMA LwM2M 1.1 Core).
-#[derive(Clone, Copy, Debug, PartialEq, Eq)]
+#[derive(Clone, Copy, PartialEq, Eq)]
 pub enum Path {
     /// Object.
     Object(u16),
@@ -20,7 +20,7 @@ pub enum Path {
 
 /// The path to one value: a resource's single value, or one of its parts. In order of the
 /// numbers, the single value before the parts.
-#[derive(Clone, Copy, Debug, PartialEq, Eq, PartialOrd, Ord)]
+#[derive(Clone, Copy, PartialEq, Eq, PartialOrd, Ord)]
 pub struct FullPath {
     /// The object's number.
     pub object: u16,
@@ -46,7 +46,7 @@ impl FullPath {
 }
 
 /// The path to a resource.
-#[derive(Clone, Copy, Debug, PartialEq, Eq)]
+#[derive(Clone, Copy, PartialEq, Eq)]
 pub struct ResourcePath {
     /// The object's number.
     pub object: u16,
@@ -81,7 +81,7 @@ impl ResourcePath {
 }
 
 /// The path to an object instance, in order of the numbers.
-#[derive(Clone, Copy, Debug, PartialEq, Eq, PartialOrd, Ord)]
+#[derive(Clone, Copy, PartialEq, Eq, PartialOrd, Ord)]
 pub struct InstancePath {
     /// The object's number.
     pub object: u16,

@@ -63,7 +63,7 @@ fn unread(message: &Message, code: Code) -> Result<Reason, AllocError>
 }
 
 /// Which line of an operation's rules decides.
-#[derive(Clone, Copy, Debug, PartialEq, Eq)]
+#[derive(Clone, Copy, PartialEq, Eq)]
 enum Ruling {
     Security,
     Target,

@@ -6,7 +6,7 @@ use object_defs::Ops;
 use octets::Bytes;
 
 /// What of a payload, of queries or of arguments is not valid. Records and queries are counted from 1.
-#[derive(Debug, Drop)]
+#[derive(Drop)]
 pub enum PayloadFault {
     /// The payload of an Execute is not a list of arguments.
     NotArguments,
@@ -57,7 +57,7 @@ pub enum PayloadFault {
 }
 
 /// Why a record is refused.
-#[derive(Clone, Copy, Debug, PartialEq, Eq)]
+#[derive(Clone, Copy, PartialEq, Eq)]
 pub enum RecordFault {
     /// Its number is not that of the path.
     Number,

@@ -12,7 +12,7 @@ use object_defs::{Ops, Path};
 
 /// What decides the answer to a request: the first rule that refuses it, or that none does. The numbers are those of
 /// docs/device/requests.md.
-#[derive(Debug, Drop)]
+#[derive(Drop)]
 pub enum Reason {
     /// Rule 3: an option that must be understood is not recognized.
     Unrecognized {
@@ -52,7 +52,7 @@ pub enum Reason {
 }
 
 /// A rule that refuses an operation at a path, with what it read.
-#[derive(Debug, Drop)]
+#[derive(Drop)]
 pub enum Rule {
     /// Rule 6: the path names object 0.
     Security,

@@ -10,7 +10,7 @@ use instance_store::Store;
 use object_defs::{Catalog, InstancePath, Path};
 
 /// What of a path is not there, from the object down.
-#[derive(Clone, Copy, Debug, PartialEq, Eq)]
+#[derive(Clone, Copy, PartialEq, Eq)]
 pub enum Missing {
     /// The device does not know the object.
     Object,

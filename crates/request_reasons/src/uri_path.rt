@@ -12,7 +12,7 @@ use octets::Bytes;
 use std::alloc::AllocError;
 
 /// Why a Uri-Path is not a path of one to four numbers.
-#[derive(Debug, Drop)]
+#[derive(Drop)]
 pub enum PathFault {
     /// A segment is not a number from 0 to 65535 in decimal, with no leading zero.
     Segment {

@@ -23,11 +23,21 @@ pub(crate) const MOST_STEPS: u16 = 4096;
 /// A scenario: classes of devices, and a row of steps for each device. Contracts see the two lists.
 ///
 /// Every scenario is valid. A refused call changes nothing.
-#[derive(Drop)]
 pub struct Scenario {
     classes: Vec<Template>,
     rows: Vec<Row>,
     alloc: Global,
+}
+
+/// By hand, so that a caller's proof has one step where it is dropped, and no case for each of its parts.
+impl Drop for Scenario {
+    fn drop(self) {
+        let Scenario {
+            classes: _classes,
+            rows: _rows,
+            alloc: _,
+        } = self;
+    }
 }
 
 impl Model for Scenario {

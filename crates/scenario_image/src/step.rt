@@ -8,7 +8,7 @@ use device_machine::{Event, Template};
 use object_defs::Path;
 
 /// A step of a device in a scenario.
-#[derive(Clone, Debug, Drop)]
+#[derive(Clone, Drop)]
 pub enum Step {
     /// The device takes an event.
     Event(Event),

@@ -8,7 +8,7 @@ use object_defs::Path;
 use octets::Bytes;
 
 /// What a request of a mnemonic asks for (OMA LwM2M 1.1 Core).
-#[derive(Debug, Drop)]
+#[derive(Drop)]
 pub enum Action {
     /// Read, with a format that it accepts.
     Read(Format),

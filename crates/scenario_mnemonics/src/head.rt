@@ -3,7 +3,7 @@ use crate::token::Token;
 use object_defs::Path;
 
 /// What stands first in each request of a mnemonic, its server included.
-#[derive(Debug, Drop)]
+#[derive(Drop)]
 pub struct Head {
     /// The Short Server ID of its server.
     pub server: u16,

@@ -9,7 +9,7 @@ use crate::verb::Keyword;
 use object_defs::Path;
 
 /// A request as a mnemonic says it.
-#[derive(Debug, Drop)]
+#[derive(Drop)]
 pub struct Request {
     /// Its type.
     pub kind: RequestType,
@@ -24,7 +24,7 @@ pub struct Request {
 }
 
 /// A datagram as a mnemonic says it. The server that sends it stands beside it.
-#[derive(Debug, Drop)]
+#[derive(Drop)]
 pub enum Mnemonic {
     /// A request.
     Request(Request),

@@ -10,7 +10,7 @@ use std::marker::Model;
 /// the first is neither `#` nor `"`.
 ///
 /// Contracts see the list of the queries, each a list of bytes.
-#[derive(Debug, Drop)]
+#[derive(Drop)]
 pub struct Queries {
     items: Vec<Bytes>,
 }

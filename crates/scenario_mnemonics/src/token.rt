@@ -6,7 +6,7 @@ use std::marker::Model;
 /// A token of at most 8 bytes (RFC 7252 section 5.3.1).
 ///
 /// Contracts see the list of its bytes.
-#[derive(Debug, Drop)]
+#[derive(Drop)]
 pub struct Token {
     bytes: Bytes,
 }

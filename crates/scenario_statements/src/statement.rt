@@ -4,7 +4,7 @@ use octets::Bytes;
 use scenario_mnemonics::Mnemonic;
 
 /// What a line of scenario text says.
-#[derive(Debug, Drop)]
+#[derive(Drop)]
 pub enum Statement {
     /// `scenario 1`: the text is a scenario of version 1.
     Scenario,

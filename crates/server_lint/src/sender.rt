@@ -1,5 +1,5 @@
 /// Who sent a datagram.
-#[derive(Clone, Copy, Debug, PartialEq, Eq)]
+#[derive(Clone, Copy, PartialEq, Eq)]
 pub enum Sender {
     /// A server, to the device.
     Server,

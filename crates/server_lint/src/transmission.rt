@@ -12,7 +12,7 @@ use std::marker::Model;
 /// A datagram that went between a device and a server. What it says is read once, when it is made.
 ///
 /// Contracts see the record of its other parts.
-#[derive(Debug, Drop)]
+#[derive(Drop)]
 pub struct Transmission {
     step: u32,
     second: u32,

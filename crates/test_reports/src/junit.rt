@@ -9,7 +9,7 @@ use crate::escaping::{Escape, put_escaped};
 use std::alloc::{AllocError, Global};
 
 /// What is said of a test case that fails.
-#[derive(Clone, Copy, Debug)]
+#[derive(Clone, Copy)]
 pub struct Failure<'a> {
     /// In short.
     pub message: &'a str,

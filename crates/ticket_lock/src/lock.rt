@@ -28,11 +28,11 @@ pub struct TicketLock<T: Logged> {
 }
 
 /// No ticket is left: those up to 2^63 - 2 are drawn.
-#[derive(Clone, Copy, PartialEq, Eq, Debug)]
+#[derive(Clone, Copy, PartialEq, Eq)]
 pub struct Spent;
 
 /// The pass lacks a number of the lock.
-#[derive(Clone, Copy, PartialEq, Eq, Debug)]
+#[derive(Clone, Copy, PartialEq, Eq)]
 pub struct PassesOut;
 
 impl<T: Logged + Drop> TicketLock<T> {

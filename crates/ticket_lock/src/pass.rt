@@ -21,7 +21,7 @@ pub struct Pass<T: Logged> {
 }
 
 /// The pass has one number alone, and can't be split.
-#[derive(Clone, Copy, PartialEq, Eq, Debug)]
+#[derive(Clone, Copy, PartialEq, Eq)]
 pub struct OneLeft;
 
 impl<T: Logged + Drop> Pass<T> {

@@ -7,7 +7,7 @@ use std::collections::LinkedList;
 use std::marker::Model;
 use ticket_lock::Logged;
 
-#[derive(Clone, Copy, PartialEq, Eq, Debug)]
+#[derive(Clone, Copy, PartialEq, Eq)]
 pub enum Place {
     Parked,
     Out(u16),

@@ -16,7 +16,7 @@ use json::Writer;
 use std::alloc::{AllocError, Global};
 
 /// What a case states that does not hold.
-#[derive(Clone, Copy, Debug)]
+#[derive(Clone, Copy)]
 pub struct CaseDifference<'a> {
     /// The line of its file, counted from 1, if its number has 64 bits.
     pub line: Option<u64>,
@@ -27,7 +27,7 @@ pub struct CaseDifference<'a> {
 }
 
 /// What a line says of a case that was played.
-#[derive(Clone, Copy, Debug)]
+#[derive(Clone, Copy)]
 pub struct CaseParts<'a> {
     /// Its title.
     pub title: &'a str,

@@ -15,7 +15,7 @@ use json::Writer;
 use std::alloc::{AllocError, Global};
 
 /// What a line says of a fault. What a fault does not have has no member.
-#[derive(Clone, Copy, Debug)]
+#[derive(Clone, Copy)]
 pub struct FaultParts<'a> {
     /// The name of the fault.
     pub name: &'a str,
