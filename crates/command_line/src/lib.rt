@@ -1,7 +1,8 @@
 //! The words of the command line, and what they ask the program to do. Nothing else of the project names `clap`.
 #![tactic(auto)]
 
-mod fleet_arguments;
+mod argument;
+mod commands;
 mod fleet_words;
 mod help;
 mod jobs;
