@@ -24,5 +24,7 @@ pub one_command_further : (first now next added : App) (tables : List Subcommand
     → next ≡ fold with_app first (map app_for (take (i + 1) tables))
 one_command_further first now next added tables i d within sofar same more =
     let table : Subcommand = get_or tables i d in
-    let plain = ap (λ app. app.top.is_plain) same ∙ stays_plain (map rule_for table.arguments.now) (new_app table.name.now) in
+    let plain =
+        ap (λ app. app.top.is_plain) same
+        ∙ stays_plain (map rule_for table.arguments.now) (new_app table.name.now) in
     one_further with_app app_for first now next tables i d within sofar (more plain ∙ ap (λ app. with_app now app) same)
