@@ -2,7 +2,7 @@ use scenario_words::Cause;
 use std::alloc::{AllocError, AllocFailed};
 
 /// Why a file of cases is refused.
-#[derive(Clone, Copy, PartialEq, Eq)]
+#[derive(Clone, Copy)]
 pub enum Why {
     /// The line is not UTF-8.
     NotText,
@@ -41,7 +41,7 @@ pub enum Why {
 }
 
 /// The line of a file of cases that is refused, and why.
-#[derive(Clone, Copy, PartialEq, Eq)]
+#[derive(Clone, Copy)]
 pub struct CaseFault {
     /// The line, counted from 1; 0 where memory ran out for more than one line.
     pub line: usize,

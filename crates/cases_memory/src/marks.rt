@@ -2,7 +2,7 @@
 use std::alloc::Global;
 
 /// What is done around the call that a case is about.
-#[derive(Clone, Copy, PartialEq, Eq)]
+#[derive(Clone, Copy)]
 pub enum Mode {
     /// So many boxes are made before the call, and each is freed at once.
     Boxes(u32),

@@ -14,7 +14,7 @@ use std::fmt;
 use trace_file::WriteFault;
 
 /// Why the program could not do what its words ask for. It prints as the fault's name.
-#[derive(Clone, Copy, PartialEq, Eq)]
+#[derive(Clone, Copy)]
 pub enum Fault {
     /// A word that has to be hex is not.
     Hex,

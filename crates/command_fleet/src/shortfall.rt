@@ -5,7 +5,7 @@ ghost use Rattle.command_fleet.specs.Fleet.{cut_of, ended_of, has_ended, shortfa
 use fleet_link::{Fleet, Slot};
 
 /// What did not last as long as a session.
-#[derive(Clone, Copy, PartialEq, Eq)]
+#[derive(Clone, Copy)]
 pub struct Shortfall {
     /// How many devices ended before: the port of one failed, or its clock was at its end.
     pub ended: usize,

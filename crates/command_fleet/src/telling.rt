@@ -23,7 +23,7 @@ use std::alloc::{AllocError, Global};
 use std::net::SocketAddr;
 
 /// How the seconds of a session are told.
-#[derive(Clone, Copy, PartialEq, Eq)]
+#[derive(Clone, Copy)]
 pub enum Telling {
     /// Not at all.
     Nothing,

@@ -1,5 +1,5 @@
 /// How findings are printed.
-#[derive(Clone, Copy, PartialEq, Eq)]
+#[derive(Clone, Copy)]
 pub enum LintForm {
     /// A line of text for each.
     Text,

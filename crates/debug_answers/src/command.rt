@@ -1,7 +1,7 @@
 use object_defs::Path;
 
 /// What a line of the debugger's input asks for. A device is named by its number.
-#[derive(Clone, Copy, PartialEq, Eq)]
+#[derive(Clone, Copy)]
 pub enum Command {
     /// `at`: the place that is shown.
     At,
@@ -28,7 +28,7 @@ pub enum Command {
 }
 
 /// Where a breakpoint holds.
-#[derive(Clone, Copy, PartialEq, Eq)]
+#[derive(Clone, Copy)]
 pub enum Point {
     /// `at N`: a place, which is a count of entries.
     At(u64),

@@ -4,7 +4,7 @@ use object_defs::Path;
 
 /// A breakpoint. It holds at some places of a run, a place being a number of entries: those before it. At a place, each
 /// kind but the first looks at the entry just before it.
-#[derive(Clone, Copy, PartialEq, Eq)]
+#[derive(Clone, Copy)]
 pub enum Break {
     /// At this place.
     At(usize),
@@ -37,7 +37,7 @@ pub enum Break {
 }
 
 /// Why a resumed debugger stops.
-#[derive(Clone, Copy, PartialEq, Eq)]
+#[derive(Clone, Copy)]
 pub enum Stop {
     /// The breakpoint of this number holds.
     Break(u8),

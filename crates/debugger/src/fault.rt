@@ -5,7 +5,7 @@ use std::error::Error;
 use std::fmt;
 
 /// Why a debugger is not opened.
-#[derive(Clone, Copy, Debug, PartialEq, Eq)]
+#[derive(Clone, Copy, Debug)]
 pub enum OpenFault {
     /// The entries are not a run of the scenario from this one on, counted from 0.
     NotRun(usize),
@@ -41,7 +41,7 @@ impl From<AllocError> for OpenFault {
 }
 
 /// Why a debugger does not move forward.
-#[derive(Clone, Copy, Debug, PartialEq, Eq)]
+#[derive(Clone, Copy, Debug)]
 pub enum ForwardFault {
     /// The run has no such place.
     PastEnd,
@@ -77,7 +77,7 @@ impl From<AllocError> for ForwardFault {
 }
 
 /// Why a debugger does not move back.
-#[derive(Clone, Copy, Debug, PartialEq, Eq)]
+#[derive(Clone, Copy, Debug)]
 pub enum BackFault {
     /// The run has no such place.
     PastStart,
@@ -113,7 +113,7 @@ impl From<AllocError> for BackFault {
 }
 
 /// Why a breakpoint is not added.
-#[derive(Clone, Copy, Debug, PartialEq, Eq)]
+#[derive(Clone, Copy, Debug)]
 pub enum AddFault {
     /// There are 64.
     Full,
@@ -135,7 +135,7 @@ impl fmt::Display for AddFault {
 impl Error for AddFault {}
 
 /// Why a breakpoint is not removed.
-#[derive(Clone, Copy, Debug, PartialEq, Eq)]
+#[derive(Clone, Copy, Debug)]
 pub enum RemoveFault {
     /// There is none of this number.
     NoSuch,
@@ -157,7 +157,7 @@ impl fmt::Display for RemoveFault {
 impl Error for RemoveFault {}
 
 /// Why nothing is shown of a device.
-#[derive(Clone, Copy, Debug, PartialEq, Eq)]
+#[derive(Clone, Copy, Debug)]
 pub enum DeviceFault {
     /// The scenario has no row for it.
     NoDevice,

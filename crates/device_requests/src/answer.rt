@@ -7,7 +7,7 @@ use octets::Bytes;
 use std::alloc::Global;
 
 /// A response code that a device answers (OMA LwM2M 1.1 Transport, RFC 7252 section 12.1.2).
-#[derive(Clone, Copy, PartialEq, Eq)]
+#[derive(Clone, Copy)]
 pub enum Code {
     /// 2.01
     Created,

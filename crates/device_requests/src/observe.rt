@@ -8,7 +8,7 @@ use crate::request::Request;
 use object_defs::Path;
 
 /// What a Read asks of the observation of its server and token.
-#[derive(Clone, Copy, PartialEq, Eq)]
+#[derive(Clone, Copy)]
 pub enum Interest {
     /// To be registered: Observe 0.
     Register {

@@ -17,7 +17,7 @@ const DELETE: u8 = 4;
 pub(crate) const LINK_FORMAT: u16 = 40;
 
 /// The operations of the Device Management interface (OMA LwM2M 1.1 Core).
-#[derive(Clone, Copy, PartialEq, Eq)]
+#[derive(Clone, Copy)]
 pub enum Operation {
     Read,
     Discover,

@@ -20,7 +20,7 @@ use std::alloc::AllocError;
 
 /// What a request asks for, as its options say it. The queries stay in its message: only a
 /// Write-Attributes reads them.
-#[derive(Clone, Copy, PartialEq, Eq)]
+#[derive(Clone, Copy)]
 pub struct Request {
     /// What its Uri-Path names.
     pub path: Path,

@@ -1,5 +1,5 @@
 /// Whether the datagrams of a row are what the lines of a case say.
-#[derive(Clone, Copy, PartialEq, Eq)]
+#[derive(Clone, Copy)]
 pub enum Verdict {
     /// They are.
     Met,

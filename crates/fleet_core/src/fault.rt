@@ -2,7 +2,7 @@ use std::alloc::AllocError;
 use thiserror::Error;
 
 /// Why a fleet commits no step.
-#[derive(Clone, Copy, Debug, PartialEq, Eq, Error)]
+#[derive(Clone, Copy, Debug, Error)]
 pub enum CommitFault {
     /// No entry of the device can be added; nothing changed.
     #[error("not enabled")]

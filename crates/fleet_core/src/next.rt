@@ -7,7 +7,7 @@ ghost use Rattle.fleet_core.specs.Next.{next_of, may_pass};
 use scenario_image::Step;
 
 /// What a device's next step asks for.
-#[derive(Clone, Copy, PartialEq, Eq)]
+#[derive(Clone, Copy)]
 pub enum Next {
     /// The device has no next step.
     End,

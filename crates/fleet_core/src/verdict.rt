@@ -1,5 +1,5 @@
 /// What a list of entries is.
-#[derive(Clone, Copy, PartialEq, Eq)]
+#[derive(Clone, Copy)]
 pub enum Verdict {
     /// It is a run of the scenario.
     Run,

@@ -2,7 +2,7 @@ use crate::ports::PortsFault;
 use std::alloc::AllocError;
 
 /// Why the session of a fleet was broken off, for all of its devices.
-#[derive(Clone, Copy, PartialEq, Eq)]
+#[derive(Clone, Copy)]
 pub enum FleetFault {
     /// The system failed at all ports.
     Ports,

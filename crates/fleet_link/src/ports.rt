@@ -39,7 +39,7 @@ impl Receipt {
 }
 
 /// Why ports can serve no device any more.
-#[derive(Clone, Copy, PartialEq, Eq)]
+#[derive(Clone, Copy)]
 pub enum PortsFault {
     /// The system failed.
     Failed,

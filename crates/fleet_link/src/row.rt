@@ -22,7 +22,7 @@ use std::alloc::{AllocError, Global};
 const LONGEST_WAIT: u64 = 4_294_967_295;
 
 /// How the row of a device goes on.
-#[derive(Clone, Copy, PartialEq, Eq)]
+#[derive(Clone, Copy)]
 pub enum RowState {
     /// Its next step is due at this second of the session.
     Due(u64),

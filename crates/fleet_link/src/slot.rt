@@ -28,7 +28,7 @@ use std::alloc::{AllocError, AllocFailed, Global};
 const MOST_SECONDS: u64 = 86_400;
 
 /// How a device ended, while others of its fleet go on.
-#[derive(Clone, Copy, PartialEq, Eq)]
+#[derive(Clone, Copy)]
 pub enum DeviceEnd {
     /// Its port failed.
     Port,

@@ -31,7 +31,7 @@ const MOST_EVENTS: usize = 1024;
 const TOO_MANY_FILES: i32 = 24;
 
 /// Why the ports of a fleet could not be had.
-#[derive(Clone, Copy, PartialEq, Eq)]
+#[derive(Clone, Copy)]
 pub enum BindFault {
     /// The last of them would be past 65,535.
     PastLast,
@@ -49,7 +49,7 @@ pub enum BindFault {
 
 /// How many datagrams were received, sent, dropped (they came from no account, or were too long) and lost (the system
 /// refused to send them, or the address of the account is not known).
-#[derive(Clone, Copy, PartialEq, Eq)]
+#[derive(Clone, Copy)]
 pub struct Counts {
     pub received: u64,
     pub sent: u64,

@@ -7,7 +7,7 @@ use crate::note::Note;
 use crate::plan::Fate;
 
 /// How many datagrams were lost, doubled, exchanged and delayed.
-#[derive(Clone, Copy, PartialEq, Eq)]
+#[derive(Clone, Copy)]
 pub struct Happened {
     pub lost: u64,
     pub twice: u64,

@@ -10,7 +10,7 @@ use rand_core::utils::NextWord;
 use rand_pcg::Pcg32;
 
 /// Which way a datagram goes.
-#[derive(Clone, Copy, PartialEq, Eq)]
+#[derive(Clone, Copy)]
 pub enum Direction {
     /// To a device.
     In,
@@ -19,7 +19,7 @@ pub enum Direction {
 }
 
 /// What happens to a datagram on the wire.
-#[derive(Clone, Copy, PartialEq, Eq)]
+#[derive(Clone, Copy)]
 pub enum Fate {
     /// It never goes on.
     Lost,

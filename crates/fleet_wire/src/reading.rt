@@ -11,7 +11,7 @@ use std::alloc::Global;
 use std::str;
 
 /// Why a word is no choice.
-#[derive(Clone, Copy, PartialEq, Eq)]
+#[derive(Clone, Copy)]
 pub enum ChoiceFault {
     /// It has no number where one is wanted, or one of 2^32 or more.
     NoNumber,

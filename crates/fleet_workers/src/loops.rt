@@ -15,7 +15,7 @@ use std::sync::Wait;
 use ticket_lock::{Pass, TicketLock};
 
 /// Why a worker has ended.
-#[derive(Clone, Copy, PartialEq, Eq)]
+#[derive(Clone, Copy)]
 pub enum LoopEnd {
     /// Each row is at its end.
     Done,

@@ -70,7 +70,7 @@ fn put_or_stop(trace: &mut Trace, worker: u16, job: Job) -> bool
 }
 
 /// What became of a job that was to be put.
-#[derive(Clone, Copy, PartialEq, Eq)]
+#[derive(Clone, Copy)]
 pub enum Put {
     /// Its entries stand in the trace.
     Made,

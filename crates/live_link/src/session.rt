@@ -2,7 +2,7 @@ use crate::packet::Packet;
 use scenario_image::Step;
 
 /// How a session ended.
-#[derive(Clone, Copy, PartialEq, Eq)]
+#[derive(Clone, Copy)]
 pub enum LiveEnd {
     /// All turns were made.
     Turns,

@@ -4,7 +4,7 @@ ghost use Rattle.live_link.specs.Wire.{Traffic, Carries, traffic_of_receive, tra
 use crate::packet::Packet;
 
 /// Why a wire neither receives nor sends.
-#[derive(Clone, Copy, PartialEq, Eq)]
+#[derive(Clone, Copy)]
 pub enum WireFault {
     /// The wire failed.
     Failed,

@@ -4,7 +4,7 @@ use object_defs::Path;
 
 /// Why content is due: the first of gt, lt and st that holds of the last report and the present value, or what else it
 /// is.
-#[derive(Clone, Copy, PartialEq, Eq)]
+#[derive(Clone, Copy)]
 pub enum DueBy {
     /// One of the numbers is above gt, and the other is not.
     Gt {
@@ -43,7 +43,7 @@ pub enum DueBy {
 }
 
 /// Why an observation sends in a second (docs/device/observe.md).
-#[derive(Clone, Copy, PartialEq, Eq)]
+#[derive(Clone, Copy)]
 pub enum NotificationReason {
     /// Its present answer is content, and due.
     Due {
@@ -69,7 +69,7 @@ pub enum NotificationReason {
 }
 
 /// A datagram that a device sends for an observation.
-#[derive(Clone, Copy, PartialEq, Eq)]
+#[derive(Clone, Copy)]
 pub struct Sending {
     /// What is observed.
     pub path: Path,

@@ -63,7 +63,7 @@ fn unread(message: &Message, code: Code) -> Result<Reason, AllocError>
 }
 
 /// Which line of an operation's rules decides.
-#[derive(Clone, Copy, PartialEq, Eq)]
+#[derive(Clone, Copy)]
 enum Ruling {
     Security,
     Target,

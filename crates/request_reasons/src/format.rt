@@ -15,7 +15,7 @@ use lwm2m_payloads::{Format, format_for};
 use object_defs::{Catalog, Path, ResourceDef};
 
 /// The formats that are served at a path, for an operation.
-#[derive(Clone, Copy, PartialEq, Eq)]
+#[derive(Clone, Copy)]
 pub enum Served {
     /// TLV: several values, and the values of a new instance.
     TlvAlone,

@@ -30,7 +30,7 @@ use object_defs::{InstancePath, Path, ResourceDef, ResourcePath};
 use std::alloc::{AllocError, Global};
 
 /// The State of a device's firmware (OMA LwM2M 1.1 Core, Firmware Update).
-#[derive(Clone, Copy, PartialEq, Eq)]
+#[derive(Clone, Copy)]
 pub enum FirmwareState {
     /// There is no instance 0 of Firmware Update.
     NoInstance,
@@ -47,7 +47,7 @@ pub enum FirmwareState {
 }
 
 /// A limit that would be passed (this profile).
-#[derive(Clone, Copy, PartialEq, Eq)]
+#[derive(Clone, Copy)]
 pub enum Limit {
     /// A payload has 1,024 bytes at most.
     Size,

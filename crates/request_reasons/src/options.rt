@@ -13,7 +13,7 @@ use coap_codec::option_number::{
 use device_requests::{has_known_form, repeats};
 
 /// Why an option that must be understood is not recognized.
-#[derive(Clone, Copy, PartialEq, Eq)]
+#[derive(Clone, Copy)]
 pub enum OptionFault {
     /// No option of its number is.
     Unknown,

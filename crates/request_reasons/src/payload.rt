@@ -57,7 +57,7 @@ pub enum PayloadFault {
 }
 
 /// Why a record is refused.
-#[derive(Clone, Copy, PartialEq, Eq)]
+#[derive(Clone, Copy)]
 pub enum RecordFault {
     /// Its number is not that of the path.
     Number,

@@ -22,7 +22,7 @@ use object_defs::resource_number::ACCESS_CONTROL_OWNER;
 const CREATION: u16 = 65535;
 
 /// A letter of a right: Read, Write, Execute, Delete or Create (OMA LwM2M 1.1 Core).
-#[derive(Clone, Copy, PartialEq, Eq)]
+#[derive(Clone, Copy)]
 pub enum Letter {
     R,
     W,
@@ -33,7 +33,7 @@ pub enum Letter {
 
 /// What decides the right of a server on an instance, in a device with several accounts: the first of these that
 /// applies (docs/device/access.md).
-#[derive(Clone, Copy, PartialEq, Eq)]
+#[derive(Clone, Copy)]
 pub enum Grant {
     /// The instance is one of Access Control itself: its owner has R and W, every other server R.
     OfControl {

@@ -10,7 +10,7 @@ use instance_store::Store;
 use object_defs::{Catalog, InstancePath, Path};
 
 /// What of a path is not there, from the object down.
-#[derive(Clone, Copy, PartialEq, Eq)]
+#[derive(Clone, Copy)]
 pub enum Missing {
     /// The device does not know the object.
     Object,

@@ -2,7 +2,7 @@ use scenario_words::Cause;
 use thiserror::Error;
 
 /// The first line of a text that is refused, and why.
-#[derive(Clone, Copy, Debug, PartialEq, Eq, Error)]
+#[derive(Clone, Copy, Debug, Error)]
 #[error("line {line}: {cause}")]
 pub struct AsmFault {
     /// The line, counted from 1.

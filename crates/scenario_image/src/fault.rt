@@ -3,7 +3,7 @@ use thiserror::Error;
 
 /// Why a scenario refuses a class, a row or a step, in the order in which they are found. A refused call changes
 /// nothing.
-#[derive(Clone, Copy, Debug, PartialEq, Eq, Error)]
+#[derive(Clone, Copy, Debug, Error)]
 pub enum ScenarioFault {
     /// A number of the step that is out of its range, or a path of one or two numbers.
     #[error("range")]

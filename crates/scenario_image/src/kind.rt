@@ -9,7 +9,7 @@ use device_machine::Event;
 use std::alloc::AllocError;
 
 /// The kind of a step.
-#[derive(Clone, Copy, PartialEq, Eq)]
+#[derive(Clone, Copy)]
 pub(crate) enum StepKind {
     /// A datagram arrives.
     Recv,

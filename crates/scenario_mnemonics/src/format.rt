@@ -1,5 +1,5 @@
 /// The format that a mnemonic names (CoAP Content-Formats; OMA LwM2M 1.1 Core).
-#[derive(Clone, Copy, PartialEq, Eq)]
+#[derive(Clone, Copy)]
 pub enum Format {
     /// No option, `any`.
     Any,

@@ -4,7 +4,7 @@ ghost use Rattle.scenario_mnemonics.specs.MnemonicWords.{verb_word, keyword_word
 use scenario_words::is_name;
 
 /// What a request asks for, as its keyword says it.
-#[derive(Clone, Copy, PartialEq, Eq)]
+#[derive(Clone, Copy)]
 pub enum Verb {
     /// `read`
     Read,
@@ -29,7 +29,7 @@ pub enum Verb {
 }
 
 /// The first word of a mnemonic.
-#[derive(Clone, Copy, PartialEq, Eq)]
+#[derive(Clone, Copy)]
 pub enum Keyword {
     /// Of a request.
     Request(Verb),

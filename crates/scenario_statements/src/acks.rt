@@ -12,7 +12,7 @@ use scenario_words::{Cause, end, is_name, natural, next_word};
 use std::alloc::{AllocError, Global};
 
 /// An Empty ACK that comes from a server (RFC 7252 section 4.2).
-#[derive(Clone, Copy, PartialEq, Eq)]
+#[derive(Clone, Copy)]
 pub struct Ack {
     /// The Short Server ID of the server.
     pub server: u16,

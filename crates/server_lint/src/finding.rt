@@ -9,7 +9,7 @@ use crate::transmission::Transmission;
 use std::alloc::{AllocError, Global};
 
 /// A datagram of a history that breaks a rule.
-#[derive(Clone, Copy, PartialEq, Eq)]
+#[derive(Clone, Copy)]
 pub struct Finding {
     /// Its place in the history, counted from 0.
     pub place: usize,

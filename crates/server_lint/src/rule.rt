@@ -3,7 +3,7 @@ ghost use Rattle.std.specs.Prelude.{◌≡◌};
 ghost use Rattle.server_lint.specs.Names.{rule_name, section_of, standard_of, summary_of};
 
 /// A rule that a server breaks.
-#[derive(Clone, Copy, PartialEq, Eq)]
+#[derive(Clone, Copy)]
 pub enum Rule {
     /// Its bytes are a CoAP message.
     NotAMessage,

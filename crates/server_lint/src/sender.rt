@@ -1,5 +1,5 @@
 /// Who sent a datagram.
-#[derive(Clone, Copy, PartialEq, Eq)]
+#[derive(Clone, Copy)]
 pub enum Sender {
     /// A server, to the device.
     Server,

@@ -63,7 +63,7 @@ impl Model for Job {
 }
 
 /// Why a job makes no more steps.
-#[derive(Clone, Copy, PartialEq, Eq)]
+#[derive(Clone, Copy)]
 pub enum AdvanceFault {
     /// No memory was left. The job can only be given up.
     Memory,

@@ -2,7 +2,7 @@ use std::alloc::AllocError;
 use thiserror::Error;
 
 /// Why a trace file was not written.
-#[derive(Clone, Copy, Debug, PartialEq, Eq, Error)]
+#[derive(Clone, Copy, Debug, Error)]
 pub enum WriteFault {
     /// The count of the entries or of an entry's outputs, or the length of a datagram, is past its field: the entries
     /// have no trace file.

@@ -2,7 +2,7 @@ use std::alloc::AllocError;
 use thiserror::Error;
 
 /// Why a trace has no capture file.
-#[derive(Clone, Copy, Debug, PartialEq, Eq, Error)]
+#[derive(Clone, Copy, Debug, Error)]
 pub enum PcapFault {
     /// A datagram has more than 65,507 bytes, the most that UDP over IPv4 carries.
     #[error("datagram too long")]

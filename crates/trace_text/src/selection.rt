@@ -10,7 +10,7 @@ use trace_file::Entry;
 
 /// Which entries of a trace are asked for: of one device, or of all; and from one number to another one, counted from
 /// 0, both of which belong to them.
-#[derive(Clone, Copy, PartialEq, Eq)]
+#[derive(Clone, Copy)]
 pub struct Selection {
     /// The number of the device, if the entries of one alone are asked for.
     pub device: Option<u16>,
@@ -21,7 +21,7 @@ pub struct Selection {
 }
 
 /// Why a trace has no text of the entries that are asked for.
-#[derive(Clone, Copy, PartialEq, Eq)]
+#[derive(Clone, Copy)]
 pub enum SelectionFault {
     /// The scenario has no device of this number.
     NoDevice,
