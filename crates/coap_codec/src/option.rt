@@ -26,7 +26,10 @@ pub struct Options {
 /// By hand, so that a caller's proof has one step where it is dropped, and no case for each of its parts.
 impl Drop for Options {
     fn drop(self) {
-        let Options { alloc: _, items: _items } = self;
+        let Options {
+            alloc: _,
+            items: _items,
+        } = self;
     }
 }
 

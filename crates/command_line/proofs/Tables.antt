@@ -25,6 +25,6 @@ pub one_command_further : (first now next added : App) (tables : List Subcommand
 one_command_further first now next added tables i d within sofar same more =
     let table : Subcommand = get_or tables i d in
     let plain =
-        ap (λ app. app.top.is_plain) same
-        ∙ stays_plain (map rule_for table.arguments.now) (new_app table.name.now) in
+    ap (λ app. app.top.is_plain) same
+    ∙ stays_plain (map rule_for table.arguments.now) (new_app table.name.now) in
     one_further with_app app_for first now next tables i d within sofar (more plain ∙ ap (λ app. with_app now app) same)

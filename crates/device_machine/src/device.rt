@@ -35,7 +35,10 @@ pub struct Device {
 /// By hand, so that a caller's proof has one step where it is dropped, and no case for each of its parts.
 impl Drop for Device {
     fn drop(self) {
-        let Device { machine: _machine, spent: _ } = self;
+        let Device {
+            machine: _machine,
+            spent: _,
+        } = self;
     }
 }
 

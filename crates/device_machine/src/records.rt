@@ -58,7 +58,10 @@ pub(crate) struct Records {
 /// By hand, so that a caller's proof has one step where it is dropped, and no case for each of its parts.
 impl Drop for Records {
     fn drop(self) {
-        let Records { alloc: _, index: _index } = self;
+        let Records {
+            alloc: _,
+            index: _index,
+        } = self;
     }
 }
 
