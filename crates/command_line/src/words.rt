@@ -412,14 +412,22 @@ fn told(alloc: Global, error: &Error) -> Result<String, AllocError>
 
 /// The text on words that `clap` took, and that ask for nothing.
 fn usage(alloc: Global, found: &ArgMatches) -> Result<String, AllocError> {
+    match mistake_in(found) {
+        Some(text) => String::from_str(alloc, text),
+        None => bench(alloc)?.render_help(),
+    }
+}
+
+/// What is wrong with the words of a command, if they exclude each other or lack one.
+fn mistake_in(found: &ArgMatches) -> Option<&'static str> {
     match found.subcommand() {
-        Some(("test", test)) => String::from_str(alloc, test_usage(test)),
-        Some(("lint", lint)) => String::from_str(alloc, lint_usage(lint)),
-        Some(("fleet", fleet)) => String::from_str(alloc, fleet_usage(fleet)),
-        Some(("show", _)) => String::from_str(alloc, SHOW_JSON_AND_WHY),
-        Some(("play", _)) => String::from_str(alloc, PLAY_JSON_AND_WHY),
-        Some(("one", _)) => String::from_str(alloc, ONE_JSON_AND_WHY),
-        _ => bench(alloc)?.render_help(),
+        Some(("test", test)) => Some(test_usage(test)),
+        Some(("lint", lint)) => Some(lint_usage(lint)),
+        Some(("fleet", fleet)) => Some(fleet_usage(fleet)),
+        Some(("show", _)) => Some(SHOW_JSON_AND_WHY),
+        Some(("play", _)) => Some(PLAY_JSON_AND_WHY),
+        Some(("one", _)) => Some(ONE_JSON_AND_WHY),
+        _ => None,
     }
 }
 
