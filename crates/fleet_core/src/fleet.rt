@@ -15,6 +15,7 @@ use trace_file::{Entries, Entry};
 
 /// The devices of a scenario, and the entries that they have made: a run. Contracts see the scenario, the entries, and
 /// whether a lack of memory has spent the fleet.
+#[derive(Drop)]
 pub struct Fleet<'a> {
     alloc: Global,
     scenario: &'a Scenario,
@@ -23,21 +24,6 @@ pub struct Fleet<'a> {
     posts: Vec<u32>,
     entries: Entries,
     spent: bool,
-}
-
-/// By hand, so that a caller's proof has one step where it is dropped, and no case for each of its parts.
-impl Drop for Fleet<'_> {
-    fn drop(self) {
-        let Fleet {
-            alloc: _,
-            scenario: _,
-            devices: _devices,
-            made: _made,
-            posts: _posts,
-            entries: _entries,
-            spent: _,
-        } = self;
-    }
 }
 
 impl<'a> Model for Fleet<'a> {
@@ -126,16 +112,7 @@ impl<'a> Fleet<'a> {
     pub fn into_entries(self) -> Entries
         ensures { result ≡ self.entry.entries }
     {
-        let Fleet {
-            alloc: _,
-            scenario: _,
-            devices: _devices,
-            made: _made,
-            posts: _posts,
-            entries,
-            spent: _,
-        } = self;
-        entries
+        self.entries
     }
 
     /// Lets the device make its next step, under the worker's number, and adds just that entry. `NotEnabled`, exactly

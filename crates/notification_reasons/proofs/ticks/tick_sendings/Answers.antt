@@ -1,4 +1,4 @@
-use Rattle.std.proofs.Common.{sym, subst, arith}
+use Rattle.std.proofs.Common.{sym, subst, arith, ap, Err}
 use Rattle.device_machine.specs.Reactions.{flat_after_seconds}
 use Rattle.device_machine.specs.State.{Shows}
 use Rattle.notification_reasons.specs.Sendings.{AreTickSendings}
@@ -39,3 +39,12 @@ returns c = λ f shows ends.
     all_told f c.args.count c.loop-wait.passed c.loop-wait.told.items within h.1
     (c.in_default.ensures.quiet (flat_after_seconds f c.loop-wait.passed) h.0
     (fits_rest f c.args.count c.loop-wait.passed within ends))
+
+pub returns-in-Err-Spent : goal.returns-in-Err-Spent
+returns-in-Err-Spent c = λ f shows ends.
+    let n = c.args.count in
+    let passed = c.loop-wait.passed in
+    let h = c.loop-wait.invariant.so_far f shows ends in
+    let less = c.in-Some-next_wait.ensures.within.1 in
+    let goes = goes_there f n passed c.in-Some-next_wait.wait c.loop-wait.invariant.within less ends in
+    absurd (c.in-Err-Spent.ensures.goes (flat_after_seconds f passed) h.0 goes (ap Err c.in-Err-Spent.field-0-is))
