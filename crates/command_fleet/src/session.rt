@@ -45,7 +45,7 @@ use std::rt::Clock;
 /// second, what goes through the ports, and the end. Then, if there is a path, the image, in version 2, of the scenario
 /// whose rows have the devices' steps is made there; and each minute before it one of their steps so far, beside the
 /// path. No other file is made, and at a fault just those that came before it. The status tells of datagrams that were
-/// dropped or lost, if that is asked for. Of what standard input has nothing is said.
+/// dropped or lost, if that is asked for. Nothing is promised about the content of standard input.
 #[tactic(auto, using(crate::proofs::Sessions::source_refused, crate::proofs::Sessions::devices_missing, crate::proofs::Sessions::part_refused, crate::proofs::Sessions::place_refused, crate::proofs::Sessions::plan_refused, crate::proofs::Sessions::servers_refused, crate::proofs::Sessions::ports_refused))]
 pub fn fleet<'a, R: Net + Clock + Input, F: Files, O: Output, E: Output>(
     rt: &R,

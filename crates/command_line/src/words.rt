@@ -86,7 +86,7 @@ const RULES_WITH_REASONS: &str = "error: the argument '--why' cannot be used wit
 pub enum TraceForm {
     /// As text.
     Text,
-    /// As text, and below what a datagram that arrives says why the device handles it so.
+    /// As text, and below each datagram that arrives why the device answered like that.
     Reasons,
     /// As an object in JSON for each.
     JsonLines,

@@ -1,4 +1,4 @@
--- What stands below the line of a finding: why the device handles so what it received.
+-- The lines below that of a finding: why the device answered like that.
 use Rattle.std.specs.Prelude.{ℕ, ◌≡◌, List, [], Option, None, Some}
 use Rattle.device_machine.specs.State.{Machine}
 use Rattle.device_template.specs.Template.{Template}
@@ -13,7 +13,7 @@ use Rattle.server_lint.specs.declared.sender.Sender.TheVariants.{Server, Device}
 use Rattle.command_lint.specs.declared.form.LintForm.{LintForm}
 use Rattle.command_lint.specs.declared.form.LintForm.TheVariants.{Text, Reasons, JsonLines}
 
--- the lines why a device in this flat state handles so what arrives in a step, if there is one
+-- the lines why a device in this flat state answers like that in a step, if there is one
 abbrev pub AreLinesOf : Machine → Option Step → List ℕ → Type 0
 AreLinesOf f None lines = lines ≡ []
 AreLinesOf f (Some step) lines = AreReasonLines f step lines

@@ -70,8 +70,8 @@ fn tell_rules<'a>(alloc: Global, rules: &[Rule]) -> Result<Answer<'a>, AllocErro
 
 /// `lint FILE [--only RULE] .. [--not RULE] .. [--json] [--why]`: what servers did wrong in the rows of the scenario
 /// whose image or text the file is: a line for each finding, and one that counts them, as text or as an object; with
-/// `--why` below each datagram that a server sent the line why the device handles it so. The status is 3 where there is
-/// a finding. `lint --rules` names no file: a line of text for each rule. The rules are those after
+/// `--why` below each datagram that a server sent the line why the device answered like that. The status is 3 where
+/// there is a finding. `lint --rules` names no file: a line of text for each rule. The rules are those after
 /// `--only`, or all if there are none, less those after `--not`. A word that is the name of no rule is told, with
 /// status 2, and the file is not read.
 #[tactic(auto, using(crate::proofs::Linted::unknown_rule, crate::proofs::Linted::told, crate::proofs::Linted::linted, crate::proofs::Linted::unread))]

@@ -101,7 +101,7 @@ fn move_to(
     Ok(())
 }
 
-/// The lines why the device handles so what arrives in a step of its row: one for a datagram, else none.
+/// The lines why the device answered like that in a step of its row: one if a datagram arrives, else none.
 #[tactic(auto, using(crate::proofs::Below::no_step, crate::proofs::Below::step_within, crate::proofs::Below::of_step))]
 fn reasons_at(
     alloc: Global,

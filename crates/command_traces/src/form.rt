@@ -3,7 +3,7 @@
 pub enum TraceForm {
     /// As text.
     Text,
-    /// As text, and below what an arriving datagram says why the device handles it so.
+    /// As text, and below each arriving datagram why the device answered like that.
     Reasons,
     /// As an object in JSON for each.
     JsonLines,

@@ -18,8 +18,8 @@ pub record PlannedWire : Type 0 where
   pub plan : Plan
   pub devices : ℕ
 
--- Of ports: the wire between the devices and them, if there is one; what they told when they began to be shown, if they
--- are; and what was taken since, what the wire did and what devices received and sent.
+-- Of ports: the wire between them and the devices, if there is one; the traffic that they had told before they were
+-- shown, if they are; and what was taken since: notes of what the wire did, and datagrams that devices received or sent.
 pub record WatchedPorts : Type 0 where
   pub wire : Option PlannedWire
   pub began : Option (ℕ → Option Traffic)

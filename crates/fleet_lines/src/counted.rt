@@ -26,7 +26,7 @@ pub trait Counted: Ports {
     /// How many datagrams the ports carried.
     ghost counted: { Self → CountsData };
 
-    /// The wire between the devices and the ports, what they told when they began to be shown, and what was taken.
+    /// The wire, the traffic that the ports had told before they were shown, and the notes and lines taken since.
     ghost watched: { Self → WatchedPorts };
 
     /// What the wire did, and was not taken yet.

@@ -20,7 +20,7 @@ use Rattle.trace_text.specs.Seconds.{second_at}
 use Rattle.trace_text.specs.Selection.{numbered_entries, selected_entries}
 use Rattle.trace_text.specs.declared.selection.Selection.{Selection}
 
--- the lines why a device in this flat state handles so what arrives in a step: one for a datagram, else none
+-- the lines why a device in this flat state answers like that in a step: one if a datagram arrives, else none
 abbrev pub AreReasonLines : Machine → Step → List ℕ → Type 0
 AreReasonLines f (Event (Recv server bytes)) lines = IsReasonLine f server bytes lines
 AreReasonLines f (Event (Put path value)) lines = lines ≡ []

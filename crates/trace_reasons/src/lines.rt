@@ -16,7 +16,7 @@ use std::alloc::{AllocError, Global};
 use trace_file::Entry;
 use trace_text::{Transcript, sent_text};
 
-/// The lines why a device handles so what arrives in a step: one for a datagram, else none.
+/// The lines why a device answers like that in a step: one if a datagram arrives, else none.
 pub fn reason_lines(alloc: Global, device: &Device, step: &Step) -> Result<String, AllocError>
     ensures { (f : FlatState) → Shows device.now f
         → IfOk result (λ lines. AreReasonLines f step.now (string_bytes lines)) }
