@@ -19,7 +19,7 @@ pub record PlannedWire : Type 0 where
   pub devices : ℕ
 
 -- Of ports: the wire between them and the devices, if there is one; the traffic that they had told before they were
--- shown, if they are; and what was taken since: notes of what the wire did, and datagrams that devices received or sent.
+-- shown, if they are; and all that was taken since: notes of the wire, and datagrams that devices received or sent.
 pub record WatchedPorts : Type 0 where
   pub wire : Option PlannedWire
   pub began : Option (ℕ → Option Traffic)
