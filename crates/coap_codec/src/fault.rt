@@ -2,7 +2,7 @@ use std::alloc::{AllocError, AllocFailed};
 use thiserror::Error;
 
 /// Why bytes are not a message (RFC 7252 section 3), by number; `Memory`: an allocation failed.
-#[derive(Clone, Copy, Debug, PartialEq, Eq, Error)]
+#[derive(Clone, Copy, Debug, Error)]
 pub enum CoapFault {
     /// Fewer than four bytes.
     #[error("fewer than four bytes")]

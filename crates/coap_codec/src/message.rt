@@ -9,7 +9,6 @@ use std::marker::Model;
 /// where an empty payload is none.
 ///
 /// Contracts see the record of its parts.
-#[derive(Clone)]
 pub struct Message {
     kind: Kind,
     code: u8,

@@ -8,7 +8,7 @@ use std::marker::Model;
 use std::{mem, slice};
 
 /// An option: its number and its value (RFC 7252 section 5.4).
-#[derive(Clone, PartialEq, Eq, Drop)]
+#[derive(Drop)]
 pub struct Opt {
     pub number: u16,
     pub value: Bytes,
@@ -17,7 +17,6 @@ pub struct Opt {
 /// The options of a message, in the order in which they stand.
 ///
 /// Contracts see the list of the options.
-#[derive(Clone)]
 pub struct Options {
     alloc: Global,
     items: Items,
@@ -34,7 +33,7 @@ impl Drop for Options {
 }
 
 /// One option, or a list of others.
-#[derive(Clone, Drop)]
+#[derive(Drop)]
 enum Items {
     One(Opt),
     Listed(Vec<Opt>),

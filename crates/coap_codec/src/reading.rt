@@ -1,10 +1,11 @@
 ghost use Rattle.std.specs.Prelude.{◌≡◌, ◌≢◌, ◌≤◌, ◌<◌, ◌+◌, ◌*◌, ◌++◌, ◌∷◌, List, ℕ, [], length, drop, IfOk, IfErr};
-ghost use Rattle.std.specs.Prelude.{IfSome, IfNone, IsErrAnd, IsOk, IsOkAnd, MatchOption, MatchResult, Some, None, Ok};
+ghost use Rattle.std.specs.Prelude.{IfSome, IfNone, OnOk, IsErrAnd, IsOk, IsOkAnd, MatchOption, MatchResult, Some, None, Ok};
 ghost use Rattle.std.specs.Prelude.{Err, true};
 ghost use Rattle.std.specs.Result.{result_ok};
 ghost use Rattle.coap_codec.specs.Message.{Message, MayFollow, IsOptionList, Spells, kind_number, two_bytes, nibble_of};
 ghost use Rattle.coap_codec.specs.Message.{extension_of, option_bytes, options_bytes, payload_bytes};
 ghost use Rattle.coap_codec.specs.Fault.{token_length, header_fault, width, amount, option_fault, place_fault};
+ghost use Rattle.coap_codec.specs.Fault.{last_number};
 ghost use Rattle.coap_codec.specs.Fault.{BreaksOff, HasFault, HasEarlyFault, is_empty_message};
 ghost use Rattle.coap_codec.specs.Reading.{reading_of};
 
@@ -93,12 +94,21 @@ fn start_of(bytes: &[u8]) -> Result<Front<'_>, CoapFault>
     })
 }
 
-/// The option of this first byte, after one of this number, and what stands after it.
-fn option_at(alloc: Global, number: u16, first: u8, bytes: &[u8]) -> Result<(Opt, &[u8]), CoapFault>
-    ensures follows { IfOk result (λ x. MayFollow number x.0) }
-    ensures parts { IfOk result (λ x. first ∷ bytes.now ≡ option_bytes number x.0 ++ x.1.now) }
-    ensures fault { IfErr result (λ f. f ≢ CoapFault.Memory → option_fault number first bytes.now ≡ Some f) }
-    ensures refused { (f : CoapFault) → option_fault number first bytes.now ≡ Some f → result ≡ Err f }
+/// The number of an option, its value, and what stands after them.
+#[derive(Drop)]
+struct OptionFront<'a> {
+    number: u16,
+    value: &'a [u8],
+    rest: &'a [u8],
+}
+
+/// The option of this first byte, after one of this number.
+fn option_at(number: u16, first: u8, bytes: &[u8]) -> Result<OptionFront<'_>, CoapFault>
+    ensures follows { IfOk result (λ x. MayFollow number (record { number = x.number; value = x.value.now })) }
+    ensures parts { IfOk result (λ x. first ∷ bytes.now
+        ≡ option_bytes number (record { number = x.number; value = x.value.now }) ++ x.rest.now) }
+    ensures sound { IfOk result (λ _. option_fault number first bytes.now ≡ None) }
+    ensures fault { IfErr result (λ f. option_fault number first bytes.now ≡ Some f) }
 {
     let high = first / 16;
     let low = first % 16;
@@ -120,9 +130,38 @@ fn option_at(alloc: Global, number: u16, first: u8, bytes: &[u8]) -> Result<(Opt
         return Err(CoapFault::OptionCut);
     }
     let (value, rest) = rest.split_at(length);
-    let value = Bytes::from_slice(alloc, value)?;
     let number = number as u16;
-    Ok((Opt { number, value }, rest))
+    Ok(OptionFront {
+        number,
+        value,
+        rest,
+    })
+}
+
+/// Adds the option of this first byte to options of which the last has this number, and returns its number and what
+/// stands after it.
+fn push_option<'a>(
+    alloc: Global,
+    found: &mut Vec<Opt>,
+    number: u16,
+    first: u8,
+    bytes: &'a [u8],
+) -> Result<(u16, &'a [u8]), CoapFault>
+    requires last { number ≡ last_number 0 found.old.items }
+    requires list { IsOptionList 0 found.old.items }
+    ensures last { IfOk result (λ x. x.0 ≡ last_number 0 found.new.items) }
+    ensures list { OnOk result (IsOptionList 0 found.new.items) }
+    ensures parts { IfOk result (λ x. options_bytes 0 found.old.items ++ first ∷ bytes.now
+        ≡ options_bytes 0 found.new.items ++ x.1.now) }
+    ensures shorter { IfOk result (λ x. length x.1.now ≤ length bytes.now) }
+    ensures fault { IfErr result (λ f. f ≢ CoapFault.Memory → option_fault number first bytes.now ≡ Some f) }
+    ensures refused { (f : CoapFault) → option_fault number first bytes.now ≡ Some f → result ≡ Err f }
+{
+    let option = option_at(number, first, bytes)?;
+    let value = Bytes::from_slice(alloc, option.value)?;
+    let number = option.number;
+    found.push(Opt { number, value })?;
+    Ok((number, option.rest))
 }
 
 /// The options, in the memory of this list, and the payload after them.
@@ -146,10 +185,7 @@ fn options_at(alloc: Global, spare: Vec<Opt>, bytes: &[u8]) -> Result<(Vec<Opt>,
             }
             return Ok((found, after));
         }
-        let (option, behind) = option_at(alloc, number, *first, after)?;
-        number = option.number;
-        found.push(option)?;
-        rest = behind;
+        (number, rest) = push_option(alloc, &mut found, number, *first, after)?;
     }
     Ok((found, rest))
 }

@@ -11,7 +11,7 @@ use std::alloc::{AllocError, Global};
 use std::marker::Model;
 
 /// The operations that a resource has (OMA LwM2M 1.1 Core).
-#[derive(Clone, Copy, PartialEq, Eq)]
+#[derive(Clone, Copy)]
 pub enum Ops {
     /// Read.
     R,
@@ -56,7 +56,7 @@ impl Ops {
 }
 
 /// The definition of a resource of an object.
-#[derive(Clone, Copy, PartialEq, Eq)]
+#[derive(Clone, Copy)]
 pub struct ResourceDef {
     /// The resource's number.
     pub id: u16,

@@ -3,7 +3,7 @@ use thiserror::Error;
 
 /// Why a catalog refuses an object or a resource, in the order in which they are found. A refused call changes
 /// nothing.
-#[derive(Clone, Copy, Debug, PartialEq, Eq, Error)]
+#[derive(Clone, Copy, Debug, Error)]
 pub enum CatalogFault {
     /// The number is not a vendor object's, or there is no such vendor object, or an executable resource is multiple or
     /// of another kind than Text.

@@ -6,7 +6,7 @@ use std::alloc::{AllocError, Global};
 
 /// A path to an object, an object instance, a resource or a resource instance (a part), by their
 /// numbers (OMA LwM2M 1.1 Core).
-#[derive(Clone, Copy, PartialEq, Eq)]
+#[derive(Clone, Copy)]
 pub enum Path {
     /// Object.
     Object(u16),
@@ -46,7 +46,7 @@ impl FullPath {
 }
 
 /// The path to a resource.
-#[derive(Clone, Copy, PartialEq, Eq)]
+#[derive(Clone, Copy)]
 pub struct ResourcePath {
     /// The object's number.
     pub object: u16,
