@@ -606,19 +606,68 @@ tree-empty = map.same_map instance_total instance_exact _ _ (λ q.
     (map.get-empty {X = TableOf InstanceValues} nat_cmp q.object)
     ∙ sym (map.get-empty {X = InstanceValues} instance_cmp q))
 
-pub store-empty : stored_from map.empty ≡ empty
-store-empty =
-    let values : joined_map {R = path_cmp} path_below (tree map.empty) ≡ map.empty =
-    ap (joined_map path_below) tree-empty
+-- objects without an instance hold nothing
+pub stored-none : (o : Objects) → tree o ≡ map.empty → stored_from o ≡ empty
+stored-none o none =
+    let values : joined_map {R = path_cmp} path_below (tree o) ≡ map.empty =
+    ap (joined_map path_below) none
     ∙ map.same_map path_total path_exact _ _ (λ q.
     get-joined_map value_nesting map.empty q
     ∙ ap (λ (s : Option InstanceValues). inside s (q.resource, q.part))
     (map.get-empty {X = InstanceValues} instance_cmp (instance_below q))
     ∙ sym (map.get-empty {X = Value} path_cmp q)) in
-    let instances : keys_as_set (tree map.empty) ≡ map.empty =
-    ap keys_as_set tree-empty
+    let instances : keys_as_set (tree o) ≡ map.empty =
+    ap keys_as_set none
     ∙ map.same_map instance_total instance_exact _ _ (λ q.
     get-keys instance_total instance_exact map.empty q
     ∙ ap mark (map.get-empty {X = InstanceValues} instance_cmp q)
     ∙ sym (map.get-empty {X = Unit {0}} instance_cmp q)) in
     λ i. record { values = values i; instances = instances i }
+
+pub store-empty : stored_from map.empty ≡ empty
+store-empty = stored-none map.empty tree-empty
+
+-- the instances that are left are those of all objects
+abbrev pub Left : Objects → ℕ → Type 0
+Left o i = flat_entries place (drop i (map.entries o)) ≡ map.entries (tree o)
+
+pub left_all : (o : Objects) → Left o 0
+left_all o = sym (entries-joined_map instance_nesting o)
+
+no_entries : {X : Type 0} (xs : List X) → length xs ≡ 0 → xs ≡ []
+no_entries [] h = refl
+no_entries (x ∷ xs) h = absurd (omega (arith, h))
+
+-- an object without an instance is passed
+pub left_next : (o : Objects) (i : ℕ) (e : ℕ × TableOf InstanceValues) → Left o i
+    → slice_get (map.entries o) i ≡ Some e → map.len e.1 ≡ 0 → Left o (i + 1)
+left_next o i e left here none =
+    ap (λ es. block place e.0 es ++ flat_entries place (drop (i + 1) (map.entries o)))
+    (sym (no_entries (map.entries e.1) (sym (map.len-entries e.1) ∙ none)))
+    ∙ ap (flat_entries place) (sym (next_of (map.entries o) i e here))
+    ∙ left
+
+pub left_none : (o : Objects) (i : ℕ) → Left o i → drop i (map.entries o) ≡ [] → stored_from o ≡ empty
+left_none o i left done =
+    let none : map.entries (tree o) ≡ [] = sym left ∙ ap (flat_entries place) done in
+    stored-none o (map.empty_of_len (tree o) (map.len-entries (tree o) ∙ ap length none))
+
+has_entry : (n : ℕ) (es : List (ℕ × InstanceValues)) (rest : List (InstancePath × InstanceValues)) → 0 < length es
+    → map_list (λ f. f.0) (block place n es ++ rest) ≡ [] → ⊥
+has_entry n [] rest h e = absurd (omega (arith, h))
+has_entry n (x ∷ xs) rest h e = absurd (cc)
+
+-- objects with an instance are not nothing
+pub left_some : (o : Objects) (i : ℕ) (e : ℕ × TableOf InstanceValues) → Left o i
+    → slice_get (map.entries o) i ≡ Some e → 0 < map.len e.1 → stored_from o ≡ empty → ⊥
+left_some o i e left here some none =
+    let bare : map.keys (map.empty {X = Unit {0}} {R = instance_cmp}) ≡ [] =
+    ap (map_list (λ f. f.0)) (no_entries (map.entries (map.empty {X = Unit {0}} {R = instance_cmp}))
+    (sym (map.len-entries (map.empty {X = Unit {0}} {R = instance_cmp})) ∙ map.len-empty instance_cmp (Unit {0}))) in
+    let keys : map_list (λ (f : InstancePath × InstanceValues). f.0) (flat_entries place (map.entries o)) ≡ [] =
+    sym (all-places o) ∙ ap (λ (s : Stored). map.keys s.instances) none ∙ bare in
+    has_entry e.0 (map.entries e.1) (flat_entries place (drop (i + 1) (map.entries o)))
+    (subst (λ n. 0 < n) (map.len-entries e.1) some)
+    (ap (λ es. map_list (λ (f : InstancePath × InstanceValues). f.0) (flat_entries place es))
+    (sym (next_of (map.entries o) i e here))
+    ∙ ap (map_list (λ (f : InstancePath × InstanceValues). f.0)) (left ∙ sym (left_all o)) ∙ keys)

@@ -1,9 +1,9 @@
 //! What a store lists, in the order of the full paths.
-ghost use Rattle.std.specs.Prelude.{◌≡◌, ◌++◌, map, OnOk};
+ghost use Rattle.std.specs.Prelude.{◌≡◌, ◌↔◌, ◌++◌, map, IsTrue, OnOk};
 ghost use Rattle.std.specs.FinMap as fin_map;
 ghost use Rattle.instance_store.specs.Listing.{shown_pairs};
 ghost use Rattle.instance_store.specs.Nested.{block, flat_entries};
-ghost use Rattle.instance_store.specs.Stored.{values_in};
+ghost use Rattle.instance_store.specs.Stored.{empty, values_in};
 ghost use Rattle.instance_store.specs.Tree.{tree, stored_from, place, path_below};
 
 use crate::instance::Instance;
@@ -115,4 +115,17 @@ pub(crate) fn push_instances(
         push_places(found, number, object.numbers())?;
     }
     Ok(())
+}
+
+/// Whether no object has an instance.
+pub(crate) fn is_bare(objects: &Table<Table<Instance>>) -> bool
+    ensures { IsTrue result ↔ (stored_from objects.now ≡ empty) }
+{
+    for index in 0..objects.len() {
+        let (_, object) = objects.entry(index);
+        if object.len() > 0 {
+            return false;
+        }
+    }
+    true
 }

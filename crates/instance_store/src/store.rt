@@ -12,7 +12,7 @@ ghost use Rattle.instance_store.specs.Tree.{instance_below};
 
 use crate::fault::StoreFault;
 use crate::instance::Instance;
-use crate::listing::{push_all, push_below, push_instances};
+use crate::listing::{is_bare, push_all, push_below, push_instances};
 use crate::objects;
 use crate::table::Table;
 use lwm2m_values::Value;
@@ -86,10 +86,14 @@ impl Store {
         }
     }
 
-    /// A copy, which equals its source.
+    /// A copy, which equals its source. One of a store with no instance and no value takes no memory.
     pub fn copy(&self) -> Result<Store, AllocError>
-        ensures { IfOk result (λ s. s ≡ self.now) }
+        ensures copy { IfOk result (λ s. s ≡ self.now) }
+        ensures may_lack_memory { OnErr result (self.now ≢ empty) }
     {
+        if is_bare(&self.objects) {
+            return Ok(Store::new(self.alloc));
+        }
         self.clone()
     }
 

@@ -2,7 +2,7 @@ use std::alloc::{AllocError, AllocFailed};
 use thiserror::Error;
 
 /// Why bytes or a text are not a value.
-#[derive(Clone, Copy, Debug, PartialEq, Eq, Error)]
+#[derive(Clone, Copy, Debug, Error)]
 pub enum ValueFault {
     /// No valid value of the kind is spelled so.
     #[error("not a value of its kind")]
@@ -35,7 +35,7 @@ impl<T: Drop> From<AllocFailed<T>> for ValueFault {
 }
 
 /// Why bytes are not TLV.
-#[derive(Clone, Copy, Debug, PartialEq, Eq, Error)]
+#[derive(Clone, Copy, Debug, Error)]
 pub enum TlvFault {
     /// A record extends past the end of what contains it.
     #[error("a record is cut")]

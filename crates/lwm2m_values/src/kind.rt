@@ -1,5 +1,5 @@
 /// The kind of a resource's values, a data type of OMA LwM2M 1.1 Core.
-#[derive(Clone, Copy, PartialEq, Eq)]
+#[derive(Clone, Copy)]
 pub enum ValueKind {
     /// UTF-8 text of at most 255 bytes.
     Text,

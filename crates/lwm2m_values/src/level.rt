@@ -2,7 +2,7 @@ ghost use Rattle.std.specs.Prelude.{◌≡◌, ◌/◌};
 ghost use Rattle.lwm2m_values.specs.Tlv.{type_bits, is_allowed, level_within};
 
 /// The type of a record, bits 7 and 6 of its first byte.
-#[derive(Clone, Copy, PartialEq, Eq)]
+#[derive(Clone, Copy)]
 pub enum RecordType {
     /// 00: an Object Instance.
     Instance,
@@ -15,7 +15,7 @@ pub enum RecordType {
 }
 
 /// What is around a record.
-#[derive(Clone, Copy, PartialEq, Eq)]
+#[derive(Clone, Copy)]
 pub enum Around {
     /// Nothing: the records of a payload.
     Top,

@@ -1,4 +1,4 @@
-ghost use Rattle.std.specs.Prelude.{◌≡◌, ◌≢◌, ℕ, ◌≤◌, List, Err, length, Some, None, IfSome, IfOk, IfErr, IsErr};
+ghost use Rattle.std.specs.Prelude.{◌≡◌, ◌≢◌, ℕ, ◌≤◌, List, Err, length, Some, None, IfSome, IfOk, IfErr, IsErr, IsOk};
 ghost use Rattle.std.specs.Prelude.{MatchResult, Bool, false, ◌∷◌, ◌++◌};
 ghost use Rattle.std.specs.Fmt.{decimal};
 ghost use Rattle.std.specs.Str.{IsUtf8};
@@ -132,7 +132,9 @@ fn link_text(alloc: Global, object: u16, instance: u16) -> Result<Bytes, AllocEr
 }
 
 fn shortest_text(alloc: Global, value: &Value) -> Result<Bytes, AllocError>
-    ensures { IfOk result (λ b. b ≡ text_of value.now) }
+    ensures shortest { IfOk result (λ b. b ≡ text_of value.now) }
+    ensures short { kind_of value.now ≢ kinds.Opaque → kind_of value.now ≢ kinds.Link
+        → length (text_of value.now) ≤ 16 → IsOk result }
 {
     match value {
         Value::Text(text) => Bytes::from_slice(alloc, text.as_str().as_bytes()),
@@ -145,11 +147,14 @@ fn shortest_text(alloc: Global, value: &Value) -> Result<Bytes, AllocError>
     }
 }
 
-/// The shortest plain text of a value: no needless sign, no needless zero. Of a valid value it is read again.
+/// The shortest plain text of a value: no needless sign, no needless zero. Of a valid value it is read again. It takes
+/// memory for an Opaque, for a Link, and for a text of more than 16 bytes.
 #[tactic(auto, using(crate::proofs::OneText::text_written))]
 pub fn write_text(alloc: Global, value: &Value) -> Result<Bytes, AllocError>
     ensures shortest { IfOk result (λ b. b ≡ text_of value.now) }
     ensures read_again { IsGood value.now → IfOk result (λ b. IsText value.now b) }
+    ensures short { kind_of value.now ≢ kinds.Opaque → kind_of value.now ≢ kinds.Link
+        → length (text_of value.now) ≤ 16 → IsOk result }
 {
     shortest_text(alloc, value)
 }

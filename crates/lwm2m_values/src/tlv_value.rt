@@ -1,5 +1,5 @@
 ghost use Rattle.std.specs.Prelude.{◌≡◌, ◌≢◌, ℕ, ◌≤◌, ◌<◌, List, [], ◌∷◌, ◌++◌, length, Some, None, IfSome, IfOk};
-ghost use Rattle.std.specs.Prelude.{IfErr, MatchResult, OnErr, Bool, false, true, Err, if◌then◌else◌};
+ghost use Rattle.std.specs.Prelude.{IfErr, IsOk, MatchResult, OnErr, Bool, false, true, Err, if◌then◌else◌};
 ghost use Rattle.std.specs.Int.{w16, to_be_bytes};
 ghost use Rattle.lwm2m_values.specs.declared.fault.ValueFault.TheVariants.{BadValue, Memory};
 ghost use Rattle.std.specs.Str.{IsUtf8};
@@ -50,6 +50,7 @@ fn good_of(alloc: Global, kind: ValueKind, bytes: &[u8]) -> Result<Value, ValueF
     ensures fixed { holds_bytes kind ≡ false → IfErr result (λ f. f ≡ BadValue) }
     ensures text { kind ≡ kinds.Text → IfErr result (λ f. f ≡ Memory → IsUtf8 bytes.now × (length bytes.now ≤ 255)) }
     ensures opaque { kind ≡ kinds.Opaque → IfErr result (λ f. f ≡ Memory → length bytes.now ≤ 1024) }
+    ensures short { kind ≡ kinds.Opaque → length bytes.now ≤ 16 → IsOk result }
 {
     match kind {
         ValueKind::Text => Ok(Value::Text(string_of(alloc, bytes)?)),
@@ -83,9 +84,10 @@ pub fn value_of(alloc: Global, kind: ValueKind, bytes: &[u8]) -> Result<Value, V
         → ¬ (IsBytesOf v bytes.now)) }
     ensures reading { MatchResult result (λ v. value_of_bytes kind bytes.now ≡ Some v)
         (λ f. f ≢ Memory → value_of_bytes kind bytes.now ≡ None) }
-    // Only a Text or an Opaque takes memory, and only bytes that are those of a valid value.
+    // Only a Text, or an Opaque of more than 16 bytes, takes memory, and only bytes that are those of a valid value.
     ensures fixed { holds_bytes kind ≡ false → IfErr result (λ f. f ≡ BadValue) }
     ensures bad { value_of_bytes kind bytes.now ≡ None → result ≡ Err BadValue }
+    ensures short { kind ≡ kinds.Opaque → length bytes.now ≤ 16 → IsOk result }
 {
     good_of(alloc, kind, bytes)
 }

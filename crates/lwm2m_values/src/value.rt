@@ -7,7 +7,7 @@ use octets::Bytes;
 use std::alloc::AllocError;
 
 /// A value of a resource or of a resource instance, by its kind.
-#[derive(Clone, Drop, PartialEq, Eq)]
+#[derive(Clone, Drop, PartialEq)]
 pub enum Value {
     /// UTF-8 text.
     Text(Text),
