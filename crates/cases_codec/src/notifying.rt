@@ -4,7 +4,7 @@ use crate::forms::{push, text_of};
 use crate::places::put_yes_no;
 use crate::question::Question;
 use case_sheet::Sheet;
-use notifier::{Change, Level, Name, QueryFault, Report, is_due, parse_query, triggers};
+use notifier::{Change, Changes, Level, Name, QueryFault, Report, is_due, triggers};
 use octets::Bytes;
 
 /// Answers a question of this subject; `false` where the subject is none of this module's.
@@ -81,7 +81,7 @@ fn query(question: &mut Question<'_>, out: &mut Sheet) {
 }
 
 fn put_read(out: &mut Sheet, queries: &[&[u8]], level: Level) {
-    match parse_query(out.alloc(), queries, level) {
+    match Changes::parse(out.alloc(), queries, level) {
         Ok(changes) => put_changes(out, changes.as_slice()),
         Err(QueryFault::Memory) => out.cut(),
         Err(fault) => out.put(fault_name(fault)),

@@ -2,7 +2,8 @@
 use Rattle.std.proofs.Common.{◌≡◌, ◌==◌, ℕ, ◌+◌, ◌-◌, ◌*◌, ◌<◌, ◌≤◌, Bool, true, false, ◌||◌, Option, None}
 use Rattle.std.proofs.Common.{Some, zero, suc, if◌then◌else◌, refl, sym, ap, ◌∙◌, arith}
 use Rattle.std.proofs.lemmas.Bool.{eq-eqb, eqb-true, ne_eqb, leb-false}
-use Rattle.notifier.specs.Resending.{after_timeouts, is_timed_out, turn_of_resending, turn_with}
+use Rattle.notification_times.specs.Timeouts.{after_timeouts, is_timed_out}
+use Rattle.notifier.specs.Resending.{turn_of_resending, turn_with}
 use Rattle.notifier.specs.declared.observation.Timer.{Timer}
 use Rattle.notifier.specs.declared.turn.Turn.TheVariants.{Wait, Resend, Expire}
 use Rattle.notification_reasons.specs.Finding.{times_of}

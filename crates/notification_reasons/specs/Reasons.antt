@@ -1,7 +1,8 @@
 -- Why an observation sends in a second (OMA LwM2M 1.1 Core, attributes; RFC 7252 section 4.2; RFC 7641 section 4).
 use Rattle.std.specs.Prelude.{◌≡◌, ◌≢◌, ◌⊎◌, ℕ, ℤ, ◌+◌, ◌<◌, ◌≤◌, true, false, Option, None, Some, []}
 use Rattle.notifier.specs.Attributes.{assigned_number}
-use Rattle.notifier.specs.Resending.{after_timeouts, max_retransmit, turn_at}
+use Rattle.notification_times.specs.Timeouts.{after_timeouts, max_retransmit}
+use Rattle.notifier.specs.Resending.{turn_at}
 use Rattle.notifier.specs.Trigger.{crosses_gt, crosses_lt, has_condition, steps_st}
 use Rattle.notifier.specs.declared.attribute.Name.TheVariants as name
 use Rattle.notifier.specs.declared.observation.Observation.{Observation}

@@ -1,11 +1,13 @@
 -- Changes of attributes, one after another.
 use Rattle.std.proofs.Common.{◌≡◌, ℕ, ℤ, true, false, cond, List, [], ◌∷◌, Option, None, Some, refl, sym, ap, ◌∙◌, ◌≤◌}
-use Rattle.std.proofs.Common.{◌≢◌, ◌==◌, ◌||◌, Bool, IsSome, eq-eqb, length, drop, rules, subst, true≢false}
+use Rattle.std.proofs.Common.{◌≢◌, ◌==◌, ◌||◌, ◌&&◌, Bool, IsSome, is_none, is_some, eq-eqb, length, drop, rules}
+use Rattle.std.proofs.Common.{map as map_list, subst, true≢false}
 use Rattle.std.proofs.lemmas.List.{drop_all}
 use Rattle.std.specs.List.{list_any}
 use Rattle.std.specs.Ordering.{eq_by_cmp}
 use Rattle.std.specs.Cmp.{eq_by_cmp_equiv, Equal-is}
-use Rattle.std.proofs.lemmas.Bool.{cond_both, false≢true, false_from_ne_true, or_parts}
+use Rattle.std.proofs.lemmas.Bool.{and_from, cond_both, false≢true, false_from_ne_true, or_parts, or_right}
+use Rattle.std.proofs.lemmas.Bool.{true_from_ne_false}
 use denote.Enum.Bare.{same_true}
 use Rattle.std.specs.FinMap as map
 use Rattle.std.specs.FinMap.{same_map}
@@ -18,7 +20,8 @@ use Rattle.notifier.specs.declared.attribute.Name.TheVariants.{Pmin, Pmax, Gt, L
 use Rattle.notifier.specs.contracts.attribute.Name.{the_type}
 use Rattle.notifier.specs.contracts.attribute.NamePartialEq.TheImpl.{eq-value}
 use Rattle.notifier.specs.Attributes.{Numbers, key_cmp, key_of, assigned_number, rank, with_number, with_changes}
-use Rattle.notifier.specs.Inside.{AreOfDistinctNames, all_names, changes_as_in}
+use Rattle.notifier.specs.Attributes.{sets_new}
+use Rattle.notifier.specs.Inside.{AreOfDistinctNames, all_names, change_as_in, changes_as_in}
 use Rattle.notifier.specs.Query.{is_of}
 use Rattle.notifier.proofs.Keys.{key_total, key_exact}
 
@@ -238,3 +241,63 @@ by_name m s p cs = same_map key_total key_exact _ _ (λ q.
 
 pub distinct_names : (m : Numbers) (s : ℕ) (p : Path) → AreOfDistinctNames (changes_as_in m s p all_names)
 distinct_names m s p = (refl, (refl, (refl, (refl, (refl, tt)))))
+
+-- ---- attributes that had no number
+
+left_false : (a b : Bool) → (a && b) ≡ false → b ≡ true → a ≡ false
+left_false true true h k = h
+left_false true false h k = cc
+left_false false b h k = refl
+
+-- a change that is made first, or one of those after it
+module _ (m n : Numbers) (s : ℕ) (p : Path) (c : Change) (cs all : List Change) (k : AttributeKey)
+    (list : all ≡ c ∷ cs) where
+  pub first_is_new : k ≡ key_of s p c.name → IsSome c.number → map.get m k ≡ None
+      → list_any (sets_new m s p) all ≡ true
+  first_is_new key some none =
+      ap (list_any (sets_new m s p)) list
+      ∙ ap (λ b. b || list_any (sets_new m s p) cs)
+      (and_from _ _ some (ap is_none (ap (map.get m) (sym key) ∙ none)))
+
+  pub later_is_new : n ≡ m → list_any (sets_new n s p) cs ≡ true → list_any (sets_new m s p) all ≡ true
+  later_is_new same new =
+      ap (list_any (sets_new m s p)) list
+      ∙ or_right (sets_new m s p c) _ (ap (λ x. list_any (sets_new x s p) cs) (sym same) ∙ new)
+
+still_none : (b : Bool) (y z : Option ℤ) → (b ≡ true → is_some y ≡ false) → is_some z ≡ false
+    → is_some (cond b y z) ≡ false
+still_none true y z h k = h refl
+still_none false y z h k = k
+
+-- an attribute has no number after changes of which none sets a new one, where it had none
+none_after : (m : Numbers) (s : ℕ) (p : Path) (n : Name) → assigned_number m s p n ≡ None
+    → (z : Option ℤ) (cs : List Change) → list_any (sets_new m s p) cs ≡ false → is_some z ≡ false
+    → is_some (last_of z cs n) ≡ false
+none_after m s p n none z [] old unset = unset
+none_after m s p n none z (c ∷ cs) old unset =
+    let parts = or_parts (sets_new m s p c) (list_any (sets_new m s p) cs) old in
+    none_after m s p n none (cond (eq-value.it c.name n) c.number z) cs parts.1
+    (still_none (eq-value.it c.name n) c.number z
+    (λ named. left_false _ _ parts.0 (ap is_none (ap (assigned_number m s p) (same_name c.name n named) ∙ none))) unset)
+
+not_new : (o z : Option ℤ) → (o ≡ None → is_some z ≡ false) → (is_some z && is_none o) ≡ false
+not_new None None h = refl
+not_new None (Some y) h = h refl
+not_new (Some x) None h = refl
+not_new (Some x) (Some y) h = refl
+
+none_of_all : (f : Change → Bool) (g : Name → Change) → ((n : Name) → f (g n) ≡ false) → (ns : List Name)
+    → list_any f (map_list g ns) ≡ false
+none_of_all f g h [] = refl
+none_of_all f g h (n ∷ ns) = ap (λ b. b || list_any f (map_list g ns)) (h n) ∙ none_of_all f g h ns
+
+-- where the change of a name to the number that it comes to is new, one of the changes is
+pub new_by_name : (m : Numbers) (s : ℕ) (p : Path) (cs : List Change)
+    → list_any (sets_new m s p) (changes_as_in (with_changes m s p cs) s p all_names) ≡ true
+    → list_any (sets_new m s p) cs ≡ true
+new_by_name m s p cs new =
+    true_from_ne_false _ (λ old. true≢false (sym new
+    ∙ none_of_all (sets_new m s p) (change_as_in (with_changes m s p cs) s p)
+    (λ n. not_new (assigned_number m s p n) (assigned_number (with_changes m s p cs) s p n)
+    (λ none. ap is_some (after_written m s p cs n)
+    ∙ none_after m s p n none (assigned_number m s p n) cs old (ap is_some none))) all_names))

@@ -1,20 +1,9 @@
 -- The first second at which one of several observations is due.
 use Rattle.std.proofs.Common.{◌≡◌, ℕ, zero, suc, ◌+◌, ◌∙◌, Bool, true, false, ◌||◌, List, [], ◌∷◌, take, slice_get}
 use Rattle.std.proofs.Common.{Option, None, Some, ap, arith, refl, sym}
-use Rattle.notifier.specs.Due.{IsFirst, acts_at, is_one_due}
+use Rattle.notifier.specs.Due.{acts_at, is_one_due}
 use Rattle.notifier.specs.declared.observation.Observation.{Observation}
 use Rattle.notifier.specs.declared.pending.Outlook.{Outlook}
-
-pub same_first : (p q : ℕ → Bool) (now : ℕ) (result : Option ℕ) → ((clock : ℕ) → p clock ≡ q clock)
-    → IsFirst p now result → IsFirst q now result
-same_first p q now None same h = λ clock after fits. sym (same clock) ∙ h clock after fits
-same_first p q now (Some first) same h =
-    record {
-      later = h.later;
-      fits = h.fits;
-      passes = sym (same first) ∙ h.passes;
-      none_before = λ clock after before. sym (same clock) ∙ h.none_before clock after before;
-    }
 
 or_none : (b : Bool) → (b || false) ≡ (false || b)
 or_none true = refl

@@ -1,7 +1,7 @@
 -- Queries, read one after another.
 use Rattle.std.proofs.Common.{◌≡◌, ◌≢◌, ℕ, Bool, true, false, if◌then◌else◌, Option, None, Some, List, [], ◌∷◌, ◌++◌}
 use Rattle.std.proofs.Common.{Result, Ok, Err, map, drop, get_or, length, ◌+◌, ◌<◌, ℤ, sym, ap, ◌∙◌, add-one, drop-cons}
-use Rattle.std.proofs.Common.{Bor, ◌⊎◌, inl, inr, IsOk, arith, refl, subst}
+use Rattle.std.proofs.Common.{◌⊎◌, inl, inr, IsOk, arith, refl, subst}
 use Rattle.std.specs.List.{list_any}
 use Rattle.notifier.specs.declared.attribute.Change.{Change}
 use Rattle.notifier.specs.declared.attribute.Level.{Level}
@@ -35,28 +35,28 @@ fault_first before level q qs e h =
       | Err f ↦ λ k. k
     ] h
 
--- the queries from a place on, and the one at that place
-from_place : (qs : List (Bor (List ℕ))) (i : ℕ) (d : Bor (List ℕ)) → i < length qs
-    → map (λ q. q.now) (drop i qs) ≡ (get_or qs i d).now ∷ map (λ q. q.now) (drop (i + 1) qs)
-from_place qs i d h =
-    ap (map (λ q. q.now)) (drop-cons qs i d h)
-    ∙ ap (λ n. (get_or qs i d).now ∷ map (λ q. q.now) (drop n qs)) (sym (add-one i))
+-- the texts of queries from a place on, and the one at that place
+module _ {X : Type 0} (text : X → List ℕ) where
+  from_place : (qs : List X) (i : ℕ) (d : X) → i < length qs
+      → map text (drop i qs) ≡ text (get_or qs i d) ∷ map text (drop (i + 1) qs)
+  from_place qs i d h =
+      ap (map text) (drop-cons qs i d h)
+      ∙ ap (λ n. text (get_or qs i d) ∷ map text (drop n qs)) (sym (add-one i))
 
--- one query more is read
-pub one_read : (before c : List Change) (level : Level) (qs : List (Bor (List ℕ))) (i : ℕ) (d : Bor (List ℕ))
-    → i < length qs → changes_of before level ((get_or qs i d).now ∷ []) ≡ Ok c
-    → changes_of c level (map (λ q. q.now) (drop (i + 1) qs))
-    ≡ changes_of before level (map (λ q. q.now) (drop i qs))
-one_read before c level qs i d inside h =
-    sym (after_first before c level (get_or qs i d).now (map (λ q. q.now) (drop (i + 1) qs)) h)
-    ∙ ap (changes_of before level) (sym (from_place qs i d inside))
+  -- one query more is read
+  pub one_read : (before c : List Change) (level : Level) (qs : List X) (i : ℕ) (d : X)
+      → i < length qs → changes_of before level (text (get_or qs i d) ∷ []) ≡ Ok c
+      → changes_of c level (map text (drop (i + 1) qs)) ≡ changes_of before level (map text (drop i qs))
+  one_read before c level qs i d inside h =
+      sym (after_first before c level (text (get_or qs i d)) (map text (drop (i + 1) qs)) h)
+      ∙ ap (changes_of before level) (sym (from_place qs i d inside))
 
-pub one_refused : (before : List Change) (level : Level) (qs : List (Bor (List ℕ))) (i : ℕ) (d : Bor (List ℕ))
-    (e : QueryFault) → i < length qs → changes_of before level ((get_or qs i d).now ∷ []) ≡ Err e
-    → changes_of before level (map (λ q. q.now) (drop i qs)) ≡ Err e
-one_refused before level qs i d e inside h =
-    ap (changes_of before level) (from_place qs i d inside)
-    ∙ fault_first before level (get_or qs i d).now (map (λ q. q.now) (drop (i + 1) qs)) e h
+  pub one_refused : (before : List Change) (level : Level) (qs : List X) (i : ℕ) (d : X) (e : QueryFault)
+      → i < length qs → changes_of before level (text (get_or qs i d) ∷ []) ≡ Err e
+      → changes_of before level (map text (drop i qs)) ≡ Err e
+  one_refused before level qs i d e inside h =
+      ap (changes_of before level) (from_place qs i d inside)
+      ∙ fault_first before level (text (get_or qs i d)) (map text (drop (i + 1) qs)) e h
 
 -- a query that is read spells a change
 pub one_spelled : (before c : List Change) (level : Level) (q : List ℕ) → changes_of before level (q ∷ []) ≡ Ok c
@@ -70,17 +70,25 @@ one_spelled before c level q h =
     ] h
 
 -- so where one does, the first does
-pub first_spelled : (level : Level) (qs : List (Bor (List ℕ))) (i : ℕ) (d : Bor (List ℕ)) (before : List Change)
-    → i < length qs → ((i ≡ 0) × (before ≡ [])) ⊎ BeginsWithChange level (map (λ q. q.now) qs)
-    → IsOk (reading_of before level (get_or qs i d).now) → BeginsWithChange level (map (λ q. q.now) qs)
-first_spelled level qs i d before inside (inr begun) spelled = begun
-first_spelled level [] i d before inside (inl none) spelled = omega arith
-first_spelled level (q ∷ qs) i d before inside (inl none) spelled =
-    let first : IsOk (reading_of [] level (get_or (q ∷ qs) 0 d).now) =
-    subst (λ n. IsOk (reading_of [] level (get_or (q ∷ qs) n d).now)) none.0
-    (subst (λ b. IsOk (reading_of b level (get_or (q ∷ qs) i d).now)) none.1 spelled)
+pub first_spelled : {X : Type 0} (text : X → List ℕ) (level : Level) (qs : List X) (i : ℕ) (d : X)
+    (before : List Change)
+    → i < length qs → ((i ≡ 0) × (before ≡ [])) ⊎ BeginsWithChange level (map text qs)
+    → IsOk (reading_of before level (text (get_or qs i d))) → BeginsWithChange level (map text qs)
+first_spelled text level qs i d before inside (inr begun) spelled = begun
+first_spelled text level [] i d before inside (inl none) spelled = omega arith
+first_spelled text level (q ∷ qs) i d before inside (inl none) spelled =
+    let first : IsOk (reading_of [] level (text (get_or (q ∷ qs) 0 d))) =
+    subst (λ n. IsOk (reading_of [] level (text (get_or (q ∷ qs) n d)))) none.0
+    (subst (λ b. IsOk (reading_of b level (text (get_or (q ∷ qs) i d)))) none.1 spelled)
     in
     first
+
+pub first_read : {X : Type 0} (text : X → List ℕ) (level : Level) (qs : List X) (i : ℕ) (d : X)
+    (before c : List Change)
+    → i < length qs → ((i ≡ 0) × (before ≡ [])) ⊎ BeginsWithChange level (map text qs)
+    → changes_of before level (text (get_or qs i d) ∷ []) ≡ Ok c → BeginsWithChange level (map text qs)
+first_read text level qs i d before c inside begun h =
+    first_spelled text level qs i d before inside begun (one_spelled before c level (text (get_or qs i d)) h)
 
 -- ---- memory
 

@@ -1,58 +1,35 @@
--- The seconds at which a confirmable notification is sent again: the sums of its timeouts.
+-- What an open observation does in a second.
 use Rattle.std.proofs.Common.{◌≡◌, ℕ, ◌+◌, ◌*◌, ◌<◌, ◌≤◌, ◌↔◌, ◌==◌, nat_le, ◌⊎◌, inl, inr}
 use Rattle.std.proofs.Common.{Bool, true, false, ◌||◌, if◌then◌else◌, refl, sym, ap, ◌∙◌, arith}
 use Rattle.std.proofs.lemmas.Bool.{eqb-true, eq-eqb, le-leb, leb-true}
 use Rattle.lemmas.proofs.Numbers.{nat_le_above}
 use Rattle.notifier.specs.Due.{acts_in}
-use Rattle.notifier.specs.Resending.{after_timeouts, is_timed_out, turn_of_resending}
+use Rattle.notification_times.specs.Timeouts.{after_timeouts, is_resent, is_timed_out, max_retransmit}
+use Rattle.notification_times.proofs.Sums.{all_passed, fourth_passed, second_passed, third_passed}
+use Rattle.notifier.specs.Resending.{turn_of_resending}
 use Rattle.notifier.specs.declared.pending.Outlook.{Outlook}
 use Rattle.notifier.specs.declared.turn.Turn.{Turn}
 use Rattle.notifier.specs.declared.turn.Turn.TheVariants.{Evaluate, Wait, Resend, Expire}
-
-pub second_passed : (s t : ℕ) → s + 3 * t ≡ after_timeouts s t 2
-second_passed s t = let sum : s + 3 * t ≡ s + t + 2 * t = omega arith in sum
-
-pub third_passed : (s t : ℕ) → s + 7 * t ≡ after_timeouts s t 3
-third_passed s t = let sum : s + 7 * t ≡ s + t + 2 * t + 2 * (2 * t) = omega arith in sum
-
-pub fourth_passed : (s t : ℕ) → s + 15 * t ≡ after_timeouts s t 4
-fourth_passed s t =
-    let sum : s + 15 * t ≡ s + t + 2 * t + 2 * (2 * t) + 2 * (2 * (2 * t)) = omega arith in sum
-
-pub all_passed : (s t : ℕ) → s + 31 * t ≡ after_timeouts s t 5
-all_passed s t =
-    let sum : s + 31 * t ≡ s + t + 2 * t + 2 * (2 * t) + 2 * (2 * (2 * t)) + 2 * (2 * (2 * (2 * t))) = omega arith in
-    sum
 
 -- the turn by whether it is the second of the first, second, third and fourth resending, and whether all is over
 abbrev chosen : Bool → Bool → Bool → Bool → Bool → Turn
 chosen a b c d e = if e then Expire else (if (((false || a) || b) || c) || d then Resend else Wait)
 
-chosen_acts : (a b c d e : Bool) (s : ℕ) (p : Outlook) (clock : ℕ)
-    → (a || (b || (c || (d || e)))) ≡ acts_in (chosen a b c d e) s p clock
-chosen_acts true b c d true s p clock = refl
-chosen_acts true b c d false s p clock = refl
-chosen_acts false true c d true s p clock = refl
-chosen_acts false true c d false s p clock = refl
-chosen_acts false false true d true s p clock = refl
-chosen_acts false false true d false s p clock = refl
-chosen_acts false false false true true s p clock = refl
-chosen_acts false false false true false s p clock = refl
-chosen_acts false false false false true s p clock = refl
-chosen_acts false false false false false s p clock = refl
-
 -- a second is that of the kth resending
 abbrev is_at : ℕ → ℕ → ℕ → ℕ → Bool
 is_at s t clock k = clock == after_timeouts s t k
 
-pub acts_by_sums : (s t clock : ℕ) (p : Outlook)
-    → (clock == s + t || (clock == s + 3 * t || (clock == s + 7 * t
-    || (clock == s + 15 * t || nat_le (s + 31 * t) clock)))) ≡ acts_in (turn_of_resending s t clock) s p clock
-acts_by_sums s t clock p =
-    (λ i. clock == s + t || (clock == second_passed s t i || (clock == third_passed s t i
-    || (clock == fourth_passed s t i || nat_le (all_passed s t i) clock))))
-    ∙ chosen_acts (is_at s t clock 1) (is_at s t clock 2) (is_at s t clock 3) (is_at s t clock 4)
-    (is_timed_out s t clock) s p clock
+turned : (resent over : Bool) (s : ℕ) (p : Outlook) (clock : ℕ)
+    → (resent || over) ≡ acts_in (if over then Expire else (if resent then Resend else Wait)) s p clock
+turned true true s p clock = refl
+turned true false s p clock = refl
+turned false true s p clock = refl
+turned false false s p clock = refl
+
+-- an open observation acts in the seconds in which its notification is sent again, or given up
+pub acts_when : (s t clock : ℕ) (p : Outlook)
+    → (is_resent s t clock max_retransmit || is_timed_out s t clock) ≡ acts_in (turn_of_resending s t clock) s p clock
+acts_when s t clock p = turned (is_resent s t clock max_retransmit) (is_timed_out s t clock) s p clock
 
 -- ---- the turn of an open observation
 

@@ -1,6 +1,6 @@
 -- The attributes that servers write, and how a call changes them (OMA LwM2M 1.1 Core, attributes).
 use Rattle.std.specs.Prelude.{◌≡◌, ℕ, zero, suc, ℤ, pos, ◌+ℤ◌, ◌*ℤ◌, int_lt, ◌==◌, Bool, true, false, not, ◌&&◌, List}
-use Rattle.std.specs.Prelude.{[], ◌∷◌, map as map_list, filter, Option, None, Some, refl}
+use Rattle.std.specs.Prelude.{[], ◌∷◌, map as map_list, filter, Option, None, Some, is_none, is_some, refl}
 use Rattle.std.specs.declared.cmp.Ordering.{Ordering}
 use Rattle.std.specs.Ordering.{nat_cmp, on, ordering_then}
 use Rattle.std.specs.Option.{option_cmp, option_or}
@@ -114,6 +114,10 @@ effective m server place n = first_assigned m server (levels_of place) n
 abbrev pub with_number : Numbers → AttributeKey → Option ℤ → Numbers
 with_number m k None = map.remove m k
 with_number m k (Some z) = map.insert m k z
+
+-- whether a change sets an attribute of a server on a path that has no number
+abbrev pub sets_new : Numbers → ℕ → Path → Change → Bool
+sets_new m server place c = is_some c.number && is_none (assigned_number m server place c.name)
 
 -- with these changes for a server on a path, the later over the earlier
 abbrev pub with_changes : Numbers → ℕ → Path → List Change → Numbers

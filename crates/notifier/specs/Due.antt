@@ -1,7 +1,7 @@
 -- The first second at which an observation sends or is removed, by what was last said of it (OMA LwM2M 1.1 Core,
 -- attributes; RFC 7641; RFC 7252 section 4.2).
-use Rattle.std.specs.Prelude.{◌≡◌, ℕ, ◌-◌, ◌<◌, ◌^◌, Bool, true, false, ◌||◌, List, [], ◌∷◌}
-use Rattle.std.specs.Prelude.{Option, MatchOption}
+use Rattle.std.specs.Prelude.{ℕ, ◌-◌, Bool, true, false, ◌||◌, List, [], ◌∷◌, Option}
+use Rattle.notification_times.specs.First.{IsFirstAfter, IsNoneAfter}
 use Rattle.notifier.specs.Resending.{turn_at}
 use Rattle.notifier.specs.Trigger.{is_due}
 use Rattle.notifier.specs.declared.observation.Observation.{Observation}
@@ -38,21 +38,6 @@ abbrev pub is_one_due : List Observation → List Outlook → ℕ → Bool
 is_one_due [] ss clock = false
 is_one_due (o ∷ os) [] clock = false
 is_one_due (o ∷ os) (s ∷ ss) clock = acts_at o s clock || is_one_due os ss clock
-
--- the first second after this one, below 2^64, at which a test passes
-pub record IsFirstAfter (test : ℕ → Bool) (now first : ℕ) : Type 0 where
-  pub later : now < first
-  pub fits : first < 2 ^ 64
-  pub passes : test first ≡ true
-  pub none_before : (clock : ℕ) → now < clock → clock < first → test clock ≡ false
-
--- it passes at none of them
-abbrev pub IsNoneAfter : (ℕ → Bool) → ℕ → Type 0
-IsNoneAfter test now = (clock : ℕ) → now < clock → clock < 2 ^ 64 → test clock ≡ false
-
--- a result is the first of them at which it passes, or None where there is none
-abbrev pub IsFirst : (ℕ → Bool) → ℕ → Option ℕ → Type 0
-IsFirst test now result = MatchOption result (IsNoneAfter test now) (λ first. IsFirstAfter test now first)
 
 -- the first second after this one at which an observation sends or is removed
 abbrev pub IsFirstDue : ℕ → List Observation → List Outlook → ℕ → Type 0

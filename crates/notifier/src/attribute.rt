@@ -63,7 +63,7 @@ impl PartialOrd for Name {
 }
 
 /// A change of one attribute.
-#[derive(Clone, Copy, PartialEq, Eq)]
+#[derive(Clone, Copy)]
 pub struct Change {
     /// The attribute's name.
     pub name: Name,
@@ -72,7 +72,7 @@ pub struct Change {
 }
 
 /// What the path is that attributes are written to.
-#[derive(Clone, Copy, Debug, PartialEq, Eq)]
+#[derive(Clone, Copy)]
 pub enum Level {
     /// An object.
     Object,

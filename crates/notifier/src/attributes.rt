@@ -1,10 +1,12 @@
 ghost use Rattle.std.specs.Prelude.{◌≡◌, ◌≢◌, ◌↔◌, [], pos, ◌+ℤ◌, ◌*ℤ◌, int_lt, ◌==◌, not, filter, map as map_list};
-ghost use Rattle.std.specs.Prelude.{None, Err, IfOk, OnOk, OnErr, IsErrOf, IsSome, IsTrue, IsFalse};
+ghost use Rattle.std.specs.Prelude.{None, Err, IfOk, OnOk, OnErr, IsErrOf, IsSome, IsTrue, IsFalse, is_none, is_some};
+ghost use Rattle.std.specs.Prelude.{◌&&◌};
+ghost use Rattle.std.specs.List.{list_any};
 ghost use Rattle.std.specs.FinMap as map;
 ghost use Rattle.object_defs.specs.declared.path.Path.TheVariants as paths;
 ghost use Rattle.notifier.specs.Attributes.{key_cmp, key_of, path_of, assigned_number, effective, with_number};
 ghost use Rattle.notifier.specs.Attributes.{with_changes, agree, is_consistent, has_number, lies_under, without_under};
-ghost use Rattle.notifier.specs.Attributes.{attributes_of_server};
+ghost use Rattle.notifier.specs.Attributes.{attributes_of_server, sets_new};
 ghost use Rattle.notifier.specs.Inside.{AreOfDistinctNames, all_names, change_as_in, changes_as_in, numbers_in};
 
 use crate::attribute::{AttributeKey, Change, Name};
@@ -87,12 +89,14 @@ fn set_absent(
     number: Option<i64>,
 ) -> Result<bool, AllocError>
     ensures absent { IfOk result (λ done. IsTrue done → map.get (numbers_in numbers.old.entries) key ≡ None) }
+    ensures some { IfOk result (λ done. IsTrue done → IsSome number) }
     ensures made { IfOk result (λ done. IsTrue done → numbers_in numbers.new.entries
         ≡ with_number (numbers_in numbers.old.entries) key number) }
     ensures present { IfOk result (λ done. IsFalse done → IsSome number
         → IsSome (map.get (numbers_in numbers.old.entries) key)) }
     ensures kept { IfOk result (λ done. IsFalse done → numbers_in numbers.new.entries
         ≡ numbers_in numbers.old.entries) }
+    ensures may_lack_memory { OnErr result (IsSome number × (map.get (numbers_in numbers.old.entries) key ≡ None)) }
     ensures err { OnErr result (numbers_in numbers.new.entries ≡ numbers_in numbers.old.entries) }
 {
     let Some(number) = number else {
@@ -187,6 +191,8 @@ fn apply_changes(
     requires distinct { AreOfDistinctNames changes.now }
     ensures ok { OnOk result (numbers_in numbers.new.entries
         ≡ with_changes (numbers_in numbers.old.entries) server path changes.now) }
+    ensures may_lack_memory { OnErr result
+        (IsTrue (list_any (sets_new (numbers_in numbers.old.entries) server path) changes.now)) }
     ensures err { OnErr result (numbers_in numbers.new.entries ≡ numbers_in numbers.old.entries) }
 {
     let Some((change, later)) = changes.split_first() else {
@@ -214,6 +220,8 @@ fn write_changes(
 ) -> Result<(), AllocError>
     ensures ok { OnOk result (numbers_in numbers.new.entries
         ≡ with_changes (numbers_in numbers.old.entries) server path changes.now) }
+    ensures may_lack_memory { OnErr result
+        (IsTrue (list_any (sets_new (numbers_in numbers.old.entries) server path) changes.now)) }
     ensures err { OnErr result (numbers_in numbers.new.entries ≡ numbers_in numbers.old.entries) }
 {
     let by_name = changes_by_name(numbers, server, path, changes);
@@ -403,22 +411,21 @@ impl Attributes {
     }
 
     /// Makes these changes for a server on a path, the later over the earlier. `Inconsistent` exactly if the numbers of
-    /// this server on this path would then not keep lt < gt, or lt + 2 st < gt. An error changes nothing, and only a
-    /// change takes memory. The levels at which attributes stand are not looked at.
+    /// this server on this path would then not keep lt < gt, or lt + 2 st < gt. An error changes nothing, and only an
+    /// attribute that had no number takes memory. The levels at which attributes stand are not looked at.
     pub fn write(&mut self, server: u16, path: Path, changes: &[Change]) -> Result<(), WriteFault>
         ensures ok { OnOk result (self.new ≡ with_changes self.old server path changes.now) }
         ensures inconsistent { IsErrOf result WriteFault.Inconsistent
             ↔ IsFalse (is_consistent (with_changes self.old server path changes.now) server path) }
 
-        // Only a change takes memory.
-        ensures may_lack_memory { IsErrOf result WriteFault.Memory → changes.now ≢ [] }
+        // A change that unsets an attribute takes no memory, nor does one of a number that is set.
+        ensures may_lack_memory { IsErrOf result WriteFault.Memory
+            → IsTrue (list_any (sets_new self.old server path) changes.now) }
+        ensures only_with_changes { IsErrOf result WriteFault.Memory → changes.now ≢ [] }
         ensures unchanged { OnErr result (self.new ≡ self.old) }
     {
         if !self.stays_consistent(server, path, changes) {
             return Err(WriteFault::Inconsistent);
-        }
-        if changes.is_empty() {
-            return Ok(());
         }
         write_changes(&mut self.numbers, server, path, changes)?;
         Ok(())

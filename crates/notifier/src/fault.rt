@@ -4,7 +4,7 @@ use std::alloc::{AllocError, AllocFailed};
 use thiserror::Error;
 
 /// Why an observation was not registered. A refused call changes nothing.
-#[derive(Clone, Copy, Debug, PartialEq, Eq, Error)]
+#[derive(Clone, Copy, Debug, Error)]
 pub enum ObserveFault {
     /// There are 32 observations, and none of this server under this token.
     #[error("full")]
@@ -37,7 +37,7 @@ impl<T: Drop> From<AllocFailed<T>> for ObserveFault {
 }
 
 /// Why changes of attributes were not written. A refused call changes nothing.
-#[derive(Clone, Copy, Debug, PartialEq, Eq, Error)]
+#[derive(Clone, Copy, Debug, Error)]
 pub enum WriteFault {
     /// The numbers would not agree: lt below gt, and lt + 2 st below gt.
     #[error("inconsistent")]
@@ -59,7 +59,7 @@ impl From<AllocError> for WriteFault {
 }
 
 /// Why queries are no changes of attributes: in each query from the left, the first of these.
-#[derive(Clone, Copy, Debug, PartialEq, Eq, Error)]
+#[derive(Clone, Copy, Debug, Error)]
 pub enum QueryFault {
     /// The name is none of the five.
     #[error("unknown name")]

@@ -17,9 +17,10 @@ use crate::entries::{
 };
 use crate::fault::ObserveFault;
 use crate::observation::{Observation, Report, Timer};
-use crate::pending::{Outlook, Pending, earlier};
+use crate::pending::{Outlook, Pending};
 use crate::turn::{Turn, next_of};
 use indexmap::IndexMap;
+use notification_times::earlier;
 use object_defs::Path;
 use octets::Bytes;
 use std::alloc::{AllocError, Global};

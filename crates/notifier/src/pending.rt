@@ -1,16 +1,18 @@
 //! The first second at which an observation sends or is removed, by what was last said of its present answer.
 
-ghost use Rattle.std.specs.Prelude.{◌≡◌, ℕ, ◌-◌, ◌||◌, Bool, nat_le, false};
+ghost use Rattle.std.specs.Prelude.{◌≡◌, ℕ, ◌-◌, nat_le, false};
 ghost use Rattle.std.specs.Option.{option_map_or};
 ghost use Rattle.notifier.specs.Trigger.{is_due};
-ghost use Rattle.notifier.specs.Due.{IsFirst, is_due_at};
+ghost use Rattle.notification_times.specs.First.{IsFirst};
+ghost use Rattle.notifier.specs.Due.{is_due_at};
 ghost use Rattle.notifier.specs.Said.{initial_outlook};
 
 use crate::trigger::is_due;
+use notification_times::first_at;
 
 /// What the present answer of an observation is, that of a GET of its path by its server, beside what the
 /// observation last reported.
-#[derive(Clone, Copy, PartialEq, Eq)]
+#[derive(Clone, Copy)]
 pub enum Pending {
     /// It is content that does not trigger.
     Idle,
@@ -21,7 +23,7 @@ pub enum Pending {
 }
 
 /// What was last said of an observation.
-#[derive(Clone, Copy, PartialEq, Eq)]
+#[derive(Clone, Copy)]
 pub struct Outlook {
     /// What its present answer is.
     pub pending: Pending,
@@ -72,18 +74,6 @@ fn wait_of(pmin: u64, pmax: Option<u64>, triggered: bool) -> Option<u64>
     }
 }
 
-/// The first second after `now` at which a message of this second is this old.
-fn first_at(now: u64, second: u64, wait: u64) -> Option<u64>
-    ensures { IsFirst (λ clock. nat_le wait (clock - second)) now result }
-{
-    let next = now.checked_add(1)?;
-    if wait == 0 {
-        return Some(next);
-    }
-    let reached = second.checked_add(wait)?;
-    Some(next.max(reached))
-}
-
 /// The first second after `now` at which content is sent, triggered or not, of an observation whose last message is of
 /// `second`.
 fn content_due(now: u64, second: u64, pmin: u64, pmax: Option<u64>, triggered: bool) -> Option<u64>
@@ -102,17 +92,5 @@ pub(crate) fn due_of(now: u64, second: u64, outlook: &Outlook) -> Option<u64>
         Pending::Idle => content_due(now, second, outlook.pmin, outlook.pmax, false),
         Pending::Changed => content_due(now, second, outlook.pmin, outlook.pmax, true),
         Pending::Gone(_) => now.checked_add(1),
-    }
-}
-
-/// The earlier of two seconds, if there are two.
-pub(crate) fn earlier(a: Option<u64>, b: Option<u64>) -> Option<u64>
-    ensures { (p q : ℕ → Bool) (now : ℕ)
-        → IsFirst p now a → IsFirst q now b → IsFirst (λ clock. p clock || q clock) now result }
-{
-    match (a, b) {
-        (Some(a), Some(b)) => Some(a.min(b)),
-        (Some(a), None) => Some(a),
-        (None, b) => b,
     }
 }

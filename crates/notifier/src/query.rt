@@ -114,7 +114,7 @@ fn reading_of(before: &[Change], level: Level, query: &[u8]) -> Result<Change, Q
 }
 
 /// Changes of attributes. Contracts see the list of them, in their order.
-#[derive(Clone, Drop)]
+#[derive(Drop)]
 pub struct Changes {
     items: Vec<Change>,
 }
@@ -138,11 +138,34 @@ impl Changes {
         }
     }
 
+    /// The changes that queries spell, as `parse_query`, of queries that stand elsewhere.
+    pub fn parse(alloc: Global, queries: &[&[u8]], level: Level) -> Result<Changes, QueryFault>
+        ensures ok { IfOk result (λ c. changes_of [] level (map (λ q. q.now) queries.now) ≡ Ok c) }
+        ensures fault { IfErr result (λ e. e ≢ QueryFault.Memory
+            → changes_of [] level (map (λ q. q.now) queries.now) ≡ Err e) }
+        ensures may_lack_memory { IsErrOf result QueryFault.Memory
+            → BeginsWithChange level (map (λ q. q.now) queries.now) }
+    {
+        let mut changes = Changes::new(alloc);
+        for query in queries {
+            changes.add_query(query, level)?;
+        }
+        Ok(changes)
+    }
+
     /// The changes.
     pub fn as_slice(&self) -> &[Change]
         ensures { result.now ≡ self.now }
     {
         self.items.as_slice()
+    }
+
+    /// The changes as a vector. It takes no memory.
+    pub fn into_vec(self) -> Vec<Change>
+        ensures { result.items ≡ self }
+    {
+        let items = self.items;
+        items
     }
 
     /// Adds the change that one query spells, `name=number` or `name`, after these.
@@ -167,17 +190,22 @@ impl Changes {
 /// pmin and pmax are 1 or more digits, at most 2,147,483,647, and stand at every level. gt, lt and st are `-` or
 /// nothing, 1 to 15 digits, and a point with 1 to 3 digits or nothing; st is above 0; they stand at a single resource
 /// of a number alone.
-pub fn parse_query(alloc: Global, queries: &[&[u8]], level: Level) -> Result<Changes, QueryFault>
-    ensures ok { IfOk result (λ c. changes_of [] level (map (λ q. q.now) queries.now) ≡ Ok c) }
+pub fn parse_query(
+    alloc: Global,
+    queries: &[Vec<u8>],
+    level: Level,
+) -> Result<Vec<Change>, QueryFault>
+    ensures ok { IfOk result (λ v. changes_of [] level (map (λ q. q.items) queries.now) ≡ Ok v.items) }
     ensures fault { IfErr result (λ e. e ≢ QueryFault.Memory
-        → changes_of [] level (map (λ q. q.now) queries.now) ≡ Err e) }
+        → changes_of [] level (map (λ q. q.items) queries.now) ≡ Err e) }
 
     // Only changes take memory: neither no query nor a first one with a fault does.
-    ensures may_lack_memory { IsErrOf result QueryFault.Memory → BeginsWithChange level (map (λ q. q.now) queries.now) }
+    ensures may_lack_memory { IsErrOf result QueryFault.Memory
+        → BeginsWithChange level (map (λ q. q.items) queries.now) }
 {
-    let mut changes = Changes::new(alloc);
+    let mut read = Changes::new(alloc);
     for query in queries {
-        changes.add_query(query, level)?;
+        read.add_query(query.as_slice(), level)?;
     }
-    Ok(changes)
+    Ok(read.into_vec())
 }

@@ -4,7 +4,7 @@ use Rattle.lemmas.proofs.Lists.{empty_from_length}
 use Rattle.lemmas.proofs.Results.{on_err}
 use Rattle.notifier.specs.Attributes.{with_changes}
 use Rattle.notifier.specs.Inside.{AreOfDistinctNames, numbers_in}
-use Rattle.notifier.proofs.AttributeLaws.{made_first, made_last, still_there, undone}
+use Rattle.notifier.proofs.AttributeLaws.{first_is_new, later_is_new, made_first, made_last, still_there, undone}
 use Rattle.notifier.proofs.attributes.+apply_changes.Goals as goal
 
 pub returns-in_default-clause-ok : goal.returns-in_default-clause-ok
@@ -54,3 +54,24 @@ returns-clause-ok t c =
     c.in-Some.later.now c.args.changes.now c.new-key.result c.in-Some.ensures.cases.0 c.requires.distinct
     c.new-key.ensures.key (c.in_ok-set_absent.ensures.kept c.if-branch.false) c.in_ok-apply_changes.ensures.ok
     _ c.replace.ensures
+
+pub returns-in_err-set_absent-clause-may_lack_memory : goal.returns-in_err-set_absent-clause-may_lack_memory
+returns-in_err-set_absent-clause-may_lack_memory t c =
+    on_err c.from_residual.result _
+    (first_is_new (numbers_in c.args.numbers.now.entries) (numbers_in c.args.numbers.now.entries) c.args.server
+    c.args.path c.in-Some.change.now c.in-Some.later.now c.args.changes.now c.new-key.result c.in-Some.ensures.cases.0
+    c.new-key.ensures.key c.in_err-set_absent.ensures.may_lack_memory.0 c.in_err-set_absent.ensures.may_lack_memory.1)
+
+pub returns-in-Err-clause-may_lack_memory : goal.returns-in-Err-clause-may_lack_memory
+returns-in-Err-clause-may_lack_memory t c =
+    first_is_new (numbers_in c.args.numbers.now.entries) (numbers_in c.args.numbers.now.entries) c.args.server
+    c.args.path c.in-Some.change.now c.in-Some.later.now c.args.changes.now c.new-key.result c.in-Some.ensures.cases.0
+    c.new-key.ensures.key (c.in_ok-set_absent.ensures.some c.if-branch.true)
+    (c.in_ok-set_absent.ensures.absent c.if-branch.true)
+
+pub returns-in_err-apply_changes-clause-may_lack_memory : goal.returns-in_err-apply_changes-clause-may_lack_memory
+returns-in_err-apply_changes-clause-may_lack_memory t c =
+    on_err c.from_residual-in_err-apply_changes.result _
+    (later_is_new (numbers_in c.args.numbers.now.entries) _ c.args.server c.args.path c.in-Some.change.now
+    c.in-Some.later.now c.args.changes.now c.new-key.result c.in-Some.ensures.cases.0
+    (c.in_ok-set_absent.ensures.kept c.if-branch.false) c.in_err-apply_changes.ensures.may_lack_memory)

@@ -5,6 +5,6 @@ use Rattle.notifier.proofs.query.parse_query.Given as goal
 -- the queries that are left lead to what all lead to, and none was read or the first spelled a change
 abbrev pub invariant-loop-query : goal.invariant-loop-query
 invariant-loop-query l =
-    (changes_of l.changes l.level (map (λ q. q.now) (drop l.query-index l.queries))
-    ≡ changes_of [] l.level (map (λ q. q.now) l.queries))
-    × (((l.query-index ≡ 0) × (l.changes ≡ [])) ⊎ BeginsWithChange l.level (map (λ q. q.now) l.queries))
+    (changes_of l.read l.level (map (λ q. q.items) (drop l.query-index l.queries))
+    ≡ changes_of [] l.level (map (λ q. q.items) l.queries))
+    × (((l.query-index ≡ 0) × (l.read ≡ [])) ⊎ BeginsWithChange l.level (map (λ q. q.items) l.queries))

@@ -1,8 +1,9 @@
 use Rattle.std.proofs.Common.{◌∙◌, ap, sym, take, slice_get}
 use Rattle.std.proofs.lemmas.Option.{slice_get-get_or}
+use Rattle.notification_times.proofs.Firsts.{same_first}
 use Rattle.notifier.specs.Due.{is_one_due}
 use Rattle.notifier.specs.Said.{Watch}
-use Rattle.notifier.proofs.Dues.{one_more_due, same_first}
+use Rattle.notifier.proofs.Dues.{one_more_due}
 use Rattle.notifier.proofs.observations.Observations.due.Goals as goal
 
 pub loop-place-preserved : goal.loop-place-preserved

@@ -1,6 +1,7 @@
 -- The first second at which one of the observations before the place is due.
 use Rattle.std.proofs.Common.{take}
-use Rattle.notifier.specs.Due.{IsFirst, is_one_due}
+use Rattle.notification_times.specs.First.{IsFirst}
+use Rattle.notifier.specs.Due.{is_one_due}
 use Rattle.notifier.proofs.observations.Observations.due.Given as goal
 
 abbrev pub invariant-loop-place : goal.invariant-loop-place
