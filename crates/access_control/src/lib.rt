@@ -3,7 +3,9 @@
 
 pub mod laws;
 mod letters;
+mod readable;
 mod right;
 
 pub use letters::Rights;
+pub use readable::{reads, shown_instances};
 pub use right::{control, control_of, entry_of, integer_at, may_create, rights};

@@ -97,7 +97,7 @@ fn set_outcome(store: &mut Store, outcome: Outcome) -> Result<(), AllocError>
     Ok(())
 }
 
-/// Sets what an event leads to. If an allocation fails, some of it may be set.
+/// Sets what an event leads to.
 fn change(
     alloc: Global,
     store: &mut Store,
@@ -113,32 +113,6 @@ fn change(
     Ok(())
 }
 
-fn holds(store: &Store, number: u16) -> bool
-    ensures { result ≡ is_some (firmware_value store.now number) }
-{
-    store.get(resource(number).single()).is_some()
-}
-
-/// Whether an event changes the Package URI.
-fn sets_uri(event: &FirmwareEvent) -> bool
-    ensures { result ≡ is_some (uri_of event.now) }
-{
-    match event {
-        FirmwareEvent::Cleared | FirmwareEvent::Uri(_) => true,
-        FirmwareEvent::Package | FirmwareEvent::Update | FirmwareEvent::Ended(_) => false,
-    }
-}
-
-/// Whether what an event sets is held.
-fn is_ready(store: &Store, event: &FirmwareEvent) -> bool
-    ensures { result ≡ is_ready store.now event.now }
-{
-    if !holds(store, UPDATE_STATE) || !holds(store, UPDATE_RESULT) {
-        return false;
-    }
-    !sets_uri(event) || holds(store, PACKAGE_URI)
-}
-
 /// Whether an event is in the table of what the device's State allows, as `take` returns. It takes no memory.
 pub fn takes(store: &Store, event: &FirmwareEvent) -> bool
     ensures { result ≡ is_some (firmware_after store.now event.now) }
@@ -148,7 +122,8 @@ pub fn takes(store: &Store, event: &FirmwareEvent) -> bool
 
 /// Applies an event, and returns whether it is in the table of what the device's State allows; one that is not changes
 /// nothing. An allocation can fail only for one that is (`taken`), and only if what it sets is not all held
-/// (`may_lack_memory`), as before the first event: State and Update Result, and Package URI if that changes.
+/// (`may_lack_memory`), as before the first event: State and Update Result, and Package URI if that changes. Some of it
+/// may be set then.
 pub fn take(alloc: Global, store: &mut Store, event: FirmwareEvent) -> Result<bool, AllocError>
     ensures answer { IfOk result (λ taken. taken ≡ is_some (firmware_after store.old event)) }
     ensures change { OnOk result (store.new ≡ unwrap_or (firmware_after store.old event) store.old) }
@@ -156,17 +131,10 @@ pub fn take(alloc: Global, store: &mut Store, event: FirmwareEvent) -> Result<bo
     // It takes memory only for an event that is taken, and only if what it sets is not all held.
     ensures taken { OnErr result (is_some (firmware_after store.old event) ≡ true) }
     ensures may_lack_memory { OnErr result (is_ready store.old event ≡ false) }
-    ensures unchanged { OnErr result (store.new ≡ store.old) }
 {
     let Some(outcome) = outcome_in(store, &event) else {
         return Ok(false);
     };
-    if is_ready(store, &event) {
-        change(alloc, store, event, outcome)?;
-        return Ok(true);
-    }
-    let mut next = store.copy()?;
-    change(alloc, &mut next, event, outcome)?;
-    *store = next;
+    change(alloc, store, event, outcome)?;
     Ok(true)
 }

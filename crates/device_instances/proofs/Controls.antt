@@ -1,27 +1,23 @@
 -- The instance of object 2 that a Create adds.
 use Rattle.std.proofs.Common.{◌≡◌, ◌≢◌, ℕ, Bool, true, false, cond, nat_le, eqb, length, Option, None, Some, pos}
-use Rattle.std.proofs.Common.{◌&&◌, ◌||◌, refl, sym, ap, subst, ◌∙◌, ◌⊎◌, inl, inr}
+use Rattle.std.proofs.Common.{◌&&◌, ◌||◌, refl, sym, ap, ◌∙◌, ◌⊎◌, inl, inr}
 use Rattle.std.specs.Option.{is_some}
 use Rattle.std.specs.Ordering.{eq_by_cmp}
 use Rattle.std.specs.FinMap as map
 use Rattle.std.proofs.lemmas.Bool.{eqb-true, and_parts, false≢true}
-use Rattle.lemmas.proofs.Tests.{or_first}
-use Rattle.lwm2m_values.specs.declared.value.Value.{Value}
 use Rattle.lwm2m_values.specs.declared.value.Value.TheVariants.{Whole}
-use Rattle.object_defs.specs.Path.{instance_cmp, single_of}
+use Rattle.object_defs.specs.Path.{instance_cmp}
 use Rattle.object_defs.specs.declared.path.FullPath.{FullPath}
 use Rattle.object_defs.specs.declared.path.InstancePath.{InstancePath}
-use Rattle.object_defs.specs.declared.path.ResourcePath.{ResourcePath}
-use Rattle.instance_store.specs.Stored.{Stored, value_at, has_instance, resource_path, with_value, with_instance}
+use Rattle.instance_store.specs.Stored.{Stored, value_at, has_instance, resource_path, with_instance}
 use Rattle.instance_store.specs.Stored.{without_values}
 use Rattle.access_control.specs.Rights.{control}
 use Rattle.device_instances.specs.Numbers.{instance_at, smallest_free}
 use Rattle.device_instances.specs.Creations.{is_full, with_number, with_control, with_control_at, with_control_for}
 use Rattle.device_instances.specs.Deletions.{instance_in, is_same}
 use Rattle.device_instances.proofs.Found.{found_free}
-use Rattle.device_instances.proofs.Instances.{same_numbers, added, not_added, behind_added, same_place}
-use Rattle.device_instances.specs.Within.{Within}
-use Rattle.device_instances.proofs.Within.{then, value_within, resource_within, is_itself, still_there}
+use Rattle.device_instances.proofs.Instances.{same_numbers, not_added, behind_added, same_place}
+use Rattle.device_instances.proofs.Within.{Within, then, value_within, resource_within, is_itself}
 
 pub one_place : (p q : InstancePath) → is_same p q ≡ true → p ≡ q
 one_place p q h =
@@ -48,19 +44,6 @@ number_within place s r n =
     value_within place s (record { object = place.object; instance = place.instance; resource = r; part = None })
     (Whole (pos n)) (is_itself place)
 
--- what sets a number in it, or removes its ACL, stays within it
-pub number_set : (s t : Stored) (p : ResourcePath) (j r : ℕ) (v : Value) → p ≡ control j r
-    → t ≡ with_value s (single_of p) v → Within (instance_at 2 j) s t
-number_set s t p j r v is set =
-    subst (Within (instance_at 2 j) s) (sym (set ∙ ap (λ q. with_value s (single_of q) v) is))
-    (value_within (instance_at 2 j) s (single_of (control j r)) v (is_itself (instance_at 2 j)))
-
-pub acl_cleared : (s t : Stored) (p : ResourcePath) (j : ℕ) → p ≡ control j 2
-    → t ≡ without_values s (resource_path p) → Within (instance_at 2 j) s t
-acl_cleared s t p j is cleared =
-    subst (Within (instance_at 2 j) s) (sym (cleared ∙ ap (λ q. without_values s (resource_path q)) is))
-    (resource_within (instance_at 2 j) s 2)
-
 bare : Stored → ℕ → Stored
 bare s j = without_values (with_instance s (instance_at 2 j)) (resource_path (control j 2))
 
@@ -78,12 +61,6 @@ control_within s j server place =
     (number_within (instance_at 2 j) a 0 place.object))
     (number_within (instance_at 2 j) b 1 place.instance))
     (number_within (instance_at 2 j) c 3 server)
-
-pub control_there : (s : Stored) (j server : ℕ) (place : InstancePath)
-    → has_instance (with_control s j server place) (instance_at 2 j) ≡ true
-control_there s j server place =
-    still_there (instance_at 2 j) (with_instance s (instance_at 2 j)) (with_control s j server place)
-    (control_within s j server place) (added s (instance_at 2 j))
 
 -- its number, if one is added
 abbrev pub new_number : Stored → ℕ → Option ℕ

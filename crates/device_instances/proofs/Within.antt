@@ -1,8 +1,7 @@
 -- Changes that stay within an instance.
-use Rattle.std.proofs.Common.{◌≡◌, ◌≢◌, ℕ, Bool, true, false, cond, not, ◌&&◌, eqb, List, [], ◌∷◌, None, Some, refl}
-use Rattle.std.proofs.Common.{sym, ap, subst, ◌∙◌, arith}
+use Rattle.std.proofs.Common.{◌≡◌, ℕ, Bool, true, false, cond, not, ◌&&◌, eqb, List, [], ◌∷◌, None, Some, refl}
+use Rattle.std.proofs.Common.{sym, ap, ◌∙◌, arith}
 use Rattle.std.specs.Ordering.{eq_by_cmp}
-use Rattle.std.specs.FinMap as map
 use Rattle.std.proofs.lemmas.Bool.{eq-eqb, false≢true}
 use Rattle.std.proofs.lemmas.Bool.Decides.{nat_tests}
 use Rattle.instance_store.proofs.SetValues.{value_after, value_elsewhere}
@@ -14,8 +13,8 @@ use Rattle.object_defs.specs.declared.path.InstancePath.{InstancePath}
 use Rattle.object_defs.specs.declared.path.Path.{Path}
 use Rattle.object_defs.proofs.PathOrder.{path_total, path_exact}
 use Rattle.object_defs.proofs.MapLaws.{get_kept}
-use Rattle.instance_store.specs.Stored.{Stored, value_at, has_instance, lies_in, instance_path, resource_path}
-use Rattle.instance_store.specs.Stored.{with_value, without_values, without_instance}
+use Rattle.instance_store.specs.Stored.{Stored, value_at, lies_in, resource_path}
+use Rattle.instance_store.specs.Stored.{with_value, without_values}
 use Rattle.lwm2m_payloads.specs.Changes.{resource_of, with_parts, with_given, is_kept, with_assignments, is_lost}
 use Rattle.lwm2m_payloads.specs.Changes.{without_lost, instance_written}
 use Rattle.lwm2m_payloads.specs.PartList.{PartList}
@@ -24,7 +23,11 @@ use Rattle.lwm2m_payloads.specs.declared.given.Given.{Given}
 use Rattle.lwm2m_payloads.specs.declared.given.Given.TheVariants.{Single, Parts}
 use Rattle.lwm2m_payloads.specs.declared.given.Mode.TheVariants.{Replace}
 use Rattle.device_instances.specs.Deletions.{instance_in, is_same}
-use Rattle.device_instances.specs.Within.{Within}
+
+-- values elsewhere and the instances stay
+pub record Within (place : InstancePath) (s t : Stored) : Type 0 where
+  pub values : (q : FullPath) → is_same (instance_in q) place ≡ false → value_at t q ≡ value_at s q
+  pub instances : t.instances ≡ s.instances
 
 -- ---- one value
 
@@ -48,9 +51,6 @@ kept s path q = get_kept path_total path_exact s.values (λ k. not (lies_in path
 
 pub unchanged : (place : InstancePath) (s : Stored) → Within place s s
 unchanged place s = record { values = λ q h. refl; instances = refl }
-
-pub same : (place : InstancePath) (s t : Stored) → t ≡ s → Within place s t
-same place s t e = subst (Within place s) (sym e) (unchanged place s)
 
 pub then : (place : InstancePath) (s t u : Stored) → Within place s t → Within place t u → Within place s u
 then place s t u a b = record { values = λ q h. b.values q h ∙ a.values q h; instances = b.instances ∙ a.instances }
@@ -130,22 +130,3 @@ written_within resources place given s =
     then place s (without_lost resources s place given) (instance_written Replace resources s place given)
     (lost_within resources place given s) (assignments_within resources place given
     (without_lost resources s place given))
-
--- what stays within an instance goes with it
-left_alike : (place : InstancePath) (s t : Stored) → Within place s t → (q : FullPath) (b : Bool)
-    → is_same (instance_in q) place ≡ b → cond (not b) (value_at t q) None ≡ cond (not b) (value_at s q) None
-left_alike place s t h q true e = refl
-left_alike place s t h q false e = h.values q e
-
-pub gone : (place : InstancePath) (s t : Stored) → Within place s t
-    → without_instance t place ≡ without_instance s place
-gone place s t h =
-    let values : (without_values t (instance_path place)).values ≡ (without_values s (instance_path place)).values =
-    map.same_map path_total path_exact _ _ (λ q.
-    kept t (instance_path place) q ∙ left_alike place s t h q (is_same (instance_in q) place) refl
-    ∙ sym (kept s (instance_path place) q)) in
-    λ i. record { values = values i; instances = map.remove (h.instances i) place }
-
-pub still_there : (place : InstancePath) (s t : Stored) → Within place s t → has_instance s place ≡ true
-    → has_instance t place ≡ true
-still_there place s t h has = ap (λ m. map.contains_key m place) h.instances ∙ has

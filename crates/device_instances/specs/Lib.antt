@@ -2,4 +2,3 @@ pub mod Creations
 pub mod Deletions
 pub mod Laws
 pub mod Numbers
-pub mod Within

@@ -1,9 +1,9 @@
-ghost use Rattle.std.specs.Prelude.{◌≡◌, ◌≢◌, ◌↔◌, true, false, nat_le, None, if◌then◌else◌, OnOk, OnErr};
+ghost use Rattle.std.specs.Prelude.{◌≡◌, ◌≢◌, ◌↔◌, true, false, nat_le, None, if◌then◌else◌, IfErr, OnOk};
 ghost use Rattle.std.specs.Prelude.{IsTrue, IsFalse, IsErrOf, Err};
 ghost use Rattle.object_defs.specs.Numbers.{access_control_object, object_id, object_instance_id, acl};
 ghost use Rattle.object_defs.specs.Numbers.{access_control_owner};
 ghost use Rattle.instance_store.specs.Stored.{Stored, has_instance, resource_path, with_instance};
-ghost use Rattle.instance_store.specs.Stored.{without_values, without_instance};
+ghost use Rattle.instance_store.specs.Stored.{without_values};
 ghost use Rattle.access_control.specs.Rights.{control};
 ghost use Rattle.lwm2m_payloads.specs.Changes.{is_too_many, has_too_many, instance_written};
 ghost use Rattle.object_defs.specs.declared.path.InstancePath.{InstancePath};
@@ -11,9 +11,7 @@ ghost use Rattle.object_defs.specs.declared.path.ResourcePath.{ResourcePath};
 ghost use Rattle.lwm2m_payloads.specs.declared.given.Mode.TheVariants.{Replace};
 ghost use Rattle.device_instances.specs.Numbers.{instance_at, smallest_free};
 ghost use Rattle.device_instances.specs.Creations.{is_full, has_no_room, with_number, with_control, with_created};
-ghost use Rattle.device_instances.specs.Within.{Within};
 
-use crate::deletion::remove;
 use crate::number::free_number;
 use access_control::control;
 use instance_store::{Store, StoreFault};
@@ -71,13 +69,11 @@ pub fn has_no_room(
         || has_too_many(resources, given)
 }
 
-/// Adds an instance for which there is room. Removing it again restores the store; an error changes nothing.
+/// Adds an instance for which there is room.
 fn add(store: &mut Store, place: InstancePath) -> Result<(), AllocError>
     requires free { has_instance store.old place ≡ false }
     requires room { is_full store.old place.object ≡ false }
-    ensures ok { OnOk result (store.new ≡ with_instance store.old place) }
-    ensures removal { OnOk result (without_instance store.new place ≡ store.old) }
-    ensures unchanged { OnErr result (store.new ≡ store.old) }
+    ensures { OnOk result (store.new ≡ with_instance store.old place) }
 {
     match store.add_instance(place) {
         Ok(()) => Ok(()),
@@ -94,8 +90,7 @@ fn put_number(
     number: u16,
 ) -> Result<(), AllocError>
     requires { has_instance store.old (instance_at access_control_object instance) ≡ true }
-    ensures ok { OnOk result (store.new ≡ with_number store.old (control instance resource) number) }
-    ensures within { Within (instance_at access_control_object instance) store.old store.new }
+    ensures { OnOk result (store.new ≡ with_number store.old (control instance resource) number) }
 {
     match store.put(control(instance, resource), Value::Whole(i64::from(number))) {
         Ok(()) => Ok(()),
@@ -107,8 +102,7 @@ fn put_number(
 /// Removes the entries in the ACL of an instance of Access Control that is there.
 fn clear_acl(store: &mut Store, instance: u16)
     requires { has_instance store.old (instance_at access_control_object instance) ≡ true }
-    ensures acl { store.new ≡ without_values store.old (resource_path (control instance acl)) }
-    ensures within { Within (instance_at access_control_object instance) store.old store.new }
+    ensures { store.new ≡ without_values store.old (resource_path (control instance acl)) }
 {
     match store.clear_resource(control(instance, ACL)) {
         Ok(()) => {}
@@ -116,8 +110,7 @@ fn clear_acl(store: &mut Store, instance: u16)
     }
 }
 
-/// Makes an instance of Access Control that is there refer to a place and have a server as owner. After an error part
-/// of this may be done.
+/// Makes an instance of Access Control that is there refer to a place and have a server as owner.
 fn fill_control(
     store: &mut Store,
     instance: u16,
@@ -125,11 +118,10 @@ fn fill_control(
     place: InstancePath,
 ) -> Result<(), AllocError>
     requires { has_instance store.old (instance_at access_control_object instance) ≡ true }
-    ensures ok { OnOk result (store.new ≡ with_number (with_number (with_number
+    ensures { OnOk result (store.new ≡ with_number (with_number (with_number
         (without_values store.old (resource_path (control instance acl)))
         (control instance object_id) place.object) (control instance object_instance_id) place.instance)
         (control instance access_control_owner) server) }
-    ensures within { Within (instance_at access_control_object instance) store.old store.new }
 {
     clear_acl(store, instance);
     put_number(store, instance, OBJECT_ID, place.object)?;
@@ -138,8 +130,7 @@ fn fill_control(
     Ok(())
 }
 
-/// Adds an instance of Access Control that refers to a place and has a server as owner. Removing it again restores the
-/// store; an error changes nothing.
+/// Adds an instance of Access Control that refers to a place and has a server as owner.
 fn add_control(
     store: &mut Store,
     instance: u16,
@@ -148,23 +139,14 @@ fn add_control(
 ) -> Result<(), AllocError>
     requires free { has_instance store.old (instance_at access_control_object instance) ≡ false }
     requires room { is_full store.old access_control_object ≡ false }
-    ensures ok { OnOk result (store.new ≡ with_control store.old instance server place) }
-    ensures removal { OnOk result
-        (without_instance store.new (instance_at access_control_object instance) ≡ store.old) }
-    ensures unchanged { OnErr result (store.new ≡ store.old) }
+    ensures { OnOk result (store.new ≡ with_control store.old instance server place) }
 {
     let at = InstancePath {
         object: ACCESS_CONTROL,
         instance,
     };
     add(store, at)?;
-    match fill_control(store, instance, server, place) {
-        Ok(()) => Ok(()),
-        Err(refused) => {
-            remove(store, at);
-            Err(refused)
-        }
-    }
+    fill_control(store, instance, server, place)
 }
 
 /// The number of the instance of Access Control that a Create adds: with two accounts or more, the smallest free one.
@@ -177,8 +159,7 @@ fn control_number(store: &Store, accounts: usize) -> Option<u16>
     free_number(store, ACCESS_CONTROL)
 }
 
-/// Sets what the resources of an instance that is there are given, where there is room for all their parts. After an
-/// error part of this may be done.
+/// Sets what the resources of an instance that is there are given, where there is room for all their parts.
 fn write(
     resources: &[ResourceDef],
     store: &mut Store,
@@ -187,8 +168,7 @@ fn write(
 ) -> Result<(), AllocError>
     requires there { has_instance store.old place ≡ true }
     requires room { has_too_many Replace resources.now store.old place given ≡ false }
-    ensures ok { OnOk result (store.new ≡ instance_written Replace resources.now store.old place given) }
-    ensures within { Within place store.old store.new }
+    ensures { OnOk result (store.new ≡ instance_written Replace resources.now store.old place given) }
 {
     match write_instance(Mode::Replace, resources, store, place, given) {
         Ok(()) => Ok(()),
@@ -197,7 +177,7 @@ fn write(
     }
 }
 
-/// Adds an instance with what it is given, for which there is room. An error changes nothing.
+/// Adds an instance with what it is given, for which there is room.
 fn add_given(
     resources: &[ResourceDef],
     store: &mut Store,
@@ -207,22 +187,14 @@ fn add_given(
     requires free { has_instance store.old place ≡ false }
     requires room { is_full store.old place.object ≡ false }
     requires few { has_too_many Replace resources.now store.old place given ≡ false }
-    ensures ok { OnOk result
+    ensures { OnOk result
         (store.new ≡ instance_written Replace resources.now (with_instance store.old place) place given) }
-    ensures unchanged { OnErr result (store.new ≡ store.old) }
 {
     add(store, place)?;
-    match write(resources, store, place, given) {
-        Ok(()) => Ok(()),
-        Err(refused) => {
-            remove(store, place);
-            Err(refused)
-        }
-    }
+    write(resources, store, place, given)
 }
 
-/// Adds an instance for which there is room, with what it is given, and with its instance of Access Control. An error
-/// changes nothing.
+/// Adds an instance for which there is room, with what it is given, and with its instance of Access Control.
 fn make(
     store: &mut Store,
     accounts: usize,
@@ -234,30 +206,19 @@ fn make(
     requires free { has_instance store.old place ≡ false }
     requires room { has_no_room store.old accounts resources.now place given ≡ false }
     requires other { place.object ≢ 2 }
-    ensures ok { OnOk result (store.new ≡ with_created store.old accounts server resources.now place given) }
-    ensures unchanged { OnErr result (store.new ≡ store.old) }
+    ensures { OnOk result (store.new ≡ with_created store.old accounts server resources.now place given) }
 {
     let Some(instance) = control_number(store, accounts) else {
         return add_given(resources, store, place, given);
     };
     add_control(store, instance, server, place)?;
-    let control = InstancePath {
-        object: ACCESS_CONTROL,
-        instance,
-    };
-    match add_given(resources, store, place, given) {
-        Ok(()) => Ok(()),
-        Err(refused) => {
-            remove(store, control);
-            Err(refused)
-        }
-    }
+    add_given(resources, store, place, given)
 }
 
 /// Creates an instance of an object other than 2 with what its resources are given, for a server of a device that has
 /// this many accounts. With two accounts or more it also adds an instance of object 2 Access Control, which refers to
-/// it and has the server as owner. `Exists`, otherwise `Full` exactly if there is no room (`has_no_room`); an error
-/// changes nothing.
+/// it and has the server as owner. `Exists`, otherwise `Full` exactly if there is no room (`has_no_room`): both change
+/// nothing. If an allocation fails, part of this may be done.
 pub fn create(
     store: &mut Store,
     accounts: usize,
@@ -275,7 +236,7 @@ pub fn create(
     ensures full { IsErrOf result StoreFault.Full
         ↔ (IsFalse (has_instance store.old place) × IsTrue (has_no_room store.old accounts resources.now place given)) }
     ensures never_absent { result ≢ Err StoreFault.Absent }
-    ensures unchanged { OnErr result (store.new ≡ store.old) }
+    ensures unchanged { IfErr result (λ fault. fault ≢ StoreFault.Memory → store.new ≡ store.old) }
 {
     if store.has_instance(place) {
         return Err(StoreFault::Exists);

@@ -7,7 +7,7 @@ use instance_store::{Store, StoreFault};
 use object_defs::InstancePath;
 
 /// Removes an instance that is there.
-pub(crate) fn remove(store: &mut Store, place: InstancePath)
+fn remove(store: &mut Store, place: InstancePath)
     requires { has_instance store.old place ≡ true }
     ensures { store.new ≡ without_instance store.old place }
 {

@@ -19,4 +19,3 @@ pub mod ReadBack
 pub mod Reading
 pub mod Refusing
 pub mod Unchanged
-mod Unfinished

@@ -1,6 +1,7 @@
 -- What a server may do to what a path names (OMA LwM2M 1.1 Core, access control).
-use Rattle.std.specs.Prelude.{ℕ, ◌==◌, Bool, ◌||◌, List, length}
-use Rattle.std.specs.List.{filter, list_any}
+use Rattle.std.specs.Prelude.{ℕ, ◌==◌, Bool, ◌||◌, length}
+use Rattle.std.specs.List.{list_any}
+pub use Rattle.access_control.specs.Readable.{reads, shown_instances}
 use Rattle.access_control.specs.Rights.{right_of, creation}
 use Rattle.access_control.specs.declared.letters.Rights.{Rights}
 use Rattle.object_defs.specs.declared.path.Path.{Path}
@@ -15,14 +16,6 @@ rights_at stored accounts server (Object o) = right_of stored accounts server o 
 rights_at stored accounts server (Instance o i) = right_of stored accounts server o i
 rights_at stored accounts server (Resource o i r) = right_of stored accounts server o i
 rights_at stored accounts server (Part o i r n) = right_of stored accounts server o i
-
--- the server has R on an instance
-abbrev pub reads : Stored → ℕ → ℕ → ℕ → ℕ → Bool
-reads stored accounts server o i = (right_of stored accounts server o i).read
-
--- the instances of an object on which the server has R
-abbrev pub shown_instances : Stored → ℕ → ℕ → ℕ → List ℕ
-shown_instances stored accounts server o = filter (reads stored accounts server o) (instances_of stored o)
 
 -- an object may be read that has no instance, or one on which the server has R
 abbrev pub may_read_at : Stored → ℕ → ℕ → Path → Bool

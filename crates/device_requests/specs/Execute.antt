@@ -34,13 +34,6 @@ act_of path =
     else if is_resource server_object registration_update_trigger path then Some RegUpdate
     else None
 
--- without the error codes of the instance that a resource lies in
-abbrev pub without_errors : Stored → Path → Stored
-without_errors stored (Object o) = stored
-without_errors stored (Instance o i) = stored
-without_errors stored (Resource o i r) = without_values stored (resource_path (resource_place o i error_code))
-without_errors stored (Part o i r n) = stored
-
 -- Error Code is 0, no error, alone
 abbrev pub with_no_error : Stored → Path → Stored
 with_no_error stored (Object o) = stored

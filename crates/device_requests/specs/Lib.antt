@@ -19,6 +19,5 @@ pub mod Read
 pub mod Refusals
 pub mod Request
 pub mod Targets
-pub mod Unfinished
 pub mod Write
 pub mod WriteAttributes

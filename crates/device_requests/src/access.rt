@@ -1,15 +1,14 @@
 //! The rights of a server at the paths of requests.
 
-ghost use Rattle.std.specs.Prelude.{◌≡◌, ◌==◌, ◌||◌, length, IfOk};
+ghost use Rattle.std.specs.Prelude.{◌≡◌, ◌==◌, ◌||◌, length};
 ghost use Rattle.std.specs.List.{list_any};
 ghost use Rattle.instance_store.specs.Stored.{instances_of};
-ghost use Rattle.device_requests.specs.Access.{may_read, may_read_at, reads, rights_at, rights_on, shown_instances};
+ghost use Rattle.device_requests.specs.Access.{may_read, may_read_at, reads, rights_at, rights_on};
 
 use crate::client::Client;
-use access_control::{Rights, rights};
+use access_control::{Rights, reads, rights};
 use instance_store::Store;
 use object_defs::Path;
-use std::alloc::{AllocError, Global};
 
 /// The number that stands for the instances that are not there yet.
 const CREATION: u16 = 65535;
@@ -25,29 +24,6 @@ fn rights_at(store: &Store, accounts: usize, server: u16, path: Path) -> Rights
         | Path::Resource(object, instance, _)
         | Path::Part(object, instance, _, _) => rights(store, accounts, server, object, instance),
     }
-}
-
-/// Whether the server has R on an instance.
-fn reads(store: &Store, accounts: usize, server: u16, object: u16, instance: u16) -> bool
-    ensures { result ≡ reads store.now accounts server object instance }
-{
-    rights(store, accounts, server, object, instance).read
-}
-
-/// The instances of an object on which the server has R, in order.
-pub(crate) fn shown_instances(
-    alloc: Global,
-    store: &Store,
-    accounts: usize,
-    server: u16,
-    object: u16,
-) -> Result<Vec<u16>, AllocError>
-    ensures { IfOk result (λ v. v.items ≡ shown_instances store.now accounts server object) }
-{
-    let instances = store.instances(object).iter().copied();
-    instances
-        .filter(|instance| reads(store, accounts, server, object, *instance))
-        .collect(alloc)
 }
 
 /// Whether there is an instance of an object on which the server has R.

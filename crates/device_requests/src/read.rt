@@ -13,10 +13,10 @@ ghost use Rattle.device_requests.specs.Read.{object_payload, one_payload, payloa
 ghost use Rattle.device_requests.specs.Refusals.{can_be_read, is_oversized};
 ghost use Rattle.device_requests.specs.Targets.{definition_at, exists};
 
-use crate::access::shown_instances;
 use crate::answer::{Answer, Code};
 use crate::client::Client;
 use crate::targets::{defined, definition_at, exists_as, is_multiple, is_readable, resource_place};
+use access_control::shown_instances;
 use instance_store::Store;
 use lwm2m_payloads::{Format, format_for, object_tlv, values_tlv, write_part, write_single};
 use lwm2m_values::Value;
@@ -204,9 +204,9 @@ impl Client {
             return Ok(Answer::bare(self.alloc, Code::NotAcceptable));
         };
         let payload = match single {
-            Some((resource, value)) => write_single(self.alloc, format, resource, value)?,
-            None => self.shown(server, path, definition, format)?,
-        };
+            Some((resource, value)) => write_single(self.alloc, format, resource, value),
+            None => self.shown(server, path, definition, format),
+        }?;
         match payload {
             None => Ok(Answer::bare(self.alloc, Code::InternalServerError)),
             Some(payload) => Ok(Answer::content(format.number(), payload)),

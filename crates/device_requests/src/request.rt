@@ -1,12 +1,11 @@
 //! What a request asks for, read once from its options, and what it answers and changes.
 
 ghost use Rattle.std.specs.Prelude.{◌≡◌, true, false, IfErr, IfOk, IsOk, OnErr, OnOk};
-ghost use Rattle.device_requests.specs.Answer.{Leaves, is_bad_option, is_change, takes_memory};
+ghost use Rattle.device_requests.specs.Answer.{Leaves, is_bad_option, takes_memory};
 ghost use Rattle.device_requests.specs.Observe.{interest_of};
 ghost use Rattle.device_requests.specs.Options.{has_unrecognized_critical};
 ghost use Rattle.device_requests.specs.Refusals.{lacks_operation};
 ghost use Rattle.device_requests.specs.Request.{outcome_at, outcome_of, purpose_of, request_of};
-ghost use Rattle.device_requests.specs.Unfinished.{IsPartBy, IsUnfinished};
 
 use crate::answer::{Answer, Code};
 use crate::client::Client;
@@ -89,9 +88,6 @@ impl Client {
             (takes_memory (outcome_at self.old server message.now request).answer.code ≡ true) }
         ensures has { OnErr result
             (lacks_operation self.old.catalog request.path (purpose_of message.now request.operation) ≡ false) }
-        ensures left { OnErr result (IsPartBy self.old message.now request request.operation self.new) }
-        ensures refused { OnErr result
-            (is_change (outcome_at self.old server message.now request).answer.code ≡ false → self.new ≡ self.old) }
     {
         let path = request.path;
         let number = request.content_format;
@@ -119,10 +115,8 @@ impl Client {
     ///
     /// No refusal of an option, a path, a method, a server, an operation that the target does not have or a format
     /// takes memory (`request`, `has`); those that may are listed by code, and of 4.05 only that of a firmware that
-    /// does not take a Package, a Package URI or an Update now (`may_lack_memory`). If memory runs out, all is as
-    /// before (`left`), with two exceptions: of a Write that gives several values, those of the instance or the
-    /// resource that it writes to may be any, and no other has changed; and Reset Error Code may have removed the error
-    /// codes. No instance is there or gone for it, and a request that would be refused leaves all as it was.
+    /// does not take a Package, a Package URI or an Update now (`may_lack_memory`). What is managed after an allocation
+    /// failed is open.
     pub fn answer(&mut self, server: u16, message: &Message) -> Result<RequestResult, AllocError>
         ensures outcome { IfOk result (λ h. Leaves h.answer self.new (outcome_of self.old server message.now)) }
         ensures interest { IfOk result (λ h. h.interest ≡ interest_of message.now) }
@@ -135,7 +129,6 @@ impl Client {
             lacks_operation self.old.catalog r.path (purpose_of message.now r.operation) ≡ false)) }
         ensures may_lack_memory { OnErr result (takes_memory (outcome_of self.old server message.now).answer.code
             ≡ true) }
-        ensures left { OnErr result (IsUnfinished self.old server message.now self.new) }
     {
         match Request::read(message) {
             Err(code) => Ok(RequestResult {

@@ -1,24 +1,20 @@
 //! A Write: its rules, which targets it has, what its payload gives, and how that is set.
 
-ghost use Rattle.std.specs.Prelude.{◌≡◌, ◌≢◌, ◌==◌, ◌∷◌, [], true, false, not, Err, IfOk, OnErr, OnOk, Some, None};
-ghost use Rattle.std.specs.Prelude.{IsErrOf, IsFalse, IsTrue};
+ghost use Rattle.std.specs.Prelude.{◌≡◌, ◌==◌, ◌∷◌, [], true, false, not, IfOk, OnErr, OnOk, Some, None};
 ghost use Rattle.std.specs.Option.{is_some, unwrap_or};
 ghost use Rattle.device_firmware.specs.Firmware.{firmware_after, is_ready};
-ghost use Rattle.instance_store.specs.Stored.{has_instance, instance_of, instance_path, resource_path};
-ghost use Rattle.lwm2m_payloads.specs.Changes.{SameOutside, has_too_many, instance_written, is_kept_as, is_too_many};
-ghost use Rattle.lwm2m_payloads.specs.Changes.{with_given};
+ghost use Rattle.instance_store.specs.Stored.{has_instance, instance_of};
+ghost use Rattle.lwm2m_payloads.specs.Changes.{has_too_many, instance_written, is_kept_as};
 ghost use Rattle.object_defs.specs.Lines.{first_line};
-ghost use Rattle.device_requests.specs.Answer.{Leaves, is_change, takes_memory};
+ghost use Rattle.device_requests.specs.Answer.{Leaves, takes_memory};
 ghost use Rattle.device_requests.specs.Read.{format_at};
 ghost use Rattle.device_requests.specs.Inside.{give, has_place, value_rules};
 ghost use Rattle.device_requests.specs.Outcomes.{write_outcome};
 ghost use Rattle.device_requests.specs.Refusals.{can_be_written, is_target, is_writable};
-ghost use Rattle.device_requests.specs.Unfinished.{IsWrittenInPart, gives_several, written_at};
 ghost use Rattle.device_requests.specs.Write.{event_of, given_to_part, given_to_resource};
 ghost use Rattle.device_requests.specs.Write.{mode_at, new_values, package_in, resource_exceeds};
 ghost use Rattle.device_requests.specs.Write.{resource_written, uri_in, values_exceed, values_given, values_written};
 ghost use Rattle.device_requests.specs.Write.{write_unless};
-ghost use Rattle.device_requests.specs.declared.write.NewValues.TheVariants as values;
 
 use crate::answer::{Answer, Code};
 use crate::client::Client;
@@ -258,28 +254,6 @@ fn exceeds(
     }
 }
 
-/// Sets what a resource is given, as `set_given` does. After an error a single value is not set; of parts some may be,
-/// or those that they replace be gone.
-fn set_in_resource(
-    mode: Mode,
-    store: &mut Store,
-    place: ResourcePath,
-    given: Given,
-) -> Result<(), StoreFault>
-    ensures ok { OnOk result (store.new ≡ with_given mode store.old place given) }
-    ensures absent { IsErrOf result StoreFault.Absent → IsFalse (has_instance store.old (instance_of place)) }
-    ensures full { IsErrOf result StoreFault.Full → IsTrue (is_too_many mode store.old place given) }
-    ensures never_exists { result ≢ Err StoreFault.Exists }
-    ensures instances { OnErr result (store.new.instances ≡ store.old.instances) }
-    ensures elsewhere { OnErr result (SameOutside (resource_path place) store.new store.old) }
-    ensures single { OnErr result (gives_several (Some (values.One given)) ≡ false → store.new ≡ store.old) }
-{
-    match given {
-        Given::Single(value) => store.put(place, value),
-        Given::Parts(parts) => set_given(mode, store, place, Given::Parts(parts)),
-    }
-}
-
 /// Sets what is given to a resource of an instance that is there, where it keeps its values and has
 /// no more parts then than it may.
 fn write_resource(
@@ -293,14 +267,11 @@ fn write_resource(
     requires room { resource_exceeds mode definition store.old place given ≡ false }
     ensures written { OnOk result (store.new ≡ resource_written mode definition store.old place given) }
     ensures kept { OnErr result (is_kept_as definition ≡ true) }
-    ensures instances { OnErr result (store.new.instances ≡ store.old.instances) }
-    ensures elsewhere { OnErr result (SameOutside (resource_path place) store.new store.old) }
-    ensures single { OnErr result (gives_several (Some (values.One given)) ≡ false → store.new ≡ store.old) }
 {
     if !is_readable(definition) {
         return Ok(());
     }
-    match set_in_resource(mode, store, place, given) {
+    match set_given(mode, store, place, given) {
         Ok(()) => Ok(()),
         Err(StoreFault::Memory) => Err(AllocError),
         Err(_) => unreachable!(),
@@ -318,9 +289,7 @@ fn write_resources(
 ) -> Result<(), AllocError>
     requires there { has_instance store.old place ≡ true }
     requires room { has_too_many mode resources.now store.old place given ≡ false }
-    ensures written { OnOk result (store.new ≡ instance_written mode resources.now store.old place given) }
-    ensures instances { OnErr result (store.new.instances ≡ store.old.instances) }
-    ensures elsewhere { OnErr result (SameOutside (instance_path place) store.new store.old) }
+    ensures { OnOk result (store.new ≡ instance_written mode resources.now store.old place given) }
 {
     match write_instance(mode, resources, store, place, given) {
         Ok(()) => Ok(()),
@@ -340,10 +309,7 @@ fn write_at(
 ) -> Result<(), AllocError>
     requires there { has_place store.old path ≡ true }
     requires room { values_exceed mode catalog.now store.old path values ≡ false }
-    ensures written { OnOk result (store.new ≡ values_written mode catalog.now store.old path values) }
-    ensures instances { OnErr result (store.new.instances ≡ store.old.instances) }
-    ensures elsewhere { OnErr result (SameOutside (written_at path) store.new store.old) }
-    ensures single { OnErr result (gives_several (Some values) ≡ false → store.new ≡ store.old) }
+    ensures { OnOk result (store.new ≡ values_written mode catalog.now store.old path values) }
 {
     let definition = definition_at(catalog, path);
     match values {
@@ -370,13 +336,10 @@ impl Client {
     /// than it may.
     fn set(&mut self, mode: Mode, path: Path, values: NewValues) -> Result<Answer, AllocError>
         requires { has_place self.old.store path ≡ true }
-        ensures outcome { IfOk result (λ a. Leaves a self.new
+        ensures { IfOk result (λ a. Leaves a self.new
             (write_unless (first_line
             ((values_exceed mode self.old.catalog self.old.store path values, Code.InternalServerError) ∷ []))
             self.old (values_written mode self.old.catalog self.old.store path values))) }
-        ensures left { OnErr result (IsWrittenInPart path (Some values) self.old self.new) }
-        ensures refused { OnErr result
-            (values_exceed mode self.old.catalog self.old.store path values ≡ true → self.new ≡ self.old) }
     {
         if exceeds(mode, &self.catalog, &self.store, path, &values)? {
             return Ok(Answer::bare(self.alloc, Code::InternalServerError));
@@ -395,7 +358,6 @@ impl Client {
         // Only if its State allows it, and what changes is not all held.
         ensures taken { OnErr result (is_some (firmware_after self.old.store event) ≡ true) }
         ensures may_lack_memory { OnErr result (is_ready self.old.store event ≡ false) }
-        ensures unchanged { OnErr result (self.new ≡ self.old) }
     {
         if take(self.alloc, &mut self.store, event)? {
             return Ok(Answer::bare(self.alloc, Code::Changed));
@@ -412,13 +374,8 @@ impl Client {
         payload: &[u8],
     ) -> Result<Answer, AllocError>
         requires { has_place self.old.store path ≡ true }
-        ensures outcome { IfOk result (λ a. let values = values_given self.old.catalog path payload.now format in
+        ensures { IfOk result (λ a. let values = values_given self.old.catalog path payload.now format in
             Leaves a self.new (give (value_rules self.old mode path values) self.old mode path values)) }
-        ensures left { OnErr result (IsWrittenInPart path (values_given self.old.catalog path payload.now format)
-            self.old self.new) }
-        ensures refused { OnErr result (let values = values_given self.old.catalog path payload.now format in
-            is_change (give (value_rules self.old mode path values) self.old mode path values).answer.code ≡ false
-            → self.new ≡ self.old) }
     {
         let Some(values) = values_given(self.alloc, &self.catalog, path, payload, format)? else {
             return Ok(Answer::bare(self.alloc, Code::BadRequest));
@@ -444,13 +401,6 @@ impl Client {
             ((not (is_some (format_at self.old.catalog path number)), Code.UnsupportedContentFormat)
             ∷ value_rules self.old mode path values) self.old mode path values)) }
         ensures may_lack_memory { OnErr result (is_some (format_at self.old.catalog path number) ≡ true) }
-        ensures left { OnErr result
-            (IsWrittenInPart path (new_values self.old path number payload.now) self.old self.new) }
-        ensures refused { OnErr result (let values = new_values self.old path number payload.now in
-            is_change (give
-            ((not (is_some (format_at self.old.catalog path number)), Code.UnsupportedContentFormat)
-            ∷ value_rules self.old mode path values) self.old mode path values).answer.code ≡ false
-            → self.new ≡ self.old) }
     {
         let Some(format) = format_for(path, definition_at(&self.catalog, path), number) else {
             return Ok(Answer::bare(self.alloc, Code::UnsupportedContentFormat));
@@ -471,15 +421,10 @@ impl Client {
         ensures outcome { IfOk result
             (λ a. Leaves a self.new (write_outcome self.old server mode path number payload.now)) }
 
-        // Only what the payload gives takes memory. After an error some of several values may be set.
+        // Only what the payload gives takes memory.
         ensures may_lack_memory { OnErr result
             (takes_memory (write_outcome self.old server mode path number payload.now).answer.code ≡ true) }
         ensures allowed { OnErr result (can_be_written self.old.catalog path ≡ true) }
-        ensures left { OnErr result
-            (IsWrittenInPart path (new_values self.old path number payload.now) self.old self.new) }
-        ensures refused { OnErr result
-            (is_change (write_outcome self.old server mode path number payload.now).answer.code ≡ false
-            → self.new ≡ self.old) }
     {
         if path.object() == SECURITY {
             return Ok(Answer::bare(self.alloc, Code::Unauthorized));

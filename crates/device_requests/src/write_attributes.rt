@@ -152,7 +152,6 @@ impl Client {
         ensures may_lack_memory { OnErr result (is_some (new_numbers self.old.attributes server path changes.now)
             ≡ true) }
         ensures only_with_changes { OnErr result (changes.now ≢ []) }
-        ensures unchanged { OnErr result (self.new ≡ self.old) }
     {
         match self.attributes.write(server, path, changes) {
             Ok(()) => Ok(Answer::bare(self.alloc, Code::Changed)),
@@ -176,7 +175,6 @@ impl Client {
             (attributes_outcome self.old server path (queries_of options.now)).answer.code ≡ true) }
         ensures begins { OnErr result
             (BeginsWithChange (level_at self.old.catalog path) (queries_of options.now)) }
-        ensures unchanged { OnErr result (self.new ≡ self.old) }
     {
         if path.object() == SECURITY {
             return Ok(Answer::bare(self.alloc, Code::Unauthorized));

@@ -7,7 +7,6 @@ pub mod Least
 pub mod Nesting
 pub mod New
 pub mod Once
-pub mod Outside
 pub mod Reading
 pub mod Room
 pub mod Places

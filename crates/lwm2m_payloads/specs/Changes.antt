@@ -6,12 +6,9 @@ use Rattle.object_defs.specs.Catalog.{resource_in}
 use Rattle.object_defs.specs.Operations.{can_read, can_write}
 use Rattle.object_defs.specs.Path.{single_of, part_of}
 use Rattle.object_defs.specs.declared.definition.ResourceDef.{ResourceDef}
-use Rattle.object_defs.specs.declared.path.FullPath.{FullPath}
 use Rattle.object_defs.specs.declared.path.InstancePath.{InstancePath}
-use Rattle.object_defs.specs.declared.path.Path.{Path}
 use Rattle.object_defs.specs.declared.path.ResourcePath.{ResourcePath}
 use Rattle.instance_store.specs.Stored.{Stored, value_at, parts_of, resource_path, with_value, without_values}
-use Rattle.instance_store.specs.Stored.{lies_in}
 use Rattle.lwm2m_payloads.specs.declared.given.Assignment.{Assignment}
 use Rattle.lwm2m_payloads.specs.declared.given.Given.{Given}
 use Rattle.lwm2m_payloads.specs.declared.given.Given.TheVariants.{Single, Parts}
@@ -98,7 +95,3 @@ gives_new Update stored p (Parts parts) = list_any (λ e. not (is_some (value_at
 abbrev pub has_new : Mode → List ResourceDef → Stored → InstancePath → List Assignment → Bool
 has_new mode resources stored place given =
     list_any (λ a. is_kept resources a && gives_new mode stored (resource_of place a.resource) a.given) given
-
--- two stores have the same values at each full path that is not at or below a path
-abbrev pub SameOutside : Path → Stored → Stored → Type 0
-SameOutside place s t = (q : FullPath) → lies_in place q ≡ false → value_at s q ≡ value_at t q

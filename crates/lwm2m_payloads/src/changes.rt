@@ -1,8 +1,8 @@
 ghost use Rattle.std.specs.Prelude.{◌≡◌, ◌≢◌, ◌&&◌, Err, IsErrOf, IsFalse, IsTrue, OnOk, if◌then◌else◌};
-ghost use Rattle.instance_store.specs.Stored.{has_instance, instance_of, instance_path, resource_path};
+ghost use Rattle.instance_store.specs.Stored.{has_instance, instance_of};
 ghost use Rattle.lwm2m_payloads.specs.Changes.{gives_new, is_kept, is_lost, is_too_many, has_too_many, resource_of};
 ghost use Rattle.lwm2m_payloads.specs.Changes.{with_parts, with_given, with_assignments, without_lost};
-ghost use Rattle.lwm2m_payloads.specs.Changes.{instance_written, has_new, SameOutside};
+ghost use Rattle.lwm2m_payloads.specs.Changes.{instance_written, has_new};
 ghost use Rattle.lwm2m_payloads.specs.declared.given.Given.TheVariants as given;
 ghost use Rattle.lwm2m_payloads.specs.declared.given.Mode.TheVariants.{Update};
 
@@ -18,8 +18,6 @@ fn put_parts(store: &mut Store, path: ResourcePath, parts: Parts) -> Result<(), 
     ensures never_exists { result ≢ Err StoreFault.Exists }
     ensures may_lack_memory { IsErrOf result StoreFault.Memory
         → IsTrue (gives_new Update store.old path (given.Parts parts)) }
-    ensures instances { store.new.instances ≡ store.old.instances }
-    ensures elsewhere { SameOutside (resource_path path) store.new store.old }
 {
     for (part, value) in parts.into_vec() {
         store.put_part(path, part, value)?;
@@ -30,7 +28,7 @@ fn put_parts(store: &mut Store, path: ResourcePath, parts: Parts) -> Result<(), 
 /// Sets what a resource is given: its single value, or parts. Under Replace it then has these parts and no others;
 /// under Update it keeps the others. `Absent`: there is no such instance; `Full`: the resource would have more than 32
 /// parts, for which `is_too_many` is the test. An allocation can fail only if something is given, and kept, that
-/// replaces no value. After an error some of its values may be gone or set, and all else is as before.
+/// replaces no value. After an error some of its values may be gone or set.
 pub fn set_given(
     mode: Mode,
     store: &mut Store,
@@ -45,8 +43,6 @@ pub fn set_given(
     ensures full { IsErrOf result StoreFault.Full → IsTrue (is_too_many mode store.old path given) }
     ensures never_exists { result ≢ Err StoreFault.Exists }
     ensures may_lack_memory { IsErrOf result StoreFault.Memory → IsTrue (gives_new mode store.old path given) }
-    ensures instances { store.new.instances ≡ store.old.instances }
-    ensures elsewhere { SameOutside (resource_path path) store.new store.old }
 {
     match given {
         Given::Single(value) => store.put(path, value),
@@ -77,8 +73,6 @@ fn set_assigned(
     ensures may_lack_memory { IsErrOf result StoreFault.Memory
         → IsTrue (is_kept resources.now assignment
         && gives_new mode store.old (resource_of place assignment.resource) assignment.given) }
-    ensures instances { store.new.instances ≡ store.old.instances }
-    ensures elsewhere { SameOutside (resource_path (resource_of place assignment.resource)) store.new store.old }
 {
     if !is_kept(resources, assignment.resource) {
         return Ok(());
@@ -100,8 +94,6 @@ fn set_all(
     ensures never_exists { result ≢ Err StoreFault.Exists }
     ensures may_lack_memory { IsErrOf result StoreFault.Memory
         → IsTrue (has_new mode resources.now store.old place given) }
-    ensures instances { store.new.instances ≡ store.old.instances }
-    ensures elsewhere { SameOutside (instance_path place) store.new store.old }
 {
     for assignment in given.into_vec() {
         set_assigned(mode, resources, store, place, assignment)?;
@@ -127,8 +119,6 @@ fn clear_lost(
     ensures never_full { result ≢ Err StoreFault.Full }
     ensures never_exists { result ≢ Err StoreFault.Exists }
     ensures never_memory { result ≢ Err StoreFault.Memory }
-    ensures instances { store.new.instances ≡ store.old.instances }
-    ensures elsewhere { SameOutside (instance_path place) store.new store.old }
 {
     for definition in resources {
         if is_lost(given, *definition) {
@@ -141,8 +131,7 @@ fn clear_lost(
 /// Writes what an instance is given (OMA LwM2M 1.1 Core, Write). Replace first takes away the optional writable
 /// resources that are not named. Values of write-only resources are not kept. `Absent`: there is no such instance;
 /// `Full`: a resource would have more than 32 parts, for which `has_too_many` is the test. An allocation can fail only
-/// if something is given, and kept, that replaces no value. After an error a part of this may be done, and all outside
-/// the instance is as before.
+/// if something is given, and kept, that replaces no value. After an error a part of this may be done.
 pub fn write_instance(
     mode: Mode,
     resources: &[ResourceDef],
@@ -159,8 +148,6 @@ pub fn write_instance(
     ensures never_exists { result ≢ Err StoreFault.Exists }
     ensures may_lack_memory { IsErrOf result StoreFault.Memory
         → IsTrue (has_new mode resources.now store.old place given) }
-    ensures instances { store.new.instances ≡ store.old.instances }
-    ensures elsewhere { SameOutside (instance_path place) store.new store.old }
 {
     match mode {
         Mode::Replace => {

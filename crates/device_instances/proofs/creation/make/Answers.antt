@@ -2,10 +2,9 @@ use Rattle.std.proofs.Common.{◌≡◌, None, OnOk, sym, ap, subst, ◌∙◌}
 use Rattle.lemmas.proofs.Tests.{or_first}
 use Rattle.lwm2m_payloads.specs.Changes.{instance_written}
 use Rattle.lwm2m_payloads.specs.declared.given.Mode.TheVariants.{Replace}
-use Rattle.instance_store.specs.Stored.{Stored, has_instance, with_instance, without_instance}
-use Rattle.device_instances.specs.Numbers.{instance_at}
+use Rattle.instance_store.specs.Stored.{Stored, has_instance, with_instance}
 use Rattle.device_instances.specs.Creations.{is_full}
-use Rattle.device_instances.proofs.Controls.{control_free, control_full, control_there, control_by, control_made}
+use Rattle.device_instances.proofs.Controls.{control_free, control_full, control_by, control_made}
 use Rattle.device_instances.proofs.Controls.{number_free, number_fits}
 use Rattle.device_instances.proofs.Counting.{counts_alike, last_is_false}
 use Rattle.device_instances.proofs.creation.make.Goals as goal
@@ -19,13 +18,13 @@ add_given-requires c = record {
   few = last_is_false _ _ _ c.requires.room;
 }
 
-pub returns-in_default-clause-ok : goal.returns-in_default-clause-ok
-returns-in_default-clause-ok c =
+pub returns-in_default : goal.returns-in_default
+returns-in_default c =
     subst (λ (s : Stored). OnOk c.add_given.result (c.add_given.new.store
     ≡ instance_written Replace c.args.resources.now (with_instance s c.args.place) c.args.place c.args.given))
     (sym (control_by c.args.store.now c.args.accounts c.args.server c.args.place None
     (sym c.control_number.ensures ∙ c.in_default.is)))
-    c.add_given.ensures.ok
+    c.add_given.ensures
 
 -- one is added first
 
@@ -42,14 +41,14 @@ pub add_given-requires-2-clause-free : goal.add_given-requires-2-clause-free
 add_given-requires-2-clause-free c =
     ap (λ s. has_instance s c.args.place) (control_made c.args.store.now c.add_control.new.store c.args.accounts
     c.args.server c.args.place c.control_number.result c.in-Some.instance c.control_number.ensures c.in-Some.is
-    c.in_ok-add_control.ensures.ok)
+    c.in_ok-add_control.ensures)
     ∙ control_free c.args.store.now c.args.accounts c.args.server c.args.place c.requires.other ∙ c.requires.free
 
 pub add_given-requires-2-clause-room : goal.add_given-requires-2-clause-room
 add_given-requires-2-clause-room c =
     ap (λ s. is_full s c.args.place.object) (control_made c.args.store.now c.add_control.new.store c.args.accounts
     c.args.server c.args.place c.control_number.result c.in-Some.instance c.control_number.ensures c.in-Some.is
-    c.in_ok-add_control.ensures.ok)
+    c.in_ok-add_control.ensures)
     ∙ control_full c.args.store.now c.args.accounts c.args.server c.args.place c.requires.other
     ∙ or_first _ _ c.requires.room
 
@@ -58,21 +57,11 @@ add_given-requires-2-clause-few c =
     counts_alike c.args.resources.now c.add_control.new.store c.args.store.now c.args.place c.args.given
     ∙ last_is_false _ _ _ c.requires.room
 
-pub returns-in-Ok-clause-ok : goal.returns-in-Ok-clause-ok
-returns-in-Ok-clause-ok c =
-    c.in-Ok.ensures.ok
-    ∙ ap (λ s. instance_written Replace c.args.resources.now (with_instance s c.args.place) c.args.place c.args.given)
+pub returns : goal.returns
+returns c =
+    subst (λ (s : Stored). OnOk c.add_given-2.result (c.add_given-2.new.store
+    ≡ instance_written Replace c.args.resources.now (with_instance s c.args.place) c.args.place c.args.given))
     (control_made c.args.store.now c.add_control.new.store c.args.accounts
     c.args.server c.args.place c.control_number.result c.in-Some.instance c.control_number.ensures c.in-Some.is
-    c.in_ok-add_control.ensures.ok)
-
-pub remove-requires : goal.remove-requires
-remove-requires c =
-    let at = instance_at 2 c.in-Some.instance in
-    ap (λ s. has_instance s at) (c.in-Err.ensures.unchanged ∙ c.in_ok-add_control.ensures.ok)
-    ∙ control_there c.args.store.now c.in-Some.instance c.args.server c.args.place
-
-pub returns-in-Err-clause-unchanged : goal.returns-in-Err-clause-unchanged
-returns-in-Err-clause-unchanged c =
-    c.remove.ensures ∙ ap (λ s. without_instance s (instance_at 2 c.in-Some.instance)) c.in-Err.ensures.unchanged
-    ∙ c.in_ok-add_control.ensures.removal
+    c.in_ok-add_control.ensures)
+    c.add_given-2.ensures

@@ -3,7 +3,6 @@ use Rattle.std.proofs.lemmas.Result.{err_from_is_err_and}
 use Rattle.object_defs.specs.Path.{part_of}
 use Rattle.instance_store.specs.Stored.{value_at, with_value, has_instance, instance_of, is_full}
 use Rattle.lwm2m_payloads.proofs.New.{part_new}
-use Rattle.lwm2m_payloads.proofs.Outside.{part_outside}
 use Rattle.lwm2m_payloads.proofs.Room.{full_means, parts_present}
 use Rattle.lwm2m_payloads.proofs.Writing.{with_parts-push}
 use Rattle.lwm2m_payloads.proofs.changes.put_parts.Goals as goal
@@ -15,11 +14,6 @@ loop-part-preserved c = record {
       ∙ sym (with_parts-push c.args.store.now c.args.path c.loop-part.yielded (c.in-Some.part, c.in-Some.value));
   left = c.loop-part.invariant.left ∙ ap (λ t. c.loop-part.yielded ++ t) c.in-Some.ensures.steps.0
       ∙ sym (append_assoc c.loop-part.yielded ((c.in-Some.part, c.in-Some.value) ∷ []) c.next.new.self.rest.items);
-  instances = ap (λ s. s.instances) c.in_ok-put_part.ensures.ok ∙ c.loop-part.invariant.instances;
-  elsewhere = λ q h.
-      ap (λ s. value_at s q) c.in_ok-put_part.ensures.ok
-      ∙ part_outside c.loop-part.store c.args.path c.in-Some.part c.in-Some.value q h
-      ∙ c.loop-part.invariant.elsewhere q h;
 }
 
 pub returns-in_err-put_part-clause-absent : goal.returns-in_err-put_part-clause-absent
@@ -46,7 +40,3 @@ returns-in_err-put_part-clause-may_lack_memory c = λ h.
     (c.loop-part.invariant.left ∙ ap (λ t. c.loop-part.yielded ++ t) c.in-Some.ensures.steps.0)
     (ap (λ s. value_at s (part_of c.args.path c.in-Some.part)) (sym c.loop-part.invariant.set)
     ∙ c.in_err-put_part.ensures.may_lack_memory (ap Err (sym p.2) ∙ sym p.1 ∙ h))
-
-pub returns-in_err-put_part-clause-elsewhere : goal.returns-in_err-put_part-clause-elsewhere
-returns-in_err-put_part-clause-elsewhere c = λ q h.
-    ap (λ s. value_at s q) c.in_err-put_part.ensures.unchanged ∙ c.loop-part.invariant.elsewhere q h

@@ -3,7 +3,6 @@ use Rattle.std.proofs.lemmas.Result.{err_from_is_err_and}
 use Rattle.instance_store.specs.Stored.{has_instance}
 use Rattle.lwm2m_payloads.specs.Changes.{gives_new, is_kept, is_too_many, resource_of}
 use Rattle.lwm2m_payloads.proofs.Apart.{one_means, one_new, all_present}
-use Rattle.lwm2m_payloads.proofs.Outside.{outside_resource}
 use Rattle.lwm2m_payloads.proofs.Writing.{assigned, with_assignments-push}
 use Rattle.lwm2m_payloads.proofs.changes.set_all.Goals as goal
 
@@ -16,10 +15,6 @@ loop-assignment-preserved c = record {
       c.loop-assignment.yielded c.in-Some.assignment);
   left = c.loop-assignment.invariant.left ∙ ap (λ t. c.loop-assignment.yielded ++ t) c.in-Some.ensures.steps.0
       ∙ sym (append_assoc c.loop-assignment.yielded (c.in-Some.assignment ∷ []) c.next.new.self.rest.items);
-  instances = c.set_assigned.ensures.instances ∙ c.loop-assignment.invariant.instances;
-  elsewhere = λ q h.
-      c.set_assigned.ensures.elsewhere q (outside_resource c.args.place c.in-Some.assignment.resource q h)
-      ∙ c.loop-assignment.invariant.elsewhere q h;
 }
 
 pub returns-in_err-set_assigned-clause-absent : goal.returns-in_err-set_assigned-clause-absent
@@ -53,8 +48,3 @@ returns-in_err-set_assigned-clause-may_lack_memory c = λ h.
     && gives_new c.args.mode s (resource_of c.args.place c.in-Some.assignment.resource)
     c.in-Some.assignment.given) (sym c.loop-assignment.invariant.set)
     ∙ c.in_err-set_assigned.ensures.may_lack_memory (ap Err (sym p.2) ∙ sym p.1 ∙ h))
-
-pub returns-in_err-set_assigned-clause-elsewhere : goal.returns-in_err-set_assigned-clause-elsewhere
-returns-in_err-set_assigned-clause-elsewhere c = λ q h.
-    c.set_assigned.ensures.elsewhere q (outside_resource c.args.place c.in-Some.assignment.resource q h)
-    ∙ c.loop-assignment.invariant.elsewhere q h

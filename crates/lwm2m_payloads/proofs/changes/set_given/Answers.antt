@@ -1,11 +1,9 @@
 use Rattle.std.proofs.Common.{sym, ap, ◌∙◌}
-use Rattle.instance_store.specs.Stored.{value_at, resource_path}
 use Rattle.lwm2m_payloads.specs.Changes.{gives_new, is_too_many}
 use Rattle.lwm2m_payloads.specs.declared.given.Given.TheVariants.{Parts}
 use Rattle.lwm2m_payloads.specs.declared.given.Mode.TheVariants.{Replace, Update}
 use Rattle.lwm2m_payloads.proofs.Apart.{cleared}
 use Rattle.lwm2m_payloads.proofs.New.{some_new}
-use Rattle.lwm2m_payloads.proofs.Outside.{put_outside, cleared_outside}
 use Rattle.lwm2m_payloads.proofs.changes.set_given.Goals as goal
 
 pub returns-in_ok-clear_resource-in-Replace-clause-full : goal.returns-in_ok-clear_resource-in-Replace-clause-full
@@ -26,15 +24,3 @@ returns-in_ok-clear_resource-in-Replace-clause-may_lack_memory c = λ h.
     (ap (λ s. gives_new Update s c.args.path (Parts c.in-Parts.parts))
     (sym c.in_ok-clear_resource-in-Replace.ensures.ok)
     ∙ c.put_parts.ensures.may_lack_memory h)
-
-pub returns-in-Single-clause-elsewhere : goal.returns-in-Single-clause-elsewhere
-returns-in-Single-clause-elsewhere c =
-    put_outside c.put.result c.put.new.self c.args.store.now c.args.path c.in-Single.value c.put.ensures.ok
-    c.put.ensures.unchanged
-
-pub returns-in_ok-clear_resource-in-Replace-clause-elsewhere :
-    goal.returns-in_ok-clear_resource-in-Replace-clause-elsewhere
-returns-in_ok-clear_resource-in-Replace-clause-elsewhere c = λ q h.
-    c.put_parts.ensures.elsewhere q h
-    ∙ ap (λ s. value_at s q) c.in_ok-clear_resource-in-Replace.ensures.ok
-    ∙ cleared_outside c.args.store.now (resource_path c.args.path) q h

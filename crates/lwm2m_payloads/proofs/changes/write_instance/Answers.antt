@@ -19,7 +19,3 @@ returns-in_ok-clear_lost-in-Replace-clause-may_lack_memory c = λ h.
     ∙ ap (λ s. has_new Replace c.args.resources.now s c.args.place c.args.given)
     (sym c.in_ok-clear_lost-in-Replace.ensures.ok)
     ∙ c.set_all.ensures.may_lack_memory h
-
-pub returns-in_ok-clear_lost-in-Replace-clause-elsewhere : goal.returns-in_ok-clear_lost-in-Replace-clause-elsewhere
-returns-in_ok-clear_lost-in-Replace-clause-elsewhere c = λ q h.
-    c.set_all.ensures.elsewhere q h ∙ c.in_ok-clear_lost-in-Replace.ensures.elsewhere q h
