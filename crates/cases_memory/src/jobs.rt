@@ -2,7 +2,7 @@
 //! memory can only be given up, and its device stays unfinished.
 ghost use Rattle.std.specs.Prelude.{◌≡◌, Some, IfSome, IfOk, IfErr, false};
 ghost use Rattle.ticket_lock.specs.Names.{lock_id, pass_view, IsPass};
-ghost use Rattle.fleet_workers.specs.Knowing.{Knows};
+ghost use Rattle.worker_visits.specs.Knowing.{Knows};
 
 use crate::gathering::gathered;
 use crate::given::Given;

@@ -5,7 +5,7 @@ ghost use Rattle.ticket_lock.specs.Log.{Adds};
 ghost use Rattle.ticket_lock.specs.Names.{lock_id, pass_view, IsPass};
 ghost use Rattle.shared_trace.specs.Trace.{IsShared, trace_log};
 ghost use Rattle.shared_trace.specs.Job.{MayPut};
-ghost use Rattle.fleet_workers.specs.Knowing.{Knows};
+ghost use Rattle.worker_visits.specs.Knowing.{Knows};
 
 use crate::gathering::{add_gathered, count_of, ended};
 use crate::given::Given;

@@ -8,7 +8,7 @@ use Rattle.std.proofs.lemmas.List.Sums.{fold-append}
 use Rattle.coap_codec.specs.Message.{kind_number}
 use Rattle.coap_codec.specs.declared.kind.Kind.{Kind}
 use Rattle.device_machine.specs.State.{is_live, lifetime}
-use Rattle.device_machine.specs.Records.{HasOwnKey, end_of_life, first_end, has_key, is_same_key, key_number}
+use Rattle.device_machine.specs.Records.{HasOwnKey, end_of_life, first_end, has_key, is_same_key, key_number, number_of}
 use Rattle.device_machine.specs.declared.recorded.Recorded.{Recorded}
 use Rattle.device_machine.specs.declared.records.RecordKey.{RecordKey}
 use Rattle.device_machine.specs.contracts.records.RecordKeyClone.TheImpl.{is_clone-value as key_clone}
@@ -26,7 +26,7 @@ told_apart k s m l t n a b c d = grind (arith, nat_tests)
 
 -- a look-up by a key is a search by what the key says
 pub found : (eq : RecordKey → RecordKey → Bool) → tests_keys eq → (server mid : ℕ) (kind : Kind) (key : RecordKey)
-    → server < 65536 → mid < 65536 → key.number ≡ key_number (kind_number kind) server mid
+    → server < 65536 → mid < 65536 → number_of key ≡ key_number (kind_number kind) server mid
     → (es : List (RecordKey × Recorded)) → AllByRecursion HasOwnKey es
     → lookup (eq key) es ≡ find (has_key server kind mid) (values_of es)
 found eq law server mid kind key small low is [] h = refl
@@ -65,8 +65,10 @@ none_ends clock rs h = (all_live clock 18446744073709551615 rs h).1
 
 same_key : (k j : RecordKey) → key_clone.it k j → j ≡ k
 same_key k j h =
-    let number : j.number ≡ k.number = search rules in
-    λ i. record { number = number i }
+    let server : j.server ≡ k.server = search rules in
+    let kind : j.kind ≡ k.kind = search rules in
+    let mid : j.mid ≡ k.mid = search rules in
+    λ i. record { server = server i; kind = kind i; mid = mid i }
 
 abbrev IsEntryClone : RecordKey × Recorded → RecordKey × Recorded → Type 0
 IsEntryClone p q = key_clone.it p.0 q.0 × (q.1 ≡ p.1)

@@ -6,6 +6,7 @@ mod Digits
 mod Keyed
 mod Lives
 pub mod Living
+mod Members
 pub mod Naming
 mod Places
 mod Plain
@@ -15,5 +16,4 @@ pub mod Refusing
 pub mod Repeating
 mod Sending
 mod Settling
-mod Stopping
 mod Ticks

@@ -22,19 +22,20 @@ use Rattle.instance_store.specs.Stored.{Stored}
 use Rattle.lwm2m_values.specs.declared.value.Value.{Value}
 use Rattle.object_defs.specs.Path.{full_path}
 use Rattle.object_defs.specs.declared.path.FullPath.{FullPath}
-use Rattle.notifier.specs.Observed.{with_acknowledged, without_reset}
 use Rattle.notifier.specs.declared.observation.Observation.{Observation}
 use Rattle.device_machine.specs.Observing.{ObserveResult, observe_result}
 use Rattle.device_machine.specs.Memory.{remembered_flat}
 use Rattle.device_machine.specs.State.{DeviceState, Machine, lifetime, is_live, with_live_records, with_client}
-use Rattle.device_machine.specs.State.{with_observations}
+use Rattle.device_machine.specs.State.{with_observations, Device, HaveSameMembers, Shows}
+use Rattle.device_machine.specs.Records.{HaveOwnKeys}
 use Rattle.device_requests.specs.Client.{Client, has_account, with_stored}
 use Rattle.device_requests.specs.Answer.{Outcome}
 use Rattle.device_requests.specs.Request.{outcome_of}
-use Rattle.device_machine.specs.Reactions.{Reaction, reply_to, kept_after, flat_after_seconds, on_firmware, on_fresh}
+use Rattle.device_machine.specs.Reactions.{Reaction, reply_to, kept_after, on_firmware, on_fresh}
 use Rattle.device_machine.specs.Reactions.{on_noted, on_acknowledgement, on_outcome, on_reset, repeat_of, is_same}
 use Rattle.device_machine.specs.Reactions.{on_request, on_datagram, on_message, claims_confirmable, is_request}
 use Rattle.device_machine.specs.Reactions.{reaction_to}
+use Rattle.device_machine.proofs.Members.{own_filtered, same_appended, same_equal, same_fewer, same_found}
 
 -- a filter after a weaker one
 pub filter-filter : {X : Type 0} (p q : X → Bool) → ((x : X) → q x ≡ true → p x ≡ true) → (xs : List X)
@@ -51,18 +52,6 @@ filter-filter p q h (x ∷ xs) =
           ]
     ] (h x)
 
--- a search among those that pass a part of its test
-pub find-filter : {X : Type 0} (p q : X → Bool) (xs : List X)
-    → find (λ x. p x && q x) (filter p xs) ≡ find (λ x. p x && q x) xs
-find-filter p q [] = refl
-find-filter p q (x ∷ xs) =
-    elim (p x) as (λ b. p x ≡ b
-    → find (λ y. p y && q y) (cond b (x ∷ filter p xs) (filter p xs))
-    ≡ cond (p x && q x) (Some x) (find (λ y. p y && q y) xs)) [
-      | true ↦ λ e. ap (λ t. cond (p x && q x) (Some x) t) (find-filter p q xs)
-      | false ↦ λ e. rw e (find-filter p q xs)
-    ] refl
-
 -- what lives later lives now
 pub live_later : (clock n second life : ℕ) → nat_lt (clock + n - second) life ≡ true
     → nat_lt (clock - second) life ≡ true
@@ -71,7 +60,8 @@ live_later clock n second life h = grind (arith, nat_tests)
 -- two reactions that look alike
 pub record Alike (a b : Reaction) : Type 0 where
   pub outputs : a.outputs ≡ b.outputs
-  pub living_then : with_live_records a.flat ≡ with_live_records b.flat
+  pub kept_then : a.flat.kept ≡ b.flat.kept
+  pub living_then : HaveSameMembers (with_live_records a.flat).recorded (with_live_records b.flat).recorded
 
 abbrev flat_of : DeviceState → List Recorded → Machine
 flat_of k xs = record { kept = k; recorded = xs }
@@ -95,9 +85,35 @@ abbrev put_in : DeviceState → Option FullPath → Value → DeviceState
 put_in k place value =
     with_client k (with_stored k.client (with_value_at k.client.store place value))
 
--- the same requests live
-abbrev SameLiving : ℕ → List Recorded → List Recorded → Type 0
-SameLiving clock xs ys = filter (λ r. is_live clock r) xs ≡ filter (λ r. is_live clock r) ys
+abbrev LivingIn : ℕ → List Recorded → List Recorded → Type 0
+LivingIn clock xs ys = HaveSameMembers (filter (λ r. is_live clock r) xs) (filter (λ r. is_live clock r) ys)
+
+-- the same requests live, and the same are found again
+pub record SameLiving (clock : ℕ) (xs ys : List Recorded) : Type 0 where
+  pub members : LivingIn clock xs ys
+  pub found : (server : ℕ) (m : Message)
+      → find (λ r. is_live clock r && is_same server m r) xs ≡ find (λ r. is_live clock r && is_same server m r) ys
+
+-- a search by two tests is one among those that pass the first
+pub among_living : (p q : Recorded → Bool) (xs : List Recorded) → find (λ r. p r && q r) xs ≡ find q (filter p xs)
+among_living p q [] = refl
+among_living p q (x ∷ xs) =
+    elim (p x) as (λ b. cond (b && q x) (Some x) (find (λ r. p r && q r) xs)
+    ≡ find q (cond b (x ∷ filter p xs) (filter p xs))) [
+      | true ↦ ap (λ t. cond (q x) (Some x) t) (among_living p q xs)
+      | false ↦ among_living p q xs
+    ]
+
+-- where the same ones live, no two of one key, in any order
+pub same_members : (clock : ℕ) (xs ys : List Recorded) → HaveOwnKeys xs → LivingIn clock xs ys → SameLiving clock xs ys
+same_members clock xs ys own h =
+    record {
+      members = h;
+      found = λ server m. among_living (λ r. is_live clock r) (λ r. is_same server m r) xs
+          ∙ same_found server m.kind m.mid (filter (λ r. is_live clock r) xs) (filter (λ r. is_live clock r) ys)
+          (own_filtered (λ r. is_live clock r) xs own) h
+          ∙ sym (among_living (λ r. is_live clock r) (λ r. is_same server m r) ys);
+    }
 
 alike_choice : (b : Bool) (r s t u : Reaction) → Alike r s → Alike t u → Alike (if b then r else t) (if b then s else u)
 alike_choice true r s t u h k = h
@@ -105,19 +121,18 @@ alike_choice false r s t u h k = k
 
 alike_quiet : (k : DeviceState) (xs ys : List Recorded) (o : List Output) → SameLiving k.clock xs ys
     → Alike (record { outputs = o; flat = flat_of k xs }) (record { outputs = o; flat = flat_of k ys })
-alike_quiet k xs ys o h = record { outputs = refl; living_then = ap (λ rs. flat_of k rs) h }
+alike_quiet k xs ys o h = record { outputs = refl; kept_then = refl; living_then = h.members }
 
 pub repeat_same : (k : DeviceState) (xs ys : List Recorded) (server : ℕ) (m : Message) → SameLiving k.clock xs ys
     → repeat_of (flat_of k xs) server m ≡ repeat_of (flat_of k ys) server m
-repeat_same k xs ys server m h =
-    sym (find-filter (λ r. is_live k.clock r) (λ r. is_same server m r) xs)
-    ∙ ap (λ rs. find (λ r. is_live k.clock r && is_same server m r) rs) h
-    ∙ find-filter (λ r. is_live k.clock r) (λ r. is_same server m r) ys
+repeat_same k xs ys server m h = h.found server m
 
-same_pushed : (clock : ℕ) (xs ys zs : List Recorded) → SameLiving clock xs ys → SameLiving clock (xs ++ zs) (ys ++ zs)
+same_pushed : (clock : ℕ) (xs ys zs : List Recorded) → LivingIn clock xs ys → LivingIn clock (xs ++ zs) (ys ++ zs)
 same_pushed clock xs ys zs h =
-    filter-append (λ r. is_live clock r) xs zs ∙ ap (λ t. t ++ filter (λ r. is_live clock r) zs) h
-    ∙ sym (filter-append (λ r. is_live clock r) ys zs)
+    let lives : Recorded → Bool = λ r. is_live clock r in
+    subst (λ rs. HaveSameMembers rs (filter lives (ys ++ zs))) (sym (filter-append lives xs zs))
+    (subst (HaveSameMembers (filter lives xs ++ filter lives zs)) (sym (filter-append lives ys zs))
+    (same_appended (filter lives xs) (filter lives ys) (filter lives zs) h))
 
 pub clock_after : (k : DeviceState) (kind : Kind) (reply : Option Message) → (kept_after k kind reply).clock ≡ k.clock
 clock_after k Con reply = refl
@@ -126,8 +141,8 @@ clock_after k Non (Some reply) = refl
 clock_after k Ack reply = refl
 clock_after k Rst reply = refl
 
-same_at : (c d : ℕ) (xs ys : List Recorded) → c ≡ d → SameLiving d xs ys → SameLiving c xs ys
-same_at c d xs ys e h = subst (λ n. SameLiving n xs ys) (sym e) h
+same_at : (c d : ℕ) (xs ys : List Recorded) → c ≡ d → LivingIn d xs ys → LivingIn c xs ys
+same_at c d xs ys e h = subst (λ n. LivingIn n xs ys) (sym e) h
 
 alike_fresh : (k : DeviceState) (xs ys : List Recorded) (server : ℕ) (m : Message) (client : Client)
     (left : List Observation)
@@ -138,8 +153,8 @@ alike_fresh k xs ys server m client left reply act h =
     let new = with_observations (with_client k client) left in
     record {
       outputs = refl;
-      living_then = ap (λ rs. flat_of (kept_after new m.kind reply) rs)
-          (same_at _ _ _ _ (clock_after new m.kind reply) (same_pushed k.clock xs ys _ h));
+      kept_then = refl;
+      living_then = same_at _ _ _ _ (clock_after new m.kind reply) (same_pushed k.clock xs ys _ h.members);
     }
 
 alike_noted : (k : DeviceState) (xs ys : List Recorded) (server : ℕ) (m : Message) (outcome : Outcome)
@@ -175,8 +190,8 @@ alike_reset : (k : DeviceState) (xs ys : List Recorded) (server mid : ℕ) → S
 alike_reset k xs ys server mid h =
     record {
       outputs = refl;
-      living_then =
-          ap (λ rs. flat_of (with_observations k (without_reset k.observations server mid)) rs) h;
+      kept_then = refl;
+      living_then = h.members;
     }
 
 alike_acknowledgement : (k : DeviceState) (xs ys : List Recorded) (server mid : ℕ) → SameLiving k.clock xs ys
@@ -184,8 +199,8 @@ alike_acknowledgement : (k : DeviceState) (xs ys : List Recorded) (server mid : 
 alike_acknowledgement k xs ys server mid h =
     record {
       outputs = refl;
-      living_then =
-          ap (λ rs. flat_of (with_observations k (with_acknowledged k.observations server mid)) rs) h;
+      kept_then = refl;
+      living_then = h.members;
     }
 
 alike_message : (k : DeviceState) (xs ys : List Recorded) (server : ℕ) (m : Message) (kind : Kind)
@@ -213,21 +228,18 @@ alike_put : (k : DeviceState) (xs ys : List Recorded) (place : Option FullPath) 
     → Alike (record { outputs = []; flat = flat_of (put_in k place value) xs })
     (record { outputs = []; flat = flat_of (put_in k place value) ys })
 alike_put k xs ys place value h =
-    record { outputs = refl; living_then = ap (λ rs. flat_of (put_in k place value) rs) h }
+    record { outputs = refl; kept_then = refl; living_then = h.members }
 
 alike_firmware : (k : DeviceState) (xs ys : List Recorded) (stored : Option Stored) → SameLiving k.clock xs ys
     → Alike (on_firmware (flat_of k xs) stored) (on_firmware (flat_of k ys) stored)
 alike_firmware k xs ys None h = alike_quiet k xs ys _ h
 alike_firmware k xs ys (Some stored) h =
-    record { outputs = refl; living_then = ap (λ rs. flat_of (with_client k (with_stored k.client stored)) rs) h }
+    record { outputs = refl; kept_then = refl; living_then = h.members }
 
-same_later : (clock n : ℕ) (xs ys : List Recorded) → SameLiving clock xs ys → SameLiving (clock + n) xs ys
+same_later : (clock n : ℕ) (xs ys : List Recorded) → LivingIn clock xs ys → LivingIn (clock + n) xs ys
 same_later clock n xs ys h =
-    let weaker : (r : Recorded) → is_live (clock + n) r ≡ true → is_live clock r ≡ true =
-    λ r. live_later clock n r.second (lifetime r.kind) in
-    sym (filter-filter (λ r. is_live clock r) (λ r. is_live (clock + n) r) weaker xs)
-    ∙ ap (λ rs. filter (λ r. is_live (clock + n) r) rs) h
-    ∙ filter-filter (λ r. is_live clock r) (λ r. is_live (clock + n) r) weaker ys
+    same_fewer (λ r. is_live clock r) (λ r. is_live (clock + n) r)
+    (λ r. live_later clock n r.second (lifetime r.kind)) xs ys h
 
 alike_event : (k : DeviceState) (xs ys : List Recorded) → SameLiving k.clock xs ys → (event : Event)
     → Alike (reaction_to (flat_of k xs) event) (reaction_to (flat_of k ys) event)
@@ -241,14 +253,47 @@ alike_event k xs ys h (Firmware code) = alike_firmware k xs ys (firmware_after k
 alike_event k xs ys h (Tick n) =
     record {
       outputs = refl;
-      living_then =
-          ap (λ rs. flat_of (flat_after_seconds (flat_of k []) n).kept rs) (same_later k.clock n xs ys h);
+      kept_then = refl;
+      living_then = same_later k.clock n xs ys h.members;
     }
 
 -- flat states in which the same requests live react alike
-pub alike : (f g : Machine) → with_live_records f ≡ with_live_records g → (event : Event)
+pub alike : (f g : Machine) → f.kept ≡ g.kept → SameLiving f.kept.clock f.recorded g.recorded → (event : Event)
     → Alike (reaction_to f event) (reaction_to g event)
-alike f g h event =
-    subst (λ k. filter (λ r. is_live f.kept.clock r) f.recorded ≡ filter (λ r. is_live k.clock r) g.recorded
-    → Alike (reaction_to f event) (reaction_to (flat_of k g.recorded) event)) (ap (λ s. s.kept) h)
-    (λ same. alike_event f.kept f.recorded g.recorded same event) (ap (λ s. s.recorded) h)
+alike f g kept same event =
+    subst (λ k. Alike (reaction_to f event) (reaction_to (flat_of k g.recorded) event)) kept
+    (alike_event f.kept f.recorded g.recorded same event)
+
+-- what a device has, and what it shows: the same requests live
+shown_living : (device : Device) (f g : Machine) → with_live_records g ≡ device.flat → HaveOwnKeys g.recorded
+    → Shows device f → (g.kept ≡ f.kept) × SameLiving g.kept.clock g.recorded f.recorded
+shown_living device f g is own shows =
+    let kept : g.kept ≡ f.kept = ap (λ (s : Machine). s.kept) is ∙ shows.kept in
+    let living : LivingIn g.kept.clock g.recorded f.recorded =
+    subst (λ (k : DeviceState). HaveSameMembers (with_live_records g).recorded
+    (filter (λ r. is_live k.clock r) f.recorded)) (sym kept)
+    (subst (λ (s : Machine). HaveSameMembers s.recorded (with_live_records f).recorded) (sym is) shows.recorded) in
+    (kept, same_members g.kept.clock g.recorded f.recorded own living)
+
+-- it reacts as what it shows
+pub alike_shown : (device : Device) (f g : Machine) → with_live_records g ≡ device.flat → HaveOwnKeys g.recorded
+    → Shows device f → (event : Event) → Alike (reaction_to g event) (reaction_to f event)
+alike_shown device f g is own shows event =
+    let same = shown_living device f g is own shows in alike g f same.0 same.1 event
+
+-- a request is a repeat in both or in neither
+pub repeat_shown : (device : Device) (f g : Machine) → with_live_records g ≡ device.flat → HaveOwnKeys g.recorded
+    → Shows device f → (server : ℕ) (m : Message) → repeat_of g server m ≡ repeat_of f server m
+repeat_shown device f g is own shows server m =
+    let same = shown_living device f g is own shows in
+    same.1.found server m
+    ∙ ap (λ (k : DeviceState). find (λ r. is_live k.clock r && is_same server m r) f.recorded) same.0
+
+-- a device that is not spent shows the flat state of which it keeps the requests that live, in their order
+pub shows_same : (d : Device) (f : Machine) → d.spent ≡ false → d.flat ≡ with_live_records f → Shows d f
+shows_same d f ready holds =
+    record {
+      ready = ready;
+      kept = ap (λ (g : Machine). g.kept) holds;
+      recorded = same_equal d.flat.recorded (with_live_records f).recorded (ap (λ (g : Machine). g.recorded) holds);
+    }

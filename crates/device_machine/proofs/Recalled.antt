@@ -8,17 +8,17 @@ use Rattle.std.proofs.lemmas.Option.{none-some, same_Some}
 use Rattle.coap_codec.specs.Message.{kind_number}
 use Rattle.coap_codec.specs.declared.kind.Kind.{Kind}
 use Rattle.device_machine.specs.State.{is_live}
-use Rattle.device_machine.specs.Records.{HasOwnKey, first_end, has_key, is_recalled, is_same_key, key_number}
+use Rattle.device_machine.specs.Records.{HasOwnKey, first_end, has_key, is_recalled, is_same_key, key_number, number_of}
 use Rattle.device_machine.specs.declared.recorded.Recorded.{Recorded}
 use Rattle.device_machine.specs.declared.records.RecordKey.{RecordKey}
 use Rattle.device_machine.proofs.Keyed.{none_ends}
 
 -- ---- filters
 
-filter-true : {X : Type 0} (q : X → Bool) (x : X) (xs : List X) → q x ≡ true → filter q (x ∷ xs) ≡ x ∷ filter q xs
+pub filter-true : {X : Type 0} (q : X → Bool) (x : X) (xs : List X) → q x ≡ true → filter q (x ∷ xs) ≡ x ∷ filter q xs
 filter-true q x xs e = λ j. cond (e j) (x ∷ filter q xs) (filter q xs)
 
-filter-false : {X : Type 0} (q : X → Bool) (x : X) (xs : List X) → q x ≡ false → filter q (x ∷ xs) ≡ filter q xs
+pub filter-false : {X : Type 0} (q : X → Bool) (x : X) (xs : List X) → q x ≡ false → filter q (x ∷ xs) ≡ filter q xs
 filter-false q x xs e = λ j. cond (e j) (x ∷ filter q xs) (filter q xs)
 
 filter-both : {X : Type 0} (p q : X → Bool) (xs : List X) → filter p (filter q xs) ≡ filter (λ x. p x && q x) xs
@@ -103,10 +103,10 @@ filter-nonempty p xs false is h = absurd (true≢false h)
 
 -- ---- one that is found
 
-find-true : {X : Type 0} (p : X → Bool) (x : X) (xs : List X) → p x ≡ true → find p (x ∷ xs) ≡ Some x
+pub find-true : {X : Type 0} (p : X → Bool) (x : X) (xs : List X) → p x ≡ true → find p (x ∷ xs) ≡ Some x
 find-true p x xs e = λ j. cond (e j) (Some x) (find p xs)
 
-find-false : {X : Type 0} (p : X → Bool) (x : X) (xs : List X) → p x ≡ false → find p (x ∷ xs) ≡ find p xs
+pub find-false : {X : Type 0} (p : X → Bool) (x : X) (xs : List X) → p x ≡ false → find p (x ∷ xs) ≡ find p xs
 find-false p x xs e = λ j. cond (e j) (Some x) (find p xs)
 
 -- where a test fails at the first, it finds among those that pass another what it finds among the rest of them
@@ -146,7 +146,7 @@ other : (s m n a b c x y z p q : ℕ) → p ≡ key_number c a b → q ≡ key_n
 other s m n a b c x y z p q is so has differs = grind (arith, nat_tests)
 
 -- none of the others has the key of the first
-others : (server : ℕ) (kind : Kind) (mid : ℕ) (e : RecordKey × Recorded) (es : List (RecordKey × Recorded))
+pub others : (server : ℕ) (kind : Kind) (mid : ℕ) (e : RecordKey × Recorded) (es : List (RecordKey × Recorded))
     → HasOwnKey e → AllByRecursion HasOwnKey es → has_key server kind mid e.1 ≡ true
     → AllByRecursion (λ k. is_same_key e.0 k ≡ false) (keys_of es)
     → find (has_key server kind mid) (values_of es) ≡ None
@@ -154,7 +154,7 @@ others server kind mid e [] own owns has differ = refl
 others server kind mid e (y ∷ es) own owns has differ =
     find-false (has_key server kind mid) y.1 (values_of es)
     (other server mid (kind_number kind) e.1.server e.1.mid (kind_number e.1.kind)
-    y.1.server y.1.mid (kind_number y.1.kind) e.0.number y.0.number own.number owns.0.number has differ.0)
+    y.1.server y.1.mid (kind_number y.1.kind) (number_of e.0) (number_of y.0) own.number owns.0.number has differ.0)
     ∙ others server kind mid e es own owns.1 has differ.1
 
 -- where what is found of all fails, none is found of those that pass

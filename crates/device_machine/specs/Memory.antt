@@ -1,29 +1,25 @@
--- Which events may take memory, and what is left of a device where there is none.
-use Rattle.std.specs.Prelude.{◌≡◌, ◌≤◌, ◌⊎◌, ℕ, ◌+◌, ◌/◌, ◌%◌, ◌==◌, nat_le, Bool, true, false, not, ◌&&◌, ◌||◌}
+-- Which events may take memory.
+use Rattle.std.specs.Prelude.{ℕ, ◌+◌, ◌/◌, ◌%◌, ◌==◌, nat_le, Bool, true, false, not, ◌&&◌, ◌||◌}
 use Rattle.std.specs.Prelude.{List, [], ◌∷◌, length, drop, slice_index, Option, None, Some, is_none, is_some}
-use Rattle.std.specs.Prelude.{Result, Ok, Err}
 use Rattle.std.specs.Option.{option_or, option_to_list}
 use Rattle.coap_codec.specs.declared.fault.CoapFault.{CoapFault}
 use Rattle.coap_codec.specs.declared.kind.Kind.{Kind}
 use Rattle.coap_codec.specs.declared.kind.Kind.TheVariants.{Con, Non, Ack, Rst}
 use Rattle.coap_codec.specs.Fault.{header_fault, is_empty_message, place_fault, token_length}
 use Rattle.coap_codec.specs.Message.{Message}
-use Rattle.coap_codec.specs.Reading.{reading_of}
 use Rattle.device_firmware.specs.Firmware.{firmware_after, firmware_resource, is_ready}
 use Rattle.device_firmware.specs.declared.event.FirmwareEvent.TheVariants.{Ended}
-use Rattle.device_requests.specs.Client.{Client, has_account}
-use Rattle.device_requests.specs.Unfinished.{IsUnfinished}
+use Rattle.device_requests.specs.Client.{has_account}
 use Rattle.device_machine.specs.declared.event.Event.{Event}
 use Rattle.device_machine.specs.declared.event.Event.TheVariants.{Recv, Put, Firmware, Tick}
 use Rattle.device_machine.specs.declared.recorded.Recorded.{Recorded}
 use Rattle.device_notifications.specs.Progress.{does_act}
 use Rattle.device_notifications.specs.Reach.{is_one_reached}
-use Rattle.device_machine.specs.Reactions.{claims_confirmable, flat_after, is_request, repeat_of, sweep_in}
+use Rattle.device_machine.specs.Reactions.{claims_confirmable, is_request, repeat_of, sweep_in}
 use Rattle.device_machine.specs.State.{Machine, DeviceState, with_live_records, value_in}
 use Rattle.device_template.specs.Values.{misses}
 use Rattle.lwm2m_values.specs.Value.{holds_bytes, kind_of}
 use Rattle.lwm2m_values.specs.declared.value.Value.{Value}
-use Rattle.notifier.specs.declared.observation.Observation.{Observation}
 use Rattle.object_defs.specs.Numbers.{update_result, update_state}
 use Rattle.object_defs.specs.Path.{full_path, single_of}
 use Rattle.object_defs.specs.declared.path.FullPath.{FullPath}
@@ -99,56 +95,6 @@ event_takes_memory kept (Recv server bytes) = has_account kept.client server && 
 event_takes_memory kept (Put path value) = put_takes_memory kept (full_path path) value
 event_takes_memory kept (Firmware code) = end_takes_memory kept code
 event_takes_memory kept (Tick count) = does_act (sweep_in kept count) kept.observations
-
--- the clock, the next message ID and the recorded requests are as they were
-pub record KeepsRecords (old new : Machine) : Type 0 where
-  pub clock : new.kept.clock ≡ old.kept.clock
-  pub next_id : new.kept.next_id ≡ old.kept.next_id
-  pub recorded : new.recorded ≡ old.recorded
-
--- nothing of what is managed has changed, and no observation
-pub record KeepsManaged (old new : DeviceState) : Type 0 where
-  pub client : new.client ≡ old.client
-  pub observations : new.observations ≡ old.observations
-
--- of what is managed has changed what a request that is no repeat leaves unfinished, and no observation
-pub record IsAnsweredInPart (f : Machine) (server : ℕ) (m : Message) (new : DeviceState) : Type 0 where
-  pub fresh : repeat_of f server m ≡ None
-  pub client : IsUnfinished f.kept.client server m new.client
-  pub observations : new.observations ≡ f.kept.observations
-
--- so it is of bytes that are a message; others change nothing
-abbrev pub IsTakenInPart : Machine → ℕ → Result Message CoapFault → DeviceState → Type 0
-IsTakenInPart f server (Ok m) new = IsAnsweredInPart f server m new
-IsTakenInPart f server (Err fault) new = ⊥
-
--- what is managed is this, and the observations are as before or these
-pub record IsManaged (old : DeviceState) (client : Client) (left : List Observation) (new : DeviceState) : Type 0 where
-  pub client_is : new.client ≡ client
-  pub observations : (new.observations ≡ old.observations) ⊎ (new.observations ≡ left)
-
--- some of these seconds have passed for the observations, and nothing of what is managed has changed
-pub record HasPassed (old new : DeviceState) (count : ℕ) : Type 0 where
-  pub client : new.client ≡ old.client
-  pub passed : ℕ
-  pub within : passed ≤ count
-  pub observations : new.observations ≡ (sweep_in old passed).left
-
--- a datagram is left off: nothing is done; or what its request changes is done in part; or all is done that is managed,
--- and its observation is noted or not
-abbrev pub LeavesOff : Machine → ℕ → Result Message CoapFault → DeviceState → DeviceState → Type 0
-LeavesOff f server reading after new =
-    KeepsManaged f.kept new
-    ⊎ (IsTakenInPart f server reading new ⊎ IsManaged f.kept after.client after.observations new)
-
--- what is left of a device where memory runs out in an event: of a datagram and of seconds a part may be done, of all
--- else nothing is, or all of it
-abbrev pub IsLeftBy : Machine → Event → DeviceState → Type 0
-IsLeftBy f (Recv server bytes) new =
-    LeavesOff f server (reading_of bytes) (flat_after f (Recv server bytes)).kept new
-IsLeftBy f (Put path value) new = (new ≡ f.kept) ⊎ (new ≡ (flat_after f (Put path value)).kept)
-IsLeftBy f (Firmware code) new = (new ≡ f.kept) ⊎ (new ≡ (flat_after f (Firmware code)).kept)
-IsLeftBy f (Tick count) new = HasPassed f.kept new count
 
 -- what a device keeps of a flat state after an event: a tick ends the life of requests, and those are forgotten
 abbrev pub remembered_flat : Machine → Event → Machine

@@ -1,5 +1,5 @@
 -- The recorded requests that a device keeps: how one is found, and when the first of them no longer lives.
-use Rattle.std.specs.Prelude.{◌≡◌, ℕ, ◌+◌, ◌*◌, ◌<◌, ◌==◌, min, Bool, true, ◌&&◌, if◌then◌else◌, List, filter, find, fold}
+use Rattle.std.specs.Prelude.{◌≡◌, ℕ, ◌+◌, ◌*◌, ◌<◌, ◌==◌, min, Bool, true, ◌&&◌, if◌then◌else◌, List, [], ◌∷◌, filter, find, fold}
 use Rattle.std.specs.Prelude.{Option, None, Some}
 use Rattle.std.specs.List.{AllByRecursion}
 use Rattle.indexmap.specs.IndexMap.{IndexMap, IsUnique, values}
@@ -21,9 +21,13 @@ has_key server kind mid r = r.server == server && (r.mid == mid && kind_number r
 abbrev pub key_number : ℕ → ℕ → ℕ → ℕ
 key_number kind server mid = 4294967296 * kind + (65536 * server + mid)
 
+-- a key as one number
+abbrev pub number_of : RecordKey → ℕ
+number_of k = key_number (kind_number k.kind) k.server k.mid
+
 -- a key has the type, the server and the message ID of its request, and these have 16 bits
 pub record HasOwnKey (e : RecordKey × Recorded) : Type 0 where
-  pub number : e.0.number ≡ key_number (kind_number e.1.kind) e.1.server e.1.mid
+  pub number : number_of e.0 ≡ key_number (kind_number e.1.kind) e.1.server e.1.mid
   pub server : e.1.server < 65536
   pub mid : e.1.mid < 65536
 
@@ -44,6 +48,11 @@ AllLive clock rs = filter (λ r. is_live clock r) rs ≡ rs
 abbrev pub IsNewIn : List Recorded → Recorded → Type 0
 IsNewIn rs r = find (has_key r.server r.kind r.mid) rs ≡ None
 
+-- no two of the requests are of one server, type and message ID
+abbrev pub HaveOwnKeys : List Recorded → Type 0
+HaveOwnKeys [] = Unit {0}
+HaveOwnKeys (r ∷ rs) = IsNewIn rs r × HaveOwnKeys rs
+
 -- the request is recalled: where there is a second, those that do not live in it are forgotten
 abbrev pub is_recalled : Option ℕ → Recorded → Bool
 is_recalled None r = true
@@ -55,7 +64,7 @@ recalled_requests i = filter (λ r. is_recalled i.ended r) (values i.entries)
 
 -- two keys are equal
 abbrev pub is_same_key : RecordKey → RecordKey → Bool
-is_same_key k j = k.number == j.number
+is_same_key k j = number_of k == number_of j
 
 -- each key is that of its request, and no two are equal
 abbrev pub IsKeyed : {S : Type 0} → IndexMap RecordKey Recorded S → Type 0

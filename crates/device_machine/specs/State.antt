@@ -1,5 +1,6 @@
 -- The flat state of a device, and when a device shows one.
-use Rattle.std.specs.Prelude.{◌≡◌, ℕ, ◌-◌, nat_lt, Bool, false, List, filter, Option, None, Some}
+use Rattle.std.specs.Prelude.{◌≡◌, ◌↔◌, ℕ, ◌-◌, nat_lt, Bool, false, List, filter, Option, None, Some}
+use Rattle.std.specs.List.{Contains}
 use Rattle.coap_codec.specs.declared.kind.Kind.{Kind}
 use Rattle.coap_codec.specs.declared.kind.Kind.TheVariants.{Con, Non, Ack, Rst}
 use Rattle.device_requests.specs.Client.{Client}
@@ -50,10 +51,16 @@ pub record Device : Type 0 where
   pub spent : Bool
   pub flat : Machine
 
--- the device is not spent, and shows this flat state
+-- the same requests are in both, in any order
+unfoldable pub HaveSameMembers : List Recorded → List Recorded → Type 0
+HaveSameMembers rs ss = (r : Recorded) → Contains rs r ↔ Contains ss r
+
+-- the device is not spent, and shows this flat state: what it keeps is the same, and of the recorded requests it has
+-- those that live
 pub record Shows (device : Device) (flat : Machine) : Type 0 where
   pub ready : device.spent ≡ false
-  pub holds : device.flat ≡ with_live_records flat
+  pub kept : device.flat.kept ≡ flat.kept
+  pub recorded : HaveSameMembers device.flat.recorded (with_live_records flat).recorded
 
 -- the value at a path that a device in this flat state has
 abbrev pub value_in : DeviceState → Option FullPath → Option Value

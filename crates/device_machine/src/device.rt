@@ -3,7 +3,7 @@ ghost use Rattle.std.specs.Option.{option_copied};
 ghost use Rattle.object_defs.specs.Path.{full_path};
 ghost use Rattle.device_notifications.specs.Outlooks.{outlooks_of};
 ghost use Rattle.device_machine.specs.Template.{start_of};
-ghost use Rattle.device_machine.specs.Memory.{IsLeftBy, KeepsRecords, event_takes_memory};
+ghost use Rattle.device_machine.specs.Memory.{event_takes_memory};
 ghost use Rattle.device_machine.specs.Held.{IsNextSending, IsSilent};
 ghost use Rattle.device_machine.specs.State.{Machine as FlatState, Shows, value_in};
 ghost use Rattle.device_machine.specs.Reactions.{outputs_of, flat_after, is_refused, passes_end, repeat_of};
@@ -96,11 +96,10 @@ impl Device {
         })
     }
 
-    /// The second that the device's clock shows, from 0 at its start; that of a spent device is the
-    /// one that it was left with.
+    /// The second that the device's clock shows, from 0 at its start.
     pub fn clock(&self) -> u64
         ensures shown { (f : FlatState) → Shows self.now f → result ≡ f.kept.clock }
-        ensures left { result ≡ self.now.flat.kept.clock }
+        ensures held { result ≡ self.now.flat.kept.clock }
     {
         self.machine.clock()
     }
@@ -108,7 +107,7 @@ impl Device {
     /// The first second after the clock's, below 2^64, in which the device sends or removes something by itself, if no
     /// other event comes: a notification, the same once more, or an answer that ends an observation; or an observation
     /// is removed. None where there is none. Up to the second before it a Tick changes the clock alone. It takes no
-    /// memory. What a spent device returns says nothing.
+    /// memory.
     pub fn due(&self) -> Option<u64>
         ensures { (f : FlatState) → Shows self.now f → MatchOption result (IsSilent f) (IsNextSending f) }
     {
@@ -119,13 +118,9 @@ impl Device {
     /// outputs and the flat state afterwards are those of the tables, which have the list of all requests since the
     /// start: that the device may forget those past their lifetime is proved.
     ///
-    /// `Memory` leaves the device spent, and nothing else does; its clock, its next message ID and its recorded
-    /// requests are as before (`left`). Its attributes, instances, values and observations are as before the event or
-    /// as after it; but after a tick the observations are as some of its seconds leave them, and after a datagram the
-    /// observations alone may be as before, or what its request changes may be done in part (`part`): of a Write that
-    /// gives several values, those of the instance or the resource that it writes to may be any, and no other has
-    /// changed; and Reset Error Code may have removed the error codes. `Spent`: it was spent, or the tick would take
-    /// its clock past 2^63 - 1; nothing changes.
+    /// `Memory` leaves the device spent, and nothing else does. It shows no flat state then: what it holds is open, and
+    /// so is what its other methods return. `Spent`: it was spent, or the tick would take its clock past 2^63 - 1;
+    /// nothing changes.
     ///
     /// No event ends a device for lack of memory that is (`may_lack_memory`): a datagram of a server without an
     /// account, of another version or of fewer than four bytes; an acknowledgement or a Reset, whatever follows the
@@ -145,8 +140,6 @@ impl Device {
         // acknowledgement and Reset, and each second without an observation.
         ensures may_lack_memory { result ≡ Err StepFault.Memory
             → IsTrue (event_takes_memory self.old.flat.kept event.now) }
-        ensures left { result ≡ Err StepFault.Memory → KeepsRecords self.old.flat self.new.flat }
-        ensures part { result ≡ Err StepFault.Memory → IsLeftBy self.old.flat event.now self.new.flat.kept }
     {
         if self.spent || passes_end(self.machine.clock(), event) {
             return Err(StepFault::Spent);
@@ -158,16 +151,16 @@ impl Device {
     }
 
     /// Lets the device take an event that it does not refuse, and gives what it outputs: a step, whose answer is passed
-    /// on as it is. Without memory the device is spent, and left as `step` says.
+    /// on as it is. Without memory the device is spent, as `step` says.
     pub fn take(&mut self, event: &Event) -> Result<Outputs, AllocError>
         requires { is_refused self.old event.now ≡ false }
         ensures outputs { (f : FlatState) → Shows self.old f → IfOk result (λ o. o ≡ outputs_of f event.now) }
         ensures shows { (f : FlatState) → Shows self.old f → OnOk result (Shows self.new (flat_after f event.now)) }
         ensures memory { OnErr result (IsTrue self.new.spent) }
         ensures may_lack_memory { OnErr result (IsTrue (event_takes_memory self.old.flat.kept event.now)) }
-        ensures left { OnErr result (KeepsRecords self.old.flat self.new.flat) }
-        ensures part { OnErr result (IsLeftBy self.old.flat event.now self.new.flat.kept) }
     {
+        // For the proof alone: no two of the recorded requests have one key.
+        self.machine.knows_keys();
         self.spent = true;
         let result = self.machine.react(event);
         match &result {
@@ -177,10 +170,10 @@ impl Device {
         result
     }
 
-    /// What management requests read and modify; a spent device gives what it was left with.
+    /// What management requests read and modify.
     pub fn client(&self) -> &Client
         ensures shown { (f : FlatState) → Shows self.now f → result.now ≡ f.kept.client }
-        ensures left { result.now ≡ self.now.flat.kept.client }
+        ensures held { result.now ≡ self.now.flat.kept.client }
     {
         self.machine.client()
     }
@@ -189,36 +182,33 @@ impl Device {
     /// elapsed (RFC 7252 section 4.5).
     pub fn is_repeat(&self, server: u16, message: &Message) -> bool
         ensures shown { (f : FlatState) → Shows self.now f → result ≡ is_some (repeat_of f server message.now) }
-        ensures left { result ≡ is_some (repeat_of self.now.flat server message.now) }
     {
         self.machine.repeat_of(server, message).is_some()
     }
 
-    /// The attributes that servers set; a spent device gives those that it was left with.
+    /// The attributes that servers set.
     pub fn attributes(&self) -> &Attributes
         ensures shown { (f : FlatState) → Shows self.now f → result.now ≡ f.kept.client.attributes }
-        ensures left { result.now ≡ self.now.flat.kept.client.attributes }
+        ensures held { result.now ≡ self.now.flat.kept.client.attributes }
     {
         self.machine.attributes()
     }
 
-    /// The observations, in the order of registration, with what their present answers are, and their periods; a
-    /// spent device gives the observations that it was left with.
+    /// The observations, in the order of registration, with what their present answers are, and their periods.
     pub fn observations(&self) -> &Observations
         ensures shown { (f : FlatState) → Shows self.now f → result.now.list ≡ f.kept.observations }
         ensures said { (f : FlatState) → Shows self.now f
             → result.now.said ≡ outlooks_of f.kept.client f.kept.observations }
-        ensures left { result.now.list ≡ self.now.flat.kept.observations }
+        ensures held { result.now.list ≡ self.now.flat.kept.observations }
     {
         self.machine.observations()
     }
 
-    /// The value at a path of three or four numbers; a spent device gives the one that it was
-    /// left with.
+    /// The value at a path of three or four numbers.
     pub fn value(&self, path: &Path) -> Option<&Value>
         ensures shown { (f : FlatState) → Shows self.now f
             → option_copied result ≡ value_in f.kept (full_path path.now) }
-        ensures left { option_copied result ≡ value_in self.now.flat.kept (full_path path.now) }
+        ensures held { option_copied result ≡ value_in self.now.flat.kept (full_path path.now) }
     {
         let path = path.full()?;
         self.machine.store().get(path)

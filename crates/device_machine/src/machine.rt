@@ -1,13 +1,13 @@
 //! All that a device keeps, and what it does on an event.
 
-ghost use Rattle.std.specs.Prelude.{◌≡◌, ◌⊎◌, ◌+◌, ◌<◌, ◌^◌, [], true, false, None, Some, IfOk, OnErr, OnOk, IsFalse};
+ghost use Rattle.std.specs.Prelude.{◌≡◌, ◌+◌, ◌<◌, ◌^◌, [], true, false, None, Some, IfOk, OnErr, OnOk, IsFalse};
 ghost use Rattle.std.specs.Prelude.{MatchOption};
 ghost use Rattle.instance_store.specs.Stored.{has_instance, value_at};
 ghost use Rattle.device_template.specs.Values.{instance_at, is_one_too_many, with_value_at};
 ghost use Rattle.device_requests.specs.Client.{with_stored};
 ghost use Rattle.object_defs.specs.Path.{full_path};
 ghost use Rattle.device_machine.specs.Template.{start_of};
-ghost use Rattle.device_machine.specs.Memory.{HasPassed, IsLeftBy, KeepsRecords, event_takes_memory, put_takes_memory};
+ghost use Rattle.device_machine.specs.Memory.{event_takes_memory, put_takes_memory};
 ghost use Rattle.device_machine.specs.declared.event.Event.TheVariants.{Firmware, Tick};
 ghost use Rattle.device_machine.specs.Reactions.{Gives, on_firmware, on_put, passes_end, sweep_in};
 ghost use Rattle.device_machine.specs.Records.{reaction_of_device};
@@ -209,8 +209,9 @@ impl Machine {
         self.observations.due(self.clock)
     }
 
-    /// Lets seconds pass, in each of which the observations have their turns. They end the life of
-    /// recorded requests, and those are forgotten.
+    /// Lets seconds pass, in each of which the observations have their turns. They end the life of recorded requests,
+    /// and those are forgotten. All that a second allocates, room for its outputs too, is there before it changes an
+    /// observation.
     fn tick(&mut self, count: u32) -> Result<Outputs, AllocError>
         requires fits { self.old.flat.kept.clock + count < 2 ^ 63 }
         requires up_to_date { IsUpToDate self.old }
@@ -220,10 +221,9 @@ impl Machine {
         // It takes memory only where something is sent or an observation is removed.
         ensures may_lack_memory { OnErr result
             (does_act (sweep_in self.old.flat.kept count) self.old.flat.kept.observations ≡ true) }
-        ensures left { OnErr result (KeepsRecords self.old.flat self.new.flat) }
-        ensures part { OnErr result (HasPassed self.old.flat.kept self.new.flat.kept count) }
     {
         let observations = &mut self.observations;
+        let mut room = Vec::new(self.alloc);
         let outbox = seconds(
             self.alloc,
             &self.client,
@@ -231,13 +231,12 @@ impl Machine {
             self.clock,
             count,
             self.next_id,
+            &mut room,
         )?;
-        let next_id = outbox.next_id();
-        let outputs = Outputs::of_datagrams(self.alloc, outbox.into_vec())?;
         self.clock += u64::from(count);
-        self.next_id = next_id;
+        self.next_id = outbox.next_id();
         self.recorded.forget(self.clock);
-        Ok(outputs)
+        Ok(Outputs::of_datagrams(room, outbox.into_vec()))
     }
 
     /// Sets a value where it fits. Only the observations that it reaches are read anew.
@@ -247,9 +246,6 @@ impl Machine {
         ensures gives { IfOk result (λ o. Gives o self.new.flat (on_put self.old.flat (full_path path) value.now)) }
         ensures up_to_date { OnOk result (IsUpToDate self.new) }
         ensures may_lack_memory { OnErr result (put_takes_memory self.old.flat.kept (full_path path) value.now ≡ true) }
-        ensures left { OnErr result (KeepsRecords self.old.flat self.new.flat) }
-        ensures part { OnErr result ((self.new.flat.kept ≡ self.old.flat.kept)
-            ⊎ (self.new.flat.kept ≡ (on_put self.old.flat (full_path path) value.now).flat.kept)) }
     {
         let Some(full) = path.full() else {
             return Outputs::one(self.alloc, Output::Act(Act::Missed));
@@ -270,10 +266,6 @@ impl Machine {
             (on_firmware self.old.flat (firmware_after self.old.flat.kept.client.store (Ended code)))) }
         ensures up_to_date { OnOk result (IsUpToDate self.new) }
         ensures may_lack_memory { OnErr result (event_takes_memory self.old.flat.kept (Firmware code) ≡ true) }
-        ensures left { OnErr result (KeepsRecords self.old.flat self.new.flat) }
-        ensures part { OnErr result ((self.new.flat.kept ≡ self.old.flat.kept)
-            ⊎ (self.new.flat.kept ≡ (on_firmware self.old.flat
-            (firmware_after self.old.flat.kept.client.store (Ended code))).flat.kept)) }
     {
         if self.client.end_firmware(code)? {
             say_reached(&self.client, &mut self.observations, &[STATE, RESULT])?;
@@ -292,8 +284,6 @@ impl Machine {
         ensures gives { IfOk result (λ o. Gives o self.new.flat (reaction_of_device self.old.flat event.now)) }
         ensures up_to_date { OnOk result (IsUpToDate self.new) }
         ensures may_lack_memory { OnErr result (event_takes_memory self.old.flat.kept event.now ≡ true) }
-        ensures left { OnErr result (KeepsRecords self.old.flat self.new.flat) }
-        ensures part { OnErr result (IsLeftBy self.old.flat event.now self.new.flat.kept) }
     {
         match event {
             Event::Recv { server, bytes } => self.receive(*server, bytes.as_slice()),

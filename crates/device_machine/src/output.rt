@@ -1,4 +1,6 @@
-ghost use Rattle.std.specs.Prelude.{◌≡◌, ◌≢◌, ◌∷◌, ◌++◌, [], map, IfOk, IsOk, OnErr, OnOk};
+ghost use Rattle.std.specs.Prelude.{◌≡◌, ◌≢◌, ◌+◌, ◌≤◌, ◌∷◌, ◌++◌, [], length, map, IfOk, IsOk, OnErr, OnOk};
+ghost use Rattle.std.specs.Prelude.{vec_capacity, vec_len};
+ghost use Rattle.device_notifications.specs.Outbox.{HasRoom};
 ghost use Rattle.device_machine.specs.Acts.{act_name};
 ghost use Rattle.device_machine.specs.Reactions.{outputs_of_act, send_of};
 
@@ -60,6 +62,27 @@ impl Model for Outputs {
     ghost view = { λ o. items_of o.items };
 }
 
+/// The output that sends a datagram.
+fn send_of(datagram: Datagram) -> Output
+    ensures { result ≡ send_of datagram }
+{
+    Output::Send {
+        server: datagram.server,
+        bytes: datagram.bytes,
+    }
+}
+
+/// Adds outputs that send these datagrams, in order, after those of a list that has room for them.
+#[tactic(auto, using(crate::proofs::Sending::one_more))]
+fn push_sent(items: &mut Vec<Output>, datagrams: Vec<Datagram>)
+    requires { vec_len items.old + vec_len datagrams ≤ vec_capacity items.old }
+    ensures { items.new.items ≡ items.old.items ++ map send_of datagrams.items }
+{
+    for datagram in datagrams {
+        items.push_reserved(send_of(datagram));
+    }
+}
+
 impl Outputs {
     /// No output.
     pub(crate) fn none(alloc: Global) -> Outputs
@@ -82,26 +105,26 @@ impl Outputs {
         })
     }
 
-    /// These datagrams, each sent, in order.
-    #[tactic(auto, using(crate::proofs::Sending::one_more))]
-    pub(crate) fn of_datagrams(
-        alloc: Global,
-        datagrams: Vec<Datagram>,
-    ) -> Result<Outputs, AllocError>
-        ensures sends { IfOk result (λ o. o ≡ map send_of datagrams.items) }
-        ensures may_lack_memory { OnErr result (datagrams.items ≢ []) }
+    /// These datagrams, each sent, in order. They take no memory: where they are more than one, they stand in the list.
+    #[tactic(auto, using(crate::proofs::Sending::alone))]
+    pub(crate) fn of_datagrams(room: Vec<Output>, datagrams: Vec<Datagram>) -> Outputs
+        requires empty { room.items ≡ [] }
+        requires room { HasRoom datagrams.items (vec_len room) (vec_capacity room) }
+        ensures { result ≡ map send_of datagrams.items }
     {
-        let mut items = Vec::with_capacity(alloc, datagrams.len())?;
-        for datagram in datagrams {
-            items.push(Output::Send {
-                server: datagram.server,
-                bytes: datagram.bytes,
-            })?;
+        let mut items = room;
+        let mut datagrams = datagrams;
+        if datagrams.len() > 1 {
+            push_sent(&mut items, datagrams);
+            return Outputs::from_vec(items);
         }
-        Ok(Outputs {
-            alloc,
-            items: Items::Listed(items),
-        })
+        match datagrams.pop() {
+            None => Outputs::from_vec(items),
+            Some(datagram) => Outputs {
+                alloc: *items.allocator(),
+                items: Items::One(send_of(datagram)),
+            },
+        }
     }
 
     /// Adds an output after the others.
@@ -145,6 +168,23 @@ impl Outputs {
         Outputs {
             alloc: *items.allocator(),
             items: Items::Listed(items),
+        }
+    }
+
+    /// The outputs as a vector, in order. It takes memory only where there is exactly one, which may not be in a vector
+    /// yet.
+    pub fn into_vec(self) -> Result<Vec<Output>, AllocError>
+        ensures items { IfOk result (λ items. items.items ≡ self) }
+        ensures may_lack_memory { OnErr result (length self ≡ 1) }
+    {
+        let Outputs { alloc, items } = self;
+        match items {
+            Items::One(output) => {
+                let mut items = Vec::with_capacity(alloc, 1)?;
+                items.push_reserved(output);
+                Ok(items)
+            }
+            Items::Listed(items) => Ok(items),
         }
     }
 

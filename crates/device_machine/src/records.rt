@@ -7,36 +7,88 @@ ghost use Rattle.std.specs.List.{list_any};
 ghost use Rattle.coap_codec.specs.Message.{kind_number};
 ghost use Rattle.indexmap.specs.IndexMap.{values};
 ghost use Rattle.device_machine.specs.State.{is_live, lifetime};
-ghost use Rattle.device_machine.specs.Records.{IsIndexed, IsKeyed, IsNewIn, end_of_life, first_end, has_key, key_number};
-ghost use Rattle.device_machine.specs.Records.{is_recalled, recalled_requests};
+ghost use Rattle.device_machine.specs.Records.{IsIndexed, IsKeyed, IsNewIn, end_of_life, first_end, has_key, is_recalled};
+ghost use Rattle.device_machine.specs.Records.{HaveOwnKeys, number_of, recalled_requests};
 ghost use Rattle.device_machine.specs.declared.recorded.Recorded.{Recorded as Request};
 
 use crate::recorded::Recorded;
 use coap_codec::Kind;
 use indexmap::IndexMap;
 use std::alloc::{AllocError, Global};
+use std::hash::{Hash, Hasher};
 use std::marker::Model;
 
 /// What a repeat has in common with its request.
-#[derive(Clone, PartialEq, Eq, Hash, Drop)]
+#[derive(Clone, Drop)]
 pub(crate) struct RecordKey {
-    /// The number of its type (RFC 7252 section 3), its server and its message ID, as one number: it is hashed in one
-    /// step.
-    number: u64,
+    server: u16,
+    kind: Kind,
+    mid: u16,
 }
 
-/// The key of a request of this server, type and message ID.
-fn key_of(server: u16, kind: Kind, mid: u16) -> RecordKey
-    ensures { result.number ≡ key_number (kind_number kind) server mid }
-{
-    RecordKey {
-        number: 4_294_967_296 * u64::from(kind_number(kind))
-            + (65_536 * u64::from(server) + u64::from(mid)),
+impl RecordKey {
+    /// The key as one number: it is compared and hashed in one step.
+    fn number(&self) -> u64
+        ensures { result ≡ number_of self.now }
+    {
+        4_294_967_296 * u64::from(kind_number(self.kind))
+            + (65_536 * u64::from(self.server) + u64::from(self.mid))
     }
 }
 
-/// Requests, no two of one server, type and message ID. Some are forgotten, and the others recalled: those that are
-/// forgotten are removed when others are added.
+impl PartialEq for RecordKey {
+    ghost use Rattle.std.specs.Prelude.{nat_eq};
+    ghost use Rattle.std.specs.Ordering.{on};
+    ghost use Rattle.std.specs.Cmp.Rules.{comparing};
+    ghost use Rattle.std.proofs.Common.{rules};
+    ghost use Rattle.device_machine.specs.Records.{number_of};
+
+    ghost eq = { on number_of nat_eq };
+
+    ghost laws = { Prim.search (comparing, rules) };
+
+    fn eq(&self, other: &RecordKey) -> bool {
+        self.number() == other.number()
+    }
+}
+
+impl Eq for RecordKey {
+    ghost use Rattle.std.specs.Cmp.Rules.{comparing};
+    ghost use Rattle.std.proofs.Common.{rules};
+
+    ghost laws = { Prim.search (comparing, rules) };
+}
+
+impl Hash for RecordKey {
+    ghost use Rattle.std.specs.Hash as fed;
+    ghost use Rattle.std.specs.Cmp.Rules.{hashing};
+    ghost use Rattle.std.proofs.Common.{rules};
+    ghost use Rattle.device_machine.specs.Records.{number_of};
+
+    ghost hash_input = { λ k. fed.u64 (number_of k) };
+
+    ghost respects_eq = { Prim.search (hashing, rules) };
+
+    fn hash<H: Hasher>(&self, state: &mut H) {
+        state.write_u64(self.number());
+    }
+}
+
+/// How many requests of one type are known to be forgotten, and how far the entries were looked through for them. The
+/// requests of one type end in the order of their seconds, so each is looked at once, however many live.
+#[derive(Clone, Copy)]
+struct Front {
+    place: usize,
+    forgotten: usize,
+}
+
+/// No entry was looked at.
+const NOT_LOOKED: Front = Front {
+    place: 0,
+    forgotten: 0,
+};
+
+/// Requests, no two of one server, type and message ID. Those that are forgotten are removed, the others are recalled.
 #[derive(Drop)]
 struct Index {
     entries: IndexMap<RecordKey, Recorded>,
@@ -44,9 +96,10 @@ struct Index {
     due: u64,
     /// The entries that do not live in this second are forgotten, or where there is no second, none.
     ended: Option<u64>,
-    /// With this many entries, those that are forgotten are removed before one is added. It is some more than twice as
-    /// many as stayed the last time, so each that is added since pays for a look at two.
-    limit: usize,
+    /// The CONs that are known to be forgotten.
+    cons: Front,
+    /// The NONs that are known to be forgotten.
+    nons: Front,
 }
 
 /// Recorded requests, no two of one server, type and message ID. Contracts see the list of them, oldest first.
@@ -176,20 +229,45 @@ fn request_of(
     requires { IsKeyed entries.now }
     ensures { option_copied result ≡ find (has_key server kind mid) (values entries.now) }
 {
-    entries.get(&key_of(server, kind, mid))
+    entries.get(&RecordKey { server, kind, mid })
 }
 
-/// Makes room for the first 32 requests at once: a map that grows from nothing would find memory four times for as
-/// many, and place those that it has anew each time.
-fn make_first_room(entries: &mut IndexMap<RecordKey, Recorded>) -> Result<(), AllocError>
+/// How many requests of this type are known to be forgotten, once those from the front on were looked at, up to the
+/// first that is recalled.
+fn look_on(
+    entries: &IndexMap<RecordKey, Recorded>,
+    ended: Option<u64>,
+    kind: Kind,
+    front: Front,
+) -> Front {
+    let mut forgotten = front.forgotten;
+    for place in front.place..entries.len() {
+        let Some((_key, request)) = entries.get_index(place) else {
+            break;
+        };
+        if request.kind == kind {
+            if is_recalled(ended, request) {
+                return Front { place, forgotten };
+            }
+            forgotten = forgotten.saturating_add(1);
+        }
+    }
+    Front {
+        place: entries.len(),
+        forgotten,
+    }
+}
+
+/// Gives memory back where there is room for over eight times as many requests as there are.
+fn give_room_back(entries: &mut IndexMap<RecordKey, Recorded>)
     requires { IsKeyed entries.old }
     ensures same { values entries.new ≡ values entries.old }
     ensures keyed { IsKeyed entries.new }
 {
-    if entries.is_empty() {
-        entries.reserve(32)?;
+    let len = entries.len();
+    if entries.capacity() / 8 > len {
+        entries.shrink_to(2 * len);
     }
-    Ok(())
 }
 
 /// Adds a request of a new key at the end.
@@ -200,7 +278,12 @@ fn add(entries: &mut IndexMap<RecordKey, Recorded>, request: Recorded) -> Result
     ensures keyed { IsKeyed entries.new }
     ensures err { OnErr result (values entries.new ≡ values entries.old) }
 {
-    entries.insert(key_of(request.server, request.kind, request.mid), request)?;
+    let key = RecordKey {
+        server: request.server,
+        kind: request.kind,
+        mid: request.mid,
+    };
+    entries.insert(key, request)?;
     Ok(())
 }
 
@@ -225,7 +308,8 @@ impl Index {
             entries: IndexMap::new(alloc),
             due: u64::MAX,
             ended: None,
-            limit: 16,
+            cons: NOT_LOOKED,
+            nons: NOT_LOOKED,
         }
     }
 
@@ -237,18 +321,22 @@ impl Index {
         !recalls_any(&self.entries, self.ended)
     }
 
-    /// A copy, which recalls the same requests.
+    /// A copy of the requests that are recalled. It has no other.
     fn copy(&self) -> Result<Index, AllocError>
         requires { IsIndexed self.now }
         ensures same { IfOk result (λ i. recalled_requests i ≡ recalled_requests self.now) }
+        ensures alone { IfOk result (λ i. values i.entries ≡ recalled_requests self.now) }
         ensures indexed { IfOk result (λ i. IsIndexed i) }
     {
-        Ok(Index {
+        let mut copy = Index {
             entries: clone_of(&self.entries)?,
             due: self.due,
             ended: self.ended,
-            limit: self.limit,
-        })
+            cons: NOT_LOOKED,
+            nons: NOT_LOOKED,
+        };
+        copy.remove_forgotten();
+        Ok(copy)
     }
 
     /// The request of this server, type and message ID that is recalled.
@@ -267,14 +355,35 @@ impl Index {
     /// Removes the requests that are forgotten.
     fn remove_forgotten(&mut self)
         requires { IsIndexed self.old }
-        ensures all { self.new.ended ≡ None }
-        ensures same { values self.new.entries ≡ recalled_requests self.old }
+        ensures same { recalled_requests self.new ≡ recalled_requests self.old }
+        ensures alone { values self.new.entries ≡ recalled_requests self.old }
         ensures indexed { IsIndexed self.new }
+        ensures all { self.new.ended ≡ None }
     {
+        let Some(_second) = self.ended else {
+            return;
+        };
         keep_recalled(&mut self.entries, self.ended);
+        give_room_back(&mut self.entries);
         self.ended = None;
         self.due = first_end(&self.entries);
-        self.limit = self.entries.len().saturating_mul(2).saturating_add(16);
+        self.cons = NOT_LOOKED;
+        self.nons = NOT_LOOKED;
+    }
+
+    /// Removes the requests that are forgotten once they are a quarter of the entries: so each that is removed pays for
+    /// a look at four.
+    fn tidy(&mut self)
+        requires { IsIndexed self.old }
+        ensures same { recalled_requests self.new ≡ recalled_requests self.old }
+        ensures indexed { IsIndexed self.new }
+    {
+        self.cons = look_on(&self.entries, self.ended, Kind::Con, self.cons);
+        self.nons = look_on(&self.entries, self.ended, Kind::Non, self.nons);
+        let forgotten = self.cons.forgotten.saturating_add(self.nons.forgotten);
+        if forgotten.saturating_mul(4) >= self.entries.len() {
+            self.remove_forgotten();
+        }
     }
 
     /// Whether the request can be added without a removal: it would be recalled, and no other has its key.
@@ -287,8 +396,7 @@ impl Index {
         let Some(second) = self.ended else {
             return true;
         };
-        self.entries.len() < self.limit
-            && is_live(second, request)
+        is_live(second, request)
             && request_of(&self.entries, request.server, request.kind, request.mid).is_none()
     }
 
@@ -317,7 +425,6 @@ impl Index {
         ensures indexed { IsIndexed self.new }
     {
         let due = self.due.min(end_of_life(&request));
-        make_first_room(&mut self.entries)?;
         add(&mut self.entries, request)?;
         self.due = due;
         Ok(())
@@ -333,6 +440,7 @@ impl Index {
             return;
         }
         self.ended = Some(later(self.ended, clock));
+        self.tidy();
     }
 }
 
@@ -361,6 +469,14 @@ impl Records {
         })
     }
 
+    /// No two of them are of one server, type and message ID. It is called for that alone.
+    pub(crate) fn knows_keys(&self)
+        ensures { HaveOwnKeys self.now }
+    {
+        // For the proof alone: the keys of an index that is read are known to be those of its requests.
+        let _known = &self.index;
+    }
+
     /// The request of this server, type and message ID.
     pub(crate) fn find(&self, server: u16, kind: Kind, mid: u16) -> Option<&Recorded>
         ensures { option_copied result ≡ find (has_key server kind mid) self.now }
@@ -378,7 +494,7 @@ impl Records {
         self.index.append(request)
     }
 
-    /// Forgets the requests that no longer live in this second. It looks at none.
+    /// Forgets the requests that no longer live in this second. Those that live are not looked at.
     pub(crate) fn forget(&mut self, clock: u64)
         ensures { self.new ≡ filter (λ r. is_live clock r) self.old }
     {

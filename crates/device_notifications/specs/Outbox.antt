@@ -1,5 +1,5 @@
 -- What a device sends of its own, and its message IDs (RFC 7252 section 4.4).
-use Rattle.std.specs.Prelude.{ℕ, ◌+◌, ◌%◌, List, [], ◌∷◌, ◌++◌}
+use Rattle.std.specs.Prelude.{ℕ, ◌+◌, ◌%◌, ◌<◌, ◌≤◌, List, [], ◌∷◌, ◌++◌, length}
 use Rattle.device_notifications.specs.declared.datagram.Datagram.{Datagram}
 
 -- the datagrams that are sent, in order, and the message ID of the next
@@ -22,3 +22,8 @@ after_post box datagram = record { sent = box.sent ++ datagram ∷ []; next_id =
 -- with one more that is sent again: it has its message ID already
 abbrev pub after_repost : Outbox → Datagram → Outbox
 after_repost box datagram = record box { sent = box.sent ++ datagram ∷ [] }
+
+-- a list that holds this many items, of those that it has room for, has room for these datagrams too, where they are
+-- more than one: a single one needs no list
+abbrev pub HasRoom : List Datagram → ℕ → ℕ → Type 0
+HasRoom sent held room = 1 < length sent → held + length sent ≤ room

@@ -1,5 +1,5 @@
-ghost use Rattle.std.specs.Prelude.{◌≡◌, OnErr, OnOk};
-ghost use Rattle.device_notifications.specs.Outbox.{after_post, after_repost, empty};
+ghost use Rattle.std.specs.Prelude.{◌≡◌, OnErr, OnOk, vec_capacity, vec_len};
+ghost use Rattle.device_notifications.specs.Outbox.{HasRoom, after_post, after_repost, empty};
 
 use crate::datagram::Datagram;
 use std::alloc::{AllocError, Global};
@@ -54,6 +54,18 @@ impl Outbox {
         ensures unchanged { OnErr result (self.new ≡ self.old) }
     {
         self.items.push(resent)?;
+        Ok(())
+    }
+
+    /// Reserves a place for each of the datagrams in a list, where they are more than one.
+    pub(crate) fn reserve_in<T>(&self, list: &mut Vec<T>) -> Result<(), AllocError>
+        ensures items { list.new.items ≡ list.old.items }
+        ensures room { OnOk result (HasRoom self.now.sent (vec_len list.new) (vec_capacity list.new)) }
+    {
+        let count = self.items.len();
+        if count > 1 {
+            list.reserve(count)?;
+        }
         Ok(())
     }
 

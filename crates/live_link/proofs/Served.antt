@@ -8,7 +8,7 @@ use Rattle.lemmas.proofs.Tests.{never_both}
 use Rattle.device_machine.specs.declared.event.Event.{Event as Happening}
 use Rattle.device_machine.specs.declared.event.Event.TheVariants.{Recv, Put, Firmware, Tick}
 use Rattle.device_machine.specs.declared.fault.StepFault.TheVariants as faults
-use Rattle.device_machine.specs.State.{Machine, Device, Shows}
+use Rattle.device_machine.specs.State.{DeviceState, Machine, Device, Shows}
 use Rattle.device_machine.specs.Reactions.{outputs_of, flat_after, is_refused, passes_end}
 use Rattle.scenario_image.specs.declared.step.Step.{Step}
 use Rattle.scenario_image.specs.declared.step.Step.TheVariants.{Event}
@@ -156,7 +156,7 @@ step_cut end first before received device steps more sent noted between after ev
 pub refused_late : (device : Device) (f : Machine) (event : Happening) → Shows device f → is_refused device event ≡ true
     → passes_end f.kept.clock event ≡ true
 refused_late device f event h refused =
-    ap (λ (g : Machine). passes_end g.kept.clock event) (sym h.holds)
+    ap (λ (k : DeviceState). passes_end k.clock event) (sym h.kept)
     ∙ ap (λ b. b || passes_end device.flat.kept.clock event) (sym h.ready) ∙ refused
 
 past_end_at : (f : Machine) (steps : List Step) (event : Happening)

@@ -12,7 +12,7 @@ use Rattle.lemmas.proofs.Tests.{never_both}
 use Rattle.device_machine.specs.declared.fault.StepFault.{StepFault}
 use Rattle.device_machine.specs.declared.fault.StepFault.TheVariants.{Memory, Spent}
 use Rattle.device_machine.specs.declared.output.Output.{Output}
-use Rattle.device_machine.specs.State.{Machine, Device, Shows}
+use Rattle.device_machine.specs.State.{DeviceState, Machine, Device, Shows}
 use Rattle.device_machine.specs.Reactions.{passes_end}
 use Rattle.scenario_image.specs.declared.step.Step.{Step}
 use Rattle.scenario_image.specs.declared.step.Step.TheVariants.{Event, Post, Need}
@@ -78,7 +78,7 @@ starts device steps =
 same_refusal : (x : Device) (f : Machine) (step : Step) → Shows x f
     → is_step_refused x step ≡ is_step_refused (device_showing f) step
 same_refusal x f (Event e) h =
-    ap (λ b. b || passes_end x.flat.kept.clock e) h.ready ∙ ap (λ (g : Machine). passes_end g.kept.clock e) h.holds
+    ap (λ b. b || passes_end x.flat.kept.clock e) h.ready ∙ ap (λ (k : DeviceState). passes_end k.clock e) h.kept
 same_refusal x f (Post group) h = refl
 same_refusal x f (Need group count) h = refl
 

@@ -31,7 +31,7 @@ use Rattle.trace_reasons.specs.Text.{AreReasonLines, AreReasonsAt, AreSendingsOf
 pub tick_goes : (x : Device) (f : Machine) (seconds : ℕ) → is_step_refused x (Event (Tick seconds)) ≡ false → Shows x f
     → passes_end f.kept.clock (Tick seconds) ≡ false
 tick_goes x f seconds taken shows =
-    ap (λ g. passes_end g.kept.clock (Tick seconds)) (sym shows.holds)
+    ap (λ k. passes_end k.clock (Tick seconds)) (sym shows.kept)
     ∙ or_second x.spent (passes_end x.flat.kept.clock (Tick seconds)) taken
 
 -- ---- an entry of a run

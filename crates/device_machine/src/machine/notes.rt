@@ -4,7 +4,6 @@ ghost use Rattle.std.specs.Prelude.{◌≡◌, ◌≤◌, true, false, is_some, 
 ghost use Rattle.device_machine.specs.Observing.{Notes, after_registration, lacks_place, new_observation, noted_by};
 ghost use Rattle.device_machine.specs.Observing.{noted_read, replies_non, reply_mid};
 ghost use Rattle.device_machine.specs.Held.{IsUpToDate};
-ghost use Rattle.device_machine.specs.Memory.{IsManaged, KeepsRecords};
 ghost use Rattle.device_notifications.specs.Outlooks.{IsKnown, IsKnownBut};
 ghost use Rattle.device_requests.specs.Answer.{is_content};
 ghost use Rattle.device_requests.specs.Client.{Client};
@@ -127,10 +126,6 @@ impl Machine {
             (new_observation self.old.flat.kept server message.now path accept payload))) }
         ensures recorded { OnOk result (self.new.flat.recorded ≡ self.old.flat.recorded) }
         ensures up_to_date { OnOk result (IsUpToDate self.new) }
-        ensures left { OnErr result (KeepsRecords self.old.flat self.new.flat) }
-        ensures part { OnErr result (IsManaged self.old.flat.kept self.old.flat.kept.client
-            (after_registration self.old.flat.kept.observations
-            (new_observation self.old.flat.kept server message.now path accept payload)).left self.new.flat.kept) }
     {
         let token = token_of(message)?;
         let report = report_of(&self.client, path, payload);
@@ -169,9 +164,6 @@ impl Machine {
         ensures recorded { OnOk result (self.new.flat.recorded ≡ self.old.flat.recorded) }
         ensures up_to_date { OnOk result (IsUpToDate self.new) }
         ensures may_lack_memory { OnErr result (is_content answer.now ≡ true) }
-        ensures left { OnErr result (KeepsRecords self.old.flat self.new.flat) }
-        ensures part { OnErr result (IsManaged self.old.flat.kept self.old.flat.kept.client
-            (noted_read self.old.flat.kept server message.now path accept answer.now).left self.new.flat.kept) }
     {
         if answer.is_content() {
             let payload = answer.payload.clone()?;
@@ -198,9 +190,6 @@ impl Machine {
         // Only the content of a Read that registers takes memory.
         ensures content { OnErr result (is_content answer.now ≡ true) }
         ensures may_lack_memory { OnErr result (is_some interest ≡ true) }
-        ensures left { OnErr result (KeepsRecords self.old.flat self.new.flat) }
-        ensures part { OnErr result (IsManaged self.old.flat.kept self.old.flat.kept.client
-            (noted_by self.old.flat.kept server message.now answer.now interest).left self.new.flat.kept) }
     {
         match interest {
             None => Ok(None),

@@ -5,6 +5,7 @@ ghost use Rattle.std.specs.Option.{option_copied};
 ghost use Rattle.device_machine.specs.Asked.{message_with};
 ghost use Rattle.device_machine.specs.Memory.{again_takes_memory};
 ghost use Rattle.device_machine.specs.Reactions.{again, repeat_of};
+ghost use Rattle.device_machine.specs.Records.{HaveOwnKeys};
 
 use crate::machine::Machine;
 use crate::output::Outputs;
@@ -38,10 +39,19 @@ impl Machine {
         self.recorded.find(server, kind, mid)
     }
 
+    /// No two of the recorded requests are of one server, type and message ID. It is called for that alone.
+    pub(crate) fn knows_keys(&self)
+        ensures { HaveOwnKeys self.now.flat.recorded }
+    {
+        self.recorded.knows_keys();
+    }
+
     /// The first receipt of a request that is repeated within its lifetime.
     pub(crate) fn repeat_of(&self, server: u16, message: &Message) -> Option<&Recorded>
-        ensures { option_copied result ≡ repeat_of self.now.flat server message.now }
+        ensures found { option_copied result ≡ repeat_of self.now.flat server message.now }
+        ensures own_keys { HaveOwnKeys self.now.flat.recorded }
     {
+        self.knows_keys();
         self.first_of(server, message.kind(), message.mid())
     }
 }

@@ -1,17 +1,16 @@
 //! What a device does with a datagram.
 
-ghost use Rattle.std.specs.Prelude.{◌≡◌, ◌<◌, ◌≤◌, Option, None, Ok, true, false, length, IfOk, OnErr, OnOk};
+ghost use Rattle.std.specs.Prelude.{◌≡◌, ◌<◌, ◌≤◌, ◌++◌, Option, None, true, false, length, IfOk, OnErr, OnOk};
 ghost use Rattle.std.specs.Prelude.{option_map};
 ghost use Rattle.device_notifications.specs.Outlooks.{IsKnown};
 ghost use Rattle.coap_codec.specs.Fault.{is_empty_message};
 ghost use Rattle.coap_codec.specs.Message.{Message as MessageData, spelling};
-ghost use Rattle.coap_codec.specs.Reading.{reading_of};
 ghost use Rattle.device_machine.specs.declared.event.Event.TheVariants.{Recv};
 ghost use Rattle.device_machine.specs.Reactions.{Gives, claims_confirmable, is_request, on_fresh, on_message, on_noise, reply_with};
-ghost use Rattle.device_machine.specs.Reactions.{on_outcome, on_request, reaction_to, repeat_of};
+ghost use Rattle.device_machine.specs.Reactions.{on_outcome, on_request, outputs_of_act, reaction_to, repeat_of};
+ghost use Rattle.device_machine.specs.Reactions.{sent_to};
 ghost use Rattle.device_machine.specs.Asked.{message_with};
-ghost use Rattle.device_machine.specs.Memory.{KeepsRecords, LeavesOff, event_takes_memory, is_ignored};
-ghost use Rattle.device_machine.specs.Memory.{message_takes_memory};
+ghost use Rattle.device_machine.specs.Memory.{event_takes_memory, is_ignored, message_takes_memory};
 ghost use Rattle.device_machine.specs.Memory.{request_takes_memory};
 ghost use Rattle.device_machine.specs.Held.{IsUpToDate};
 ghost use Rattle.device_requests.specs.Answer.{is_change};
@@ -28,7 +27,7 @@ use device_notifications::say_all;
 use device_requests::{Act, Answer, Client, Code, plain_read};
 use notifier::Observations;
 use octets::Bytes;
-use std::alloc::AllocError;
+use std::alloc::{AllocError, Global};
 use std::mem;
 
 /// Whether a code is a request's.
@@ -72,6 +71,21 @@ fn say_after(client: &Client, observations: &mut Observations, code: Code) -> Re
     Ok(())
 }
 
+/// What is output for a request that is no repeat: the datagram that replies to it, if one does, and then the act.
+#[inline(always)]
+fn outputs_of(
+    alloc: Global,
+    server: u16,
+    reply: &Option<Bytes>,
+    act: Option<Act>,
+) -> Result<Outputs, AllocError>
+    ensures { IfOk result (λ o. o ≡ sent_to server reply.now ++ outputs_of_act act) }
+{
+    let mut outputs = sent_to(alloc, server, reply)?;
+    outputs.act(act)?;
+    Ok(outputs)
+}
+
 impl Machine {
     /// Records a request that is no repeat with the datagram that replies to it, if one does, sends that, and acts.
     /// Each request that is no repeat ends with it, so it is a part of what handles one.
@@ -94,8 +108,7 @@ impl Machine {
         ensures unchanged { OnErr result (self.new ≡ self.old) }
     {
         let is_answered = reply.is_some();
-        let mut outputs = sent_to(self.alloc, server, &reply)?;
-        outputs.act(act)?;
+        let outputs = outputs_of(self.alloc, server, &reply, act)?;
         let second = self.clock;
         self.recorded.push(Recorded {
             server,
@@ -153,10 +166,6 @@ impl Machine {
             (λ o. Gives o self.new.flat (on_outcome self.old.flat server message.now
             (outcome_of self.old.flat.kept.client server message.now))) }
         ensures up_to_date { OnOk result (IsUpToDate self.new) }
-        ensures left { OnErr result (KeepsRecords self.old.flat self.new.flat) }
-        ensures part { OnErr result (LeavesOff self.old.flat server (Ok message.now)
-            (on_outcome self.old.flat server message.now
-            (outcome_of self.old.flat.kept.client server message.now)).flat.kept self.new.flat.kept) }
     {
         let handled = self.client.answer(server, message)?;
         say_after(&self.client, &mut self.observations, handled.answer.code)?;
@@ -176,10 +185,6 @@ impl Machine {
             (repeat_of self.old.flat server message.now)
             ≡ true) }
         ensures up_to_date { OnOk result (IsUpToDate self.new) }
-        ensures left { OnErr result (KeepsRecords self.old.flat self.new.flat) }
-        ensures part { OnErr result (LeavesOff self.old.flat server (Ok message.now)
-            (on_request self.old.flat server message.now
-            (repeat_of self.old.flat server message.now)).flat.kept self.new.flat.kept) }
     {
         match self.repeat_of(server, message) {
             Some(first) => again(self.alloc, server, message.kind(), &first.reply),
@@ -195,9 +200,6 @@ impl Machine {
         ensures may_lack_memory { OnErr result (message_takes_memory self.old.flat server message.now message.now.kind
             ≡ true) }
         ensures up_to_date { OnOk result (IsUpToDate self.new) }
-        ensures left { OnErr result (KeepsRecords self.old.flat self.new.flat) }
-        ensures part { OnErr result (LeavesOff self.old.flat server (Ok message.now)
-            (on_message self.old.flat server message.now message.now.kind).flat.kept self.new.flat.kept) }
     {
         match message.kind() {
             Kind::Con => {
@@ -238,9 +240,6 @@ impl Machine {
             (on_message self.old.flat server message message.kind)) }
         ensures may_lack_memory { OnErr result (message_takes_memory self.old.flat server message message.kind ≡ true) }
         ensures up_to_date { OnOk result (IsUpToDate self.new) }
-        ensures left { OnErr result (KeepsRecords self.old.flat self.new.flat) }
-        ensures part { OnErr result (LeavesOff self.old.flat server (Ok message)
-            (on_message self.old.flat server message message.kind).flat.kept self.new.flat.kept) }
     {
         let outputs = self.take(server, &message)?;
         self.spare = message.into_spare();
@@ -272,9 +271,6 @@ impl Machine {
         // Only a CON, or a NON that is copied, of a server with an account takes memory.
         ensures may_lack_memory { OnErr result (event_takes_memory self.old.flat.kept (Recv server bytes.now) ≡ true) }
         ensures up_to_date { OnOk result (IsUpToDate self.new) }
-        ensures left { OnErr result (KeepsRecords self.old.flat self.new.flat) }
-        ensures part { OnErr result (LeavesOff self.old.flat server (reading_of bytes.now)
-            (reaction_to self.old.flat (Recv server bytes.now)).flat.kept self.new.flat.kept) }
     {
         if !self.client.has_account(server) {
             return Ok(Outputs::none(self.alloc));
@@ -296,9 +292,6 @@ impl Machine {
         ensures gives { IfOk result (λ o. Gives o self.new.flat (reaction_to self.old.flat (Recv server bytes.now))) }
         ensures may_lack_memory { OnErr result (event_takes_memory self.old.flat.kept (Recv server bytes.now) ≡ true) }
         ensures up_to_date { OnOk result (IsUpToDate self.new) }
-        ensures left { OnErr result (KeepsRecords self.old.flat self.new.flat) }
-        ensures part { OnErr result (LeavesOff self.old.flat server (reading_of bytes.now)
-            (reaction_to self.old.flat (Recv server bytes.now)).flat.kept self.new.flat.kept) }
     {
         match plain_read(bytes) {
             Some(read) => self.receive_plain(server, bytes, read),

@@ -1,6 +1,5 @@
 -- The device is as the answer and what is noted leave it, and replies with both.
-use Rattle.std.proofs.Common.{◌&&◌, ℕ, List, IfOk, Ok, find, inl, refl, ap, subst, sym, ◌∙◌}
-use Rattle.lemmas.proofs.Results.{on_err}
+use Rattle.std.proofs.Common.{◌&&◌, ℕ, List, IfOk, find, refl, ap, subst, sym, ◌∙◌}
 use Rattle.notifier.specs.declared.observation.Observation.{Observation}
 use Rattle.device_requests.specs.Answer.{is_change}
 use Rattle.device_requests.specs.Client.{Client}
@@ -8,14 +7,12 @@ use Rattle.device_requests.specs.Request.{outcome_of}
 use Rattle.device_requests.specs.declared.answer.Answer.{Answer}
 use Rattle.device_requests.proofs.Unchanged.{unchanged}
 use Rattle.device_machine.specs.Asked.{message_with}
-use Rattle.device_machine.specs.Memory.{LeavesOff}
 use Rattle.device_machine.specs.Observing.{Notes, noted_by}
 use Rattle.device_machine.specs.Reactions.{Gives, is_same, on_outcome, repeat_of}
 use Rattle.device_machine.specs.Held.{IsUpToDate, StateWithOutlooks}
 use Rattle.device_machine.specs.State.{DeviceState, Machine, is_live}
 use Rattle.device_machine.proofs.Places.{replied_to, taken}
 use Rattle.device_machine.proofs.Settling.{known_after}
-use Rattle.device_machine.proofs.Stopping.{left_off}
 use Rattle.device_machine.proofs.machine.Machine.take_fresh.Goals as goal
 
 abbrev kept_with : Client → List Observation → ℕ → ℕ → DeviceState
@@ -70,21 +67,3 @@ reply-requires-clause-fresh c =
     ∙ (λ j. find (λ r. is_live (clock j) r && is_same server m r) (c.in_ok-number.ensures.recorded j))
     ∙ ap (λ (h : StateWithOutlooks). repeat_of h.flat server m) c.self.view_is
     ∙ c.requires.fresh
-
-pub returns-in_err-say_after-clause-part : goal.returns-in_err-say_after-clause-part
-returns-in_err-say_after-clause-part c =
-    let server = c.args.server in
-    let m = c.args.message.now in
-    let clock = c.self.inside.clock in
-    let next_id = c.self.inside.next_id in
-    let new = kept_with c.answer.new.self c.say_after.new.observations.list clock next_id in
-    on_err c.from_residual-in_err-say_after.result _
-    (subst (λ (f : Machine).
-    LeavesOff f server (Ok m) (on_outcome f server m (outcome_of f.kept.client server m)).flat.kept new)
-    (ap (λ (h : StateWithOutlooks). h.flat) c.self.view_is)
-    (left_off (record {
-      kept = kept_with c.self.inside.client c.self.inside.observations.list clock next_id;
-      recorded = c.self.inside.recorded;
-    }) server m c.answer.new.self c.in_ok-handled.handled.answer c.in_ok-handled.handled.interest new
-    c.in_ok-handled.ensures.outcome c.in_ok-handled.ensures.interest
-    (record { client_is = refl; observations = inl c.say_after.ensures.list })))

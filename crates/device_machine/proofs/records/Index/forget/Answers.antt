@@ -1,4 +1,4 @@
-use Rattle.std.proofs.Common.{◌<◌, subst}
+use Rattle.std.proofs.Common.{◌<◌, subst, ◌∙◌}
 use Rattle.std.specs.Map.{values_of}
 use Rattle.device_machine.proofs.Recalled.{recalled_later, recalled_still}
 use Rattle.device_machine.proofs.records.Index.forget.Goals as goal
@@ -10,5 +10,6 @@ returns-then-clock-self-clause-living c =
 
 pub returns-clause-living : goal.returns-clause-living
 returns-clause-living c =
-    recalled_later c.args.self.now.ended c.args.clock c.later.result c.later.ensures
+    c.tidy.ensures.same
+    ∙ recalled_later c.args.self.now.ended c.args.clock c.later.result c.later.ensures
     (values_of c.args.self.now.entries.entries)
