@@ -71,7 +71,7 @@ no_error s i =
           ∙ (kept s (Resource 3 i 11) q ∙ ap (λ (b : Bool). cond (not b) (value_at s q) None) away);
     }
 
-unrefused : (client : Client) (server : ℕ) (path : Path) (number : Option ℕ) (payload : List ℕ)
+pub unrefused : (client : Client) (server : ℕ) (path : Path) (number : Option ℕ) (payload : List ℕ)
     → (execute_outcome client server path number payload).answer.code ≡ Changed
     → refusal_of client server path (to_execute number payload) ≡ None
 unrefused client server path number payload h =

@@ -1,3 +1,4 @@
+mod Acting
 mod Among
 mod Annotating
 pub mod Asking

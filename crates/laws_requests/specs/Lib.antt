@@ -1,3 +1,4 @@
+pub mod Acts
 pub mod Annotations
 pub mod Changes
 pub mod Creations

@@ -1,5 +1,6 @@
 //! What follows from the tables of requests, for their readers. The calls do nothing; their contracts are the laws.
 
+ghost use Rattle.laws_requests.specs.Acts.{ActsAreAsked};
 ghost use Rattle.laws_requests.specs.Annotations.{AttributesAreSet};
 ghost use Rattle.laws_requests.specs.Changes.{OperationsKeepOthers};
 ghost use Rattle.laws_requests.specs.Creations.{CreatesAdd};
@@ -63,6 +64,13 @@ pub fn executes_change_little()
     ensures nothing { ExecutesKeep }
     ensures errors { ErrorsAreReset }
     ensures update { UpdatesBegin }
+{}
+
+/// A device reboots, returns to its factory settings, updates its registration or disables a server exactly after an
+/// Execute of Reboot `/3/i/4`, Factory Reset `/3/i/5`, Registration Update Trigger `/1/i/8` or Disable `/1/i/4` that is
+/// answered by 2.04. It does not act after any other request.
+pub fn acts_are_asked()
+    ensures { ActsAreAsked }
 {}
 
 /// After a Delete answered by 2.02, gone are the instance, the instances of Access Control that refer to it, their

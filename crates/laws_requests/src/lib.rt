@@ -5,7 +5,7 @@
 mod laws;
 
 pub use laws::{
-    answers_hide_the_unreadable, attributes_are_set, creates_add_one_instance,
+    acts_are_asked, answers_hide_the_unreadable, attributes_are_set, creates_add_one_instance,
     deletes_take_what_belongs, executes_change_little, firmware_states_come_before_limits,
     formats_are_served, good_requests_are_done, instances_hold_what_was_given,
     operations_keep_others, options_are_understood, payloads_give_what_they_say,
