@@ -4,7 +4,7 @@ use Rattle.std.proofs.Common.{slice_get, refl, sym, ap, subst, ◌∙◌, arith,
 use Rattle.std.proofs.lemmas.Bool.{false_from_ne_true, false≢true}
 use Rattle.lemmas.proofs.Lists.{pushed_cases}
 use Rattle.device_template.specs.Template.{Template}
-use Rattle.device_machine.specs.State.{Device, Shows}
+use Rattle.device_machine.specs.State.{Device, HaveSameMembers, Shows}
 use Rattle.scenario_image.specs.declared.step.Step.{Step}
 use Rattle.scenario_image.specs.Play.{start, device_showing, IsRowOf}
 use Rattle.scenario_image.specs.Scenario.{Scenario}
@@ -29,9 +29,10 @@ started s d k held x holds fresh shows = subst (λ i. ShowsAfter s d i x) (sym (
 -- before its first step there is the start of its class
 pub fresh_holds : (s : Scenario) (d : ℕ) (v class : Template) → IsClassOf s d class → v ≡ class
     → HoldsAfter s d 0 (record { shown = device_showing (start v); fresh = true; gone = false })
+unfolding HaveSameMembers
 fresh_holds s d v class is same = record {
   shows = λ c steps row. subst (λ t. Shows (device_showing (start v)) (start t)) (same ∙ is c steps row)
-      (record { ready = refl; holds = refl });
+      (record { ready = refl; kept = refl; recorded = λ r. ((λ h. h), (λ h. h)) });
   fresh = λ e. refl;
   gone = λ e. absurd (false≢true e);
 }

@@ -93,7 +93,7 @@ not_refused x f (Event (Recv server bytes)) shows range early = or_from x.spent 
 not_refused x f (Event (Put path value)) shows range early = or_from x.spent false shows.ready refl
 not_refused x f (Event (Firmware code)) shows range early = or_from x.spent false shows.ready refl
 not_refused x f (Event (Tick seconds)) shows range early =
-    let clock : x.flat.kept.clock ≡ f.kept.clock = ap (λ g. g.kept.clock) shows.holds in
+    let clock : x.flat.kept.clock ≡ f.kept.clock = ap (λ g. g.clock) shows.kept in
     let day : seconds ≤ 86400 = leb-true seconds 86400 (and_parts (nat_le 1 seconds) (nat_le seconds 86400) range).1 in
     or_from x.spent (nat_lt 9223372036854775807 (x.flat.kept.clock + seconds)) shows.ready
     (le-ltb 9223372036854775807 (x.flat.kept.clock + seconds) (omega arith))

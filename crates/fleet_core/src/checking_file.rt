@@ -17,7 +17,6 @@ use std::alloc::{AllocError, Global};
 use trace_file::{Entry, TakesEntries, take_file};
 
 /// What checks entries as it takes them. None is kept.
-#[derive(Drop)]
 struct Checker<'a> {
     replay: Replay<'a>,
     past: Past,
@@ -25,6 +24,18 @@ struct Checker<'a> {
     count: usize,
     /// What they are.
     verdict: Verdict,
+}
+
+/// By hand, so that a caller's proof has one step where it is dropped, and no case for each of its parts.
+impl Drop for Checker<'_> {
+    fn drop(self) {
+        let Checker {
+            replay: _replay,
+            past: _past,
+            count: _,
+            verdict: _,
+        } = self;
+    }
 }
 
 impl<'a> TakesEntries for Checker<'a> {

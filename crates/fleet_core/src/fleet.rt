@@ -15,7 +15,6 @@ use trace_file::{Entries, Entry};
 
 /// The devices of a scenario, and the entries that they have made: a run. Contracts see the scenario, the entries, and
 /// whether a lack of memory has spent the fleet.
-#[derive(Drop)]
 pub struct Fleet<'a> {
     alloc: Global,
     scenario: &'a Scenario,
@@ -24,6 +23,21 @@ pub struct Fleet<'a> {
     posts: Vec<u32>,
     entries: Entries,
     spent: bool,
+}
+
+/// By hand, so that a caller's proof has one step where it is dropped, and no case for each of its parts.
+impl Drop for Fleet<'_> {
+    fn drop(self) {
+        let Fleet {
+            alloc: _,
+            scenario: _,
+            devices: _devices,
+            made: _made,
+            posts: _posts,
+            entries: _entries,
+            spent: _,
+        } = self;
+    }
 }
 
 impl<'a> Model for Fleet<'a> {
@@ -48,7 +62,7 @@ impl<'a> Fleet<'a> {
         Fleet::with_room(alloc, scenario, 0)
     }
 
-    /// The same, with room for this many entries, so that none of these is moved to make room for others.
+    /// The same, with room for this many entries before they are there.
     pub(crate) fn with_room(
         alloc: Global,
         scenario: &'a Scenario,
@@ -112,7 +126,16 @@ impl<'a> Fleet<'a> {
     pub fn into_entries(self) -> Entries
         ensures { result ≡ self.entry.entries }
     {
-        self.entries
+        let Fleet {
+            alloc: _,
+            scenario: _,
+            devices: _devices,
+            made: _made,
+            posts: _posts,
+            entries,
+            spent: _,
+        } = self;
+        entries
     }
 
     /// Lets the device make its next step, under the worker's number, and adds just that entry. `NotEnabled`, exactly

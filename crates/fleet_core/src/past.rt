@@ -7,12 +7,21 @@ use std::snapshot::Snapshot;
 use trace_file::Entry;
 
 /// The entries that a replay has taken.
-#[derive(Drop)]
 pub(crate) enum Past {
     /// None yet.
     Nothing,
     /// These, and then this one.
     Then(Snapshot<Past>, Snapshot<Entry>),
+}
+
+/// By hand, so that a caller's proof has one step where it is dropped, and no case for each of its forms.
+impl Drop for Past {
+    fn drop(self) {
+        match self {
+            Past::Nothing => {}
+            Past::Then(_before, _entry) => {}
+        }
+    }
 }
 
 impl Past {
