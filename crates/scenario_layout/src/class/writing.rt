@@ -12,7 +12,7 @@ ghost use Rattle.instance_store.specs.Listing.{shown_pairs};
 ghost use Rattle.scenario_layout.specs.Definition.{resources};
 ghost use Rattle.device_template.specs.Template.{Template};
 ghost use Rattle.scenario_layout.specs.Class.{account, accounts, class, entry, instance, instances, object, objects};
-ghost use Rattle.scenario_layout.specs.Class.{values};
+ghost use Rattle.scenario_layout.specs.Class.{instances_in, values, values_in};
 
 use crate::definition::put_resources;
 use crate::laws::{class_has_bytes, good_parts};
@@ -37,10 +37,8 @@ pub fn put_class(out: &mut Vec<u8>, template: &Template) -> Result<(), AllocErro
     put_u8(out, template.notify())?;
     put_accounts(out, template.accounts())?;
     put_objects(out, own_objects(template.catalog()))?;
-    let places = template.store().all_instances()?;
-    put_instances(out, &places)?;
-    let pairs = template.store().values()?;
-    put_values(out, &pairs)
+    put_stored_instances(out, template)?;
+    put_stored_values(out, template)
 }
 
 /// The objects of a class's own, after the five base objects.
@@ -110,6 +108,17 @@ fn put_object(out: &mut Vec<u8>, definition: &ObjectDef) -> Result<(), AllocErro
     put_resources(out, definition.resources.as_slice())
 }
 
+/// Writes the instances of a class.
+fn put_stored_instances(out: &mut Vec<u8>, template: &Template) -> Result<(), AllocError>
+    requires { length (instances_in template.now) < 65536 }
+    ensures ok { OnOk result ((c : Template) → (instances c).Good (instances_in template.now)
+        → out.new.items ≡ out.old.items ++ (instances c).spell (instances_in template.now)) }
+    ensures appends { StartsWith out.new.items out.old.items }
+{
+    let places = template.store().all_instances()?;
+    put_instances(out, &places)
+}
+
 #[tactic(auto, using(byte_layout::proofs::Appended::appended), unfolding(crate::specs::Class::instances))]
 fn put_instances(out: &mut Vec<u8>, list: &[InstancePath]) -> Result<(), AllocError>
     requires { length list.now < 65536 }
@@ -130,6 +139,18 @@ fn put_each_instance(out: &mut Vec<u8>, list: &[InstancePath]) -> Result<(), All
         put_place(out, *place)?;
     }
     Ok(())
+}
+
+/// Writes the values of a class.
+fn put_stored_values(out: &mut Vec<u8>, template: &Template) -> Result<(), AllocError>
+    requires few { length (values_in template.now) < 65536 }
+    requires good { All (λ e. IsGood e.1) (values_in template.now) }
+    ensures ok { OnOk result ((c : Template) → (values c).Good (values_in template.now)
+        → out.new.items ≡ out.old.items ++ (values c).spell (values_in template.now)) }
+    ensures appends { StartsWith out.new.items out.old.items }
+{
+    let pairs = template.store().values()?;
+    put_values(out, &pairs)
 }
 
 #[tactic(auto, using(byte_layout::proofs::Appended::appended), unfolding(crate::specs::Class::values))]
