@@ -9,7 +9,7 @@ use Rattle.scenario_asm.specs.Canonical as canonical
 use Rattle.trace_file.specs.declared.entry.Entry.{Entry}
 use Rattle.trace_file.specs.Layout.{IsTraceFile}
 use Rattle.fleet_workers.specs.declared.fleet.FleetRun.{FleetRun}
-use Rattle.fleet_workers.specs.Blocks.{anyone}
+use Rattle.worker_visits.specs.Blocks.{anyone}
 use Rattle.fleet_workers.specs.Fleet.{IsFleetRun, AreByBlocks, AreWorkers, left_by}
 use Rattle.command_scenarios.specs.Runs.{end_status}
 use Rattle.command_texts.specs.Endings.{end_line}

@@ -8,7 +8,7 @@ use Rattle.fleet_core.specs.Waiting.{waiting_devices}
 use Rattle.fleet_workers.specs.declared.fleet.FleetRun.{FleetRun}
 use Rattle.fleet_workers.specs.declared.fleet.RunFault.{RunFault}
 use Rattle.fleet_workers.specs.declared.fleet.RunFault.TheVariants as runs
-use Rattle.fleet_workers.specs.Blocks.{anyone}
+use Rattle.worker_visits.specs.Blocks.{anyone}
 use Rattle.fleet_workers.specs.Fleet.{IsFleetRun, AreByBlocks, AreWorkers, IsBatch}
 use Rattle.command_files.specs.Answers.{files_of}
 use Rattle.command_files.specs.Files.{MadeFile}

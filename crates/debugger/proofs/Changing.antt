@@ -18,10 +18,11 @@ use Rattle.debugger.specs.Shown.{state_of, value_of, value_shown}
 use Rattle.debugger.specs.Stops.{HasChanged, Holds}
 use Rattle.debugger.specs.Moves.{HasSteps}
 use Rattle.debugger.specs.Searches.{AreWatched, IsChanged, IsStill, IsStillAt, IsUnchanged, IsWatched, change_in}
-use Rattle.debugger.proofs.Counting.{entry_row}
+use Rattle.device_entries.proofs.Counting.{entry_row}
 use Rattle.debugger.proofs.Marking.{change_is}
 use Rattle.debugger.proofs.Rows.{value_is}
-use Rattle.debugger.proofs.Runs.{made_else, step_counts, has_steps}
+use Rattle.device_entries.proofs.Runs.{made_else, step_counts}
+use Rattle.debugger.proofs.Runs.{has_steps}
 
 -- the value after the first k steps
 abbrev pub value_after : Scenario → ℕ → Path → ℕ → Option Value

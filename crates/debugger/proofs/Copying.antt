@@ -1,10 +1,9 @@
 -- The copies of devices along a run.
-use Rattle.std.proofs.Common.{◌≡◌, ℕ, ◌+◌, ◌-◌, ◌*◌, ◌/◌, ◌%◌, ◌<◌, ◌≤◌, ◌⊎◌, inl, inr, eqb, cond, Bool, List, [], ◌∷◌, ◌++◌}
+use Rattle.std.proofs.Common.{◌≡◌, ℕ, ◌+◌, ◌-◌, ◌*◌, ◌/◌, ◌%◌, ◌<◌, ◌≤◌, ◌⊎◌, inl, inr, Bool, List, [], ◌∷◌, ◌++◌}
 use Rattle.std.proofs.Common.{length, map, replicate, take, set, get_or, None, Some, slice_get, true, false}
 use Rattle.std.proofs.Common.{refl, sym, ap, subst, ◌∙◌, arith, length-append}
 use Rattle.std.proofs.lemmas.Bool.{cases_eq}
 use Rattle.std.proofs.lemmas.List.{length-set, take_all}
-use Rattle.std.proofs.lemmas.List.Sums.{sum_by-take-le}
 use Rattle.std.proofs.lemmas.Option.{slice_get_read}
 use Rattle.lemmas.proofs.Lists.{pushed_cases, set_elsewhere, set_gives}
 use Rattle.device_template.specs.Template.{Template}
@@ -20,7 +19,8 @@ use Rattle.fleet_core.proofs.Posts.{made_same, made_other}
 use Rattle.fleet_core.proofs.Taken.{row_below}
 use Rattle.debugger.specs.declared.copies.Copies.{Copies}
 use Rattle.debugger.specs.Copies.{AreCopiesAlong, HasCopies, AreCopied}
-use Rattle.debugger.proofs.Empties.{empty_at, empty_count}
+use Rattle.device_entries.proofs.Empties.{empty_at, empty_count}
+use Rattle.device_entries.proofs.Placing.{made_before}
 
 -- ---- the copies of one device
 
@@ -211,10 +211,6 @@ copied_run s es n v all so_far past =
     }
 
 -- ---- the copies of a debugger
-
--- before a place there are no more entries than there are in all
-pub made_before : (es : List Entry) (d n : ℕ) → made_by d (take n es) ≤ made_by d es
-made_before es d n = sum_by-take-le (λ e. cond (eqb e.device d) 1 0) es n
 
 -- those of a device, along all its entries
 pub copies_of : (s : Scenario) (es : List Entry) (d row : ℕ) (all : List Copies) (x : Copies) (copies : List Device)

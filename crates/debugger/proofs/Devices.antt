@@ -7,7 +7,7 @@ use Rattle.fleet_core.proofs.Taken.{row_below}
 use Rattle.debugger.specs.declared.breaks.Break.{Break}
 use Rattle.debugger.specs.declared.breaks.Break.TheVariants.{At, DeviceStep, Changed, Code, Notified}
 use Rattle.debugger.specs.Stops.{Follows, Holds, device_in}
-use Rattle.debugger.proofs.Runs.{fits_at}
+use Rattle.device_entries.proofs.Runs.{fits_at}
 use Rattle.debugger.proofs.Rows.{no_value}
 
 -- the device of an entry of a run has a row

@@ -19,7 +19,7 @@ use Rattle.fleet_core.specs.Board.{AreStarted, ShowsAfter}
 use Rattle.fleet_core.proofs.Taken.{shows_first}
 use Rattle.debugger.specs.declared.breaks.Break.{Break}
 use Rattle.debugger.specs.Copies.{AreCopied}
-use Rattle.debugger.specs.Places.{ArePlaced}
+use Rattle.device_entries.specs.Places.{ArePlaced}
 use Rattle.debugger.specs.Shown.{latest, value_shown, observations_shown, outputs_shown}
 use Rattle.debugger.specs.Session.{Session, IsSession, Fields, IsDebugger, AreAt, AreCounted, most_breaks, at_place}
 use Rattle.debugger.specs.Session.{with_breaks, with_replayed}

@@ -2,10 +2,8 @@ pub mod Runs
 pub mod Rows
 pub mod Moving
 pub mod Faults
-pub mod Empties
 pub mod Copying
 pub mod Totals
-pub mod Counting
 pub mod Replaying
 pub mod Numbers
 pub mod Marking
@@ -17,7 +15,7 @@ pub mod Events
 pub mod Devices
 pub mod Going
 pub mod Preceding
-pub mod Placing
 pub mod Passing
 pub mod Setting
 pub mod Watching
+pub mod OwnOutputs

@@ -12,7 +12,7 @@ use Rattle.debugger.specs.declared.breaks.Break.{Break}
 use Rattle.debugger.specs.declared.breaks.Break.TheVariants.{At, DeviceStep, Changed, Code, Notified}
 use Rattle.debugger.specs.Stops.{is_send, has_code, is_tick, Follows, HasStepped, HasSent, HasNotified, Holds}
 use Rattle.debugger.specs.Searches.{IsNowhere, marks, change_in}
-use Rattle.debugger.proofs.Runs.{step_counts}
+use Rattle.device_entries.proofs.Runs.{step_counts}
 
 follows : (es : List Entry) (d i : ℕ) (e : Entry) → slice_get es i ≡ Some e → e.device ≡ d → Follows es d (i + 1) e
 follows es d i e at own = record { index = i; next = refl; stands = at; own = own }

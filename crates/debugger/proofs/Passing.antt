@@ -1,5 +1,5 @@
 -- The entries that a move passes, and the devices that it finds by them.
-use Rattle.std.proofs.Common.{◌≡◌, ℕ, ◌+◌, ◌-◌, ◌*◌, ◌^◌, ◌<◌, ◌≤◌, ◌⊎◌, inl, inr, nat_lt, cond, Bool, true, false}
+use Rattle.std.proofs.Common.{◌≡◌, ℕ, ◌+◌, ◌*◌, ◌^◌, ◌<◌, ◌≤◌, ◌⊎◌, inl, inr, nat_lt, cond, Bool, true, false}
 use Rattle.std.proofs.Common.{List, [], ◌∷◌, ◌++◌, length, take, min, max, None, Some, slice_get, slice_index}
 use Rattle.std.proofs.Common.{get_or, refl, sym, ap, subst, ◌∙◌, arith}
 use Rattle.std.proofs.lemmas.Bool.{cases_eq, cases_lt, lt-ltb, le-ltb}
@@ -12,13 +12,14 @@ use Rattle.fleet_core.specs.Run.{made_by, IsRun}
 use Rattle.fleet_core.specs.Board.{ShowsAfter}
 use Rattle.debugger.specs.declared.moves.Moved.{Moved}
 use Rattle.debugger.specs.Moves.{IsMoved, IsAmong, IsReady, IsSettled, AreMoved, steps_between, steps_over}
-use Rattle.debugger.specs.declared.places.Places.{Places}
-use Rattle.debugger.specs.Places.{HasPlaces, ArePlaced}
+use Rattle.device_entries.specs.declared.places.Places.{Places}
+use Rattle.device_entries.specs.Places.{HasPlaces, ArePlaced}
 use Rattle.debugger.specs.Session.{AreAt, AreCounted}
-use Rattle.debugger.proofs.Counting.{entry_at, entry_row}
-use Rattle.debugger.proofs.Placing.{made_order, place_at, place_before, place_after, places_read, count_within}
+use Rattle.device_entries.proofs.Counting.{entry_at, entry_row}
+use Rattle.device_entries.proofs.Placing.{made_order, places_read, count_within}
 use Rattle.debugger.proofs.Replaying.{few_between, none_between}
-use Rattle.debugger.proofs.Runs.{made_own, made_else, step_before, has_steps}
+use Rattle.device_entries.proofs.Runs.{made_own, made_else, step_before}
+use Rattle.debugger.proofs.Runs.{has_steps}
 use Rattle.debugger.proofs.Totals.{total, total_adds, total_few, total_none, total_same}
 
 -- ---- an entry that is passed
@@ -41,36 +42,24 @@ step_within s es first i e indexes passed has =
     (step_before s es e.device i e passed.run passed.stands refl)
 
 -- after another one of its device
-pub earlier_yes : (s : Scenario) (es : List Entry) (n first i : ℕ) (e : Entry) (indexes : List ℕ)
-    → IsPassed s es first i e → HasPlaces es n e.device indexes → e.step ≤ length indexes
-    → (k : ℕ) × (k < e.step) × (first ≤ slice_index indexes k)
-    → made_by e.device (take first es) < made_by e.device (take i es)
-earlier_yes s es n first i e indexes passed has room other =
-    let place = place_at es n e.device other.0 indexes has (omega (arith, other.1, room)) in
-    let less = place_after es e.device other.0 (slice_index indexes other.0) first place other.2 in
-    omega (arith, less, other.1, step_before s es e.device i e passed.run passed.stands refl)
+pub earlier_yes : (s : Scenario) (es : List Entry) (first i : ℕ) (e : Entry) → IsPassed s es first i e
+    → made_by e.device (take first es) < e.step → made_by e.device (take first es) < made_by e.device (take i es)
+earlier_yes s es first i e passed fewer =
+    omega (arith, fewer, step_before s es e.device i e passed.run passed.stands refl)
 
-first_of : (s : Scenario) (es : List Entry) (n first i : ℕ) (e : Entry) (indexes : List ℕ) → IsPassed s es first i e
-    → HasPlaces es n e.device indexes → e.step ≤ length indexes
-    → ((k : ℕ) × (k < e.step) × (first ≤ slice_index indexes k) → ⊥) → (e.step ≡ 0) ⊎ (e.step ≡ 0 → ⊥)
-    → (slice_index indexes (e.step - 1) < first) ⊎ (first ≤ slice_index indexes (e.step - 1))
+first_of : (s : Scenario) (es : List Entry) (first i : ℕ) (e : Entry)
+    → (made_by e.device (take first es) < e.step → ⊥)
+    → (made_by e.device (take first es) < e.step) ⊎ (e.step ≤ made_by e.device (take first es))
     → e.step ≤ made_by e.device (take first es)
-first_of s es n first i e indexes passed has room none (inl zeroth) before = omega (arith, zeroth)
-first_of s es n first i e indexes passed has room none (inr some) (inr more) =
-    absurd (none (e.step - 1, omega (arith, some), more))
-first_of s es n first i e indexes passed has room none (inr some) (inl less) =
-    let place = place_at es n e.device (e.step - 1) indexes has (omega (arith, some, room)) in
-    let more = place_before es e.device (e.step - 1) (slice_index indexes (e.step - 1)) first place less in
-    omega (arith, more, some)
+first_of s es first i e none (inr more) = more
+first_of s es first i e none (inl less) = absurd (none less)
 
 -- or the first one of its device
-pub earlier_no : (s : Scenario) (es : List Entry) (n first i : ℕ) (e : Entry) (indexes : List ℕ)
-    → IsPassed s es first i e → HasPlaces es n e.device indexes → e.step ≤ length indexes
-    → ((k : ℕ) × (k < e.step) × (first ≤ slice_index indexes k) → ⊥)
+pub earlier_no : (s : Scenario) (es : List Entry) (first i : ℕ) (e : Entry) → IsPassed s es first i e
+    → (made_by e.device (take first es) < e.step → ⊥)
     → made_by e.device (take i es) ≡ made_by e.device (take first es)
-earlier_no s es n first i e indexes passed has room none =
-    let more = first_of s es n first i e indexes passed has room none (cases_eq e.step 0)
-    (cases_lt (slice_index indexes (e.step - 1)) first) in
+earlier_no s es first i e passed none =
+    let more = first_of s es first i e none (cases_lt (made_by e.device (take first es)) e.step) in
     let order = made_order es e.device first i passed.low in
     omega (arith, more, order, step_before s es e.device i e passed.run passed.stands refl)
 

@@ -15,8 +15,8 @@ use Rattle.debugger.specs.Session.{Session}
 use Rattle.debugger.specs.Replayed.{devices_between, events_among, events_by, is_event_at, GoesBack, IsLatestCopy}
 use Rattle.debugger.specs.Replayed.{IsReplayedBack}
 use Rattle.debugger.specs.Moves.{HasSteps, steps_between, steps_to}
-use Rattle.debugger.proofs.Runs.{fits_at, made_own, made_else, step_before}
-use Rattle.debugger.proofs.Counting.{entry_row}
+use Rattle.device_entries.proofs.Runs.{fits_at, made_own, made_else, step_before}
+use Rattle.device_entries.proofs.Counting.{entry_row}
 use Rattle.debugger.proofs.Events.{events_apart, events_few, events_next, events_order, few_taken, filter_push}
 use Rattle.debugger.proofs.Moving.{few_steps}
 use Rattle.debugger.proofs.Totals.{total, total_adds, total_none, total_plus, total_within}

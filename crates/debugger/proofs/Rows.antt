@@ -25,7 +25,7 @@ shown_is s d k x valid within shows =
     record {
       state = state_at found.class found.steps k;
       is = ap (λ r. state_in_row s r k) found.row.row ∙ ap (λ c. state_with c found.steps k) found.row.stated;
-      kept = ap (λ g. g.kept) here.holds;
+      kept = here.kept;
     }
 
 pub shows_state : (s : Scenario) (d k : ℕ) (x : Device) → IsValid s → d < length s.rows → ShowsAfter s d k x

@@ -15,7 +15,7 @@ use Rattle.debugger.specs.declared.points.Numbered.{Numbered}
 use Rattle.debugger.specs.declared.watches.Watch.{Watch}
 use Rattle.debugger.specs.Searches.{AreCopiesOf, AreWatched, AreWatching, HasNoWatch, HasWatch, IsWatched, IsWatching}
 use Rattle.debugger.specs.Searches.{change_in}
-use Rattle.debugger.proofs.Runs.{made_else, step_before, step_counts}
+use Rattle.device_entries.proofs.Runs.{made_else, step_before, step_counts}
 
 -- ---- one of them
 

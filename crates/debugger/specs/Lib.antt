@@ -1,6 +1,5 @@
 pub mod Shown
 pub mod Copies
-pub mod Places
 pub mod Session
 pub mod Replayed
 pub mod Stops

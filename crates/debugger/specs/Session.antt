@@ -8,9 +8,9 @@ use Rattle.fleet_core.specs.Run.{made_by, IsRun}
 use Rattle.fleet_core.specs.Board.{ShowsAfter}
 use Rattle.debugger.specs.declared.breaks.Break.{Break}
 use Rattle.debugger.specs.declared.copies.Copies.{Copies}
-use Rattle.debugger.specs.declared.places.Places.{Places}
+use Rattle.device_entries.specs.declared.places.Places.{Places}
 use Rattle.debugger.specs.Copies.{AreCopied}
-use Rattle.debugger.specs.Places.{ArePlaced}
+use Rattle.device_entries.specs.Places.{ArePlaced}
 
 -- what contracts see of a debugger: the scenario, the run, the place in it, the breakpoints (that of number i + 1, or
 -- none, is at i), and how many steps devices made in the last move by a number of entries

@@ -8,7 +8,6 @@ mod fault;
 mod latest;
 mod laws;
 mod moves;
-mod places;
 mod points;
 mod search;
 mod session;

@@ -4,14 +4,14 @@ ghost use Rattle.std.specs.Prelude.{◌≡◌, ◌-◌, ◌*◌, ◌/◌, ◌<�
 ghost use Rattle.fleet_core.specs.Run.{IsRun};
 ghost use Rattle.fleet_core.specs.Board.{ShowsAfter};
 ghost use Rattle.debugger.specs.Copies.{AreCopiesAlong, AreCopied};
-ghost use Rattle.debugger.specs.Places.{ArePlaced};
+ghost use Rattle.device_entries.specs.Places.{ArePlaced};
 ghost use Rattle.debugger.specs.Session.{AreAt, AreCounted};
 ghost use Rattle.debugger.specs.Replayed.{events_by};
 ghost use Rattle.debugger.specs.Moves.{HasSteps, IsMoved, AreMoved, steps_between, steps_over};
 
 use crate::copies::{COPY_STEPS, Copies, copy_at};
-use crate::places::{Places, count_before, has_earlier};
 use crate::steps::advance;
+use device_entries::{Places, count_before, has_earlier};
 use device_machine::Device;
 use fleet_core::count_entries;
 use scenario_image::Scenario;
@@ -180,10 +180,10 @@ pub(crate) fn moved_devices(
         let row = usize::from(entry.device);
         let own = &places[row];
         let indexes = own.indexes.as_slice();
-        if has_earlier(indexes, entry.step, first) {
+        if has_earlier(entries, entry.device, indexes, entry.step, first) {
             continue;
         }
-        let count = count_before(indexes, to);
+        let count = count_before(entries, entry.device, indexes, to);
         let kept = &copies[row];
         let sources = kept.devices.as_slice();
         let machine = &devices[row];

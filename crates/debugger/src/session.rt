@@ -15,13 +15,13 @@ ghost use Rattle.debugger.specs.Breaks.{IsTaken, AreAllTaken, IsAdded, IsRemoved
 use crate::breaks::{Break, Stop, StopAt};
 use crate::copies::{Copies, copies_of_run};
 use crate::fault::{AddFault, BackFault, DeviceFault, ForwardFault, OpenFault, RemoveFault};
-use crate::latest::latest_step;
+use crate::latest::{latest_outputs, latest_step};
 use crate::moves::{Moves, count_rows, device_before, moved_devices, settle};
-use crate::places::{Places, all_places, latest_outputs};
 use crate::points::set_points;
 use crate::search::first_stop;
 use crate::slots::{free_slot, is_taken, no_breaks};
 use crate::watches::watch_devices;
+use device_entries::{Places, all_places};
 use device_machine::{Device, Output};
 use fleet_core::start_devices;
 use lwm2m_values::Value;

@@ -37,11 +37,11 @@ use Rattle.trace_file.specs.contracts.entry.Entry as Entry
 use Rattle.fleet_core.specs.contracts.held.State as State
 use Rattle.fleet_core.specs.contracts.held.Held as Held
 use Rattle.fleet_core.specs.contracts.next.Next as Next
-use Rattle.shared_trace.specs.contracts.pages.Pages as Pages
-use Rattle.shared_trace.specs.contracts.station.Place as Place
-use Rattle.shared_trace.specs.contracts.station.Station as Station
+use Rattle.entry_pages.specs.contracts.pages.Pages as Pages
+use Rattle.device_stations.specs.contracts.station.Place as Place
+use Rattle.device_stations.specs.contracts.station.Station as Station
 use Rattle.shared_trace.specs.contracts.trace.Trace as Trace
-use Rattle.fleet_workers.specs.contracts.loops.LoopEnd as LoopEnd
+use Rattle.worker_visits.specs.contracts.ends.LoopEnd as LoopEnd
 
 bytes_send : IsSend Bytes.the_row
 bytes_send = search (sendable, std.crosses) depth 40 parts 12

@@ -14,18 +14,18 @@ use Rattle.ticket_lock.specs.Log.{shares}
 use Rattle.ticket_lock.specs.Changes.{opening_view}
 use Rattle.ticket_lock.proofs.Logs.{every_one}
 use Rattle.shared_trace.specs.Trace.{TraceModel, trace_log}
-use Rattle.fleet_workers.specs.declared.loops.LoopEnd.{LoopEnd}
-use Rattle.fleet_workers.specs.declared.loops.LoopEnd.TheVariants.{Done, Stalled, Stopped, Memory, Spent}
+use Rattle.worker_visits.specs.declared.ends.LoopEnd.{LoopEnd}
+use Rattle.worker_visits.specs.declared.ends.LoopEnd.TheVariants.{Done, Stalled, Stopped, Memory, Spent}
 use Rattle.fleet_workers.specs.declared.fleet.FleetEnd.{FleetEnd}
 use Rattle.fleet_workers.specs.declared.fleet.FleetEnd.TheVariants as ends
 use Rattle.fleet_workers.specs.declared.fleet.FleetRun.{FleetRun}
 use Rattle.fleet_workers.specs.declared.fleet.RunFault.{RunFault}
 use Rattle.fleet_workers.specs.declared.fleet.RunFault.TheVariants as faults
-use Rattle.fleet_workers.specs.Knowing.{PassView}
+use Rattle.worker_visits.specs.Knowing.{PassView}
 use Rattle.fleet_workers.specs.Crew.{IsByCrew, CrewFollows, CrewEndsAs, HavePut, HaveWorked}
 use Rattle.fleet_workers.specs.Fleet.{IsByWorker, IsEndOf, IsFleetRun, HasEnded, IsLeft, AreByBlocks, IsNew, IsMade}
 use Rattle.fleet_workers.specs.Fleet.{IsOutcome, left_by}
-use Rattle.fleet_workers.proofs.Blocks.{put_nothing}
+use Rattle.worker_visits.proofs.Blocks.{put_nothing}
 
 -- what workers know by their front is so of the whole run
 ended_so : (s : Scenario) (n : ℕ) (w : PassView) (end : LoopEnd) → w.subject ≡ Some s → CrewEndsAs n w end

@@ -26,13 +26,13 @@ use Rattle.ticket_lock.proofs.Logs.{begins_both, every_one, length-each}
 use Rattle.ticket_lock.proofs.Neighbours.{shares_below}
 use Rattle.shared_trace.specs.declared.work.OpenWork.{OpenWork}
 use Rattle.shared_trace.specs.Trace.{no_work, trace_log}
-use Rattle.fleet_workers.specs.declared.loops.LoopEnd.{LoopEnd}
-use Rattle.fleet_workers.specs.declared.loops.LoopEnd.TheVariants.{Done, Stalled, Stopped, Memory, Spent}
-use Rattle.fleet_workers.specs.Blocks.{own_entries, HasPut}
-use Rattle.fleet_workers.specs.Knowing.{PassView, IsByOne, Follows, IsDone, IsStalled, EndsAs, has_stopped}
+use Rattle.worker_visits.specs.declared.ends.LoopEnd.{LoopEnd}
+use Rattle.worker_visits.specs.declared.ends.LoopEnd.TheVariants.{Done, Stalled, Stopped, Memory, Spent}
+use Rattle.worker_visits.specs.Blocks.{own_entries, HasPut}
+use Rattle.worker_visits.specs.Knowing.{PassView, IsByOne, Follows, IsDone, IsStalled, EndsAs, has_stopped}
 use Rattle.fleet_workers.specs.Crew.{IsByCrew, CrewFollows, CrewEndsAs, HavePut, joint_end, is_any_stopped, HasWorked}
 use Rattle.fleet_workers.specs.Crew.{HaveWorked}
-use Rattle.fleet_workers.proofs.Blocks.{own-append, put_longer}
+use Rattle.worker_visits.proofs.Blocks.{own-append, put_longer}
 
 -- ---- one worker
 

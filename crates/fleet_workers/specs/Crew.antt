@@ -10,10 +10,10 @@ use Rattle.ticket_lock.specs.declared.rule.TheConstants.{NUMBERS}
 use Rattle.ticket_lock.specs.declared.logged.Share.{Share}
 use Rattle.ticket_lock.specs.Lock.{HasNumber}
 use Rattle.shared_trace.specs.declared.work.OpenWork.{OpenWork}
-use Rattle.fleet_workers.specs.Blocks.{HasPut}
-use Rattle.fleet_workers.specs.Knowing.{PassView, Follows, EndsAs, has_stopped}
-use Rattle.fleet_workers.specs.declared.loops.LoopEnd.{LoopEnd}
-use Rattle.fleet_workers.specs.declared.loops.LoopEnd.TheVariants.{Done, Stalled, Stopped, Memory, Spent}
+use Rattle.worker_visits.specs.Blocks.{HasPut}
+use Rattle.worker_visits.specs.Knowing.{PassView, Follows, EndsAs, has_stopped}
+use Rattle.worker_visits.specs.declared.ends.LoopEnd.{LoopEnd}
+use Rattle.worker_visits.specs.declared.ends.LoopEnd.TheVariants.{Done, Stalled, Stopped, Memory, Spent}
 
 -- the entry is under a number of the lock; of the pass's own, it is one of the n lowest
 abbrev pub IsByCrew : ℕ → PassView → Entry → Type 0

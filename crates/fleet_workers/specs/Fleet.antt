@@ -9,10 +9,10 @@ use Rattle.ticket_lock.specs.declared.rule.TheConstants.{NUMBERS}
 use Rattle.ticket_lock.specs.Log.{shares}
 use Rattle.ticket_lock.specs.Changes.{opening_view}
 use Rattle.shared_trace.specs.Trace.{TraceModel, trace_log}
-use Rattle.fleet_workers.specs.Knowing.{PassView, IsDone, IsStalled}
+use Rattle.worker_visits.specs.Knowing.{PassView, IsDone, IsStalled}
 use Rattle.fleet_workers.specs.Crew.{HavePut, HaveWorked}
-use Rattle.fleet_workers.specs.declared.loops.LoopEnd.{LoopEnd}
-use Rattle.fleet_workers.specs.declared.loops.LoopEnd.TheVariants as loops
+use Rattle.worker_visits.specs.declared.ends.LoopEnd.{LoopEnd}
+use Rattle.worker_visits.specs.declared.ends.LoopEnd.TheVariants as loops
 use Rattle.fleet_workers.specs.declared.fleet.FleetRun.{FleetRun}
 use Rattle.fleet_workers.specs.declared.fleet.FleetEnd.{FleetEnd}
 use Rattle.fleet_workers.specs.declared.fleet.FleetEnd.TheVariants as ends

@@ -1,4 +1,2 @@
-pub mod Blocks
-pub mod Knowing
 pub mod Crew
 pub mod Fleet

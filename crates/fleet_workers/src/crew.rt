@@ -5,16 +5,16 @@ ghost use Rattle.std.specs.Thread.{IsSync};
 ghost use Rattle.ticket_lock.specs.Names.{lock_id, pass_view, IsPass};
 ghost use Rattle.fleet_workers.specs.Crew.{has_run_out, was_stopped, is_spent, joint_end, HasWorked, HaveWorked};
 
-use crate::gate::Gate;
-use crate::loops::{LoopEnd, worker_loop};
+use crate::loops::worker_loop;
 use crate::promise::Worked;
-use crate::visits::stop_trace;
 use scenario_image::Scenario;
 use shared_trace::Trace;
 use std::snapshot::Snapshot;
 use std::sync::Wait;
 use std::thread::{Scope, Threads, scope, scope_env};
 use ticket_lock::{Pass, TicketLock};
+use worker_turns::Gate;
+use worker_visits::{LoopEnd, stop_trace};
 
 fn has_run_out(end: LoopEnd) -> bool
     ensures { result ≡ has_run_out end }

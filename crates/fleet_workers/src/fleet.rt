@@ -6,14 +6,12 @@ ghost use Rattle.fleet_core.specs.Run.{IsRun, IsComplete};
 ghost use Rattle.ticket_lock.specs.Changes.{opening_view};
 ghost use Rattle.ticket_lock.specs.Names.{lock_id, opening_value, pass_view, IsPass};
 ghost use Rattle.shared_trace.specs.Trace.{trace_log};
-ghost use Rattle.fleet_workers.specs.Knowing.{IsStalled};
+ghost use Rattle.worker_visits.specs.Knowing.{IsStalled};
 ghost use Rattle.fleet_workers.specs.Fleet.{IsByWorker, IsFleetRun, IsEndOf, Leaves, IsLeft, HasEnded, left_by};
 ghost use Rattle.fleet_workers.specs.Fleet.{IsOutcome, IsMade, IsAnswer, AreByBlocks, LeavesBlocks, AreWorkers};
 ghost use Rattle.fleet_workers.specs.Fleet.{IsBatch};
 
 use crate::crew::run_crew;
-use crate::gate::Gate;
-use crate::loops::LoopEnd;
 use fleet_core::unfinished;
 use scenario_image::Scenario;
 use shared_trace::Trace;
@@ -23,6 +21,8 @@ use std::thread::Threads;
 use thiserror::Error;
 use ticket_lock::{NUMBERS, Pass, TicketLock};
 use trace_file::Entries;
+use worker_turns::Gate;
+use worker_visits::LoopEnd;
 
 /// How a run ended.
 #[derive(Drop)]

@@ -1,12 +1,12 @@
 //! What is known of the answer of a worker's thread.
 
-use crate::gate::Gate;
-use crate::loops::LoopEnd;
 use scenario_image::Scenario;
 use shared_trace::Trace;
 use std::snapshot::Snapshot;
 use std::thread::Promise;
 use ticket_lock::{Pass, TicketLock};
+use worker_turns::Gate;
+use worker_visits::LoopEnd;
 
 /// That the answer is what `worker_loop` says where it is called with these.
 #[derive(Drop)]

@@ -2,7 +2,7 @@
 use Rattle.std.specs.Prelude.{◌≡◌, ◌+◌, Some}
 use Rattle.scenario_image.specs.Scenario.{Scenario}
 use Rattle.ticket_lock.specs.declared.rule.TheConstants.{NUMBERS}
-use Rattle.fleet_workers.specs.Knowing.{PassView}
+use Rattle.worker_visits.specs.Knowing.{PassView}
 
 -- the pass has the number 1 alone, and is of the trace of this scenario
 abbrev pub IsFirst : Scenario → PassView → Type 0

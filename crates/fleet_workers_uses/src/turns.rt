@@ -2,7 +2,7 @@
 
 ghost use Rattle.std.specs.Prelude.{◌≡◌, ◌≤◌, false, Some, IfSome, IfOk};
 ghost use Rattle.ticket_lock.specs.Names.{lock_id, pass_view, IsPass};
-ghost use Rattle.fleet_workers.specs.Knowing.{Knows};
+ghost use Rattle.worker_visits.specs.Knowing.{Knows};
 ghost use Rattle.fleet_workers_uses.specs.Passes.{IsFirst, IsSecond, IsSame};
 
 use fleet_workers::{Put, PutVisit, Visit, claim_job, put_job, stop_trace};

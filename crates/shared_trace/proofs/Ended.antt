@@ -6,9 +6,10 @@ use Rattle.lemmas.proofs.Lists.{set_elsewhere}
 use Rattle.scenario_image.specs.Scenario.{Scenario}
 use Rattle.trace_file.specs.declared.entry.Entry.{Entry}
 use Rattle.fleet_core.specs.Waiting.{is_waiting}
-use Rattle.shared_trace.specs.declared.station.Station.{Station}
-use Rattle.shared_trace.specs.Kept.{is_end}
-use Rattle.shared_trace.specs.Kept.{IsTrace, AreEnded}
+use Rattle.device_stations.specs.declared.station.Station.{Station}
+use Rattle.device_stations.specs.Stations.{is_end}
+use Rattle.shared_trace.specs.Kept.{IsTrace}
+use Rattle.device_stations.specs.Stations.{AreEnded}
 use Rattle.shared_trace.proofs.Stations.{left_is}
 
 pub none_ended : (stations : List Station) → AreEnded stations 0

@@ -13,14 +13,16 @@ use Rattle.fleet_core.specs.Run.{made_by, is_enabled, IsRun}
 use Rattle.fleet_core.specs.Board.{HoldsAfter, Holding, ShowsAfter}
 use Rattle.fleet_core.proofs.Ends.{goes_waits}
 use Rattle.ticket_lock.specs.Log.{Adds}
-use Rattle.shared_trace.specs.declared.station.Place.TheVariants.{Parked, Out}
-use Rattle.shared_trace.specs.declared.station.Station.{Station}
+use Rattle.device_stations.specs.declared.station.Place.TheVariants.{Parked, Out}
+use Rattle.device_stations.specs.declared.station.Station.{Station}
 use Rattle.shared_trace.specs.declared.stops.Stops.{Stops}
 use Rattle.shared_trace.specs.Stops.{numbers_in}
 use Rattle.shared_trace.specs.Trace.{TraceModel, IsPlaced, IsReady, with_out, has_stopped, open_by, trace_log}
-use Rattle.shared_trace.specs.Kept.{IsTrace, IsStation, AreEnded, IsOnWay, IsJob, is_parked, places_of}
+use Rattle.shared_trace.specs.Kept.{IsTrace, IsStation, IsOnWay, IsJob, places_of}
+use Rattle.device_stations.specs.Stations.{AreEnded, is_parked}
 use Rattle.shared_trace.specs.Kept.{table_length}
-use Rattle.shared_trace.proofs.Lists.{from_map, map-set, same_some}
+use Rattle.shared_trace.proofs.Lists.{from_map, map-set}
+use Rattle.device_stations.proofs.Scans.{same_some}
 use Rattle.shared_trace.proofs.Open.{open_same, open_has}
 use Rattle.shared_trace.proofs.Stations.{traced}
 use Rattle.shared_trace.proofs.Ended.{ended_set}

@@ -1,5 +1,4 @@
 pub mod Lists
-pub mod Paging
 pub mod Nexts
 pub mod Open
 pub mod Stations

@@ -13,7 +13,7 @@ use Rattle.fleet_core.specs.Run.{steps_in, step_at, made_by, posts_of, is_enable
 use Rattle.fleet_core.specs.Waiting.{is_waiting}
 use Rattle.fleet_core.specs.declared.next.Next.{Next}
 use Rattle.fleet_core.specs.declared.next.Next.TheVariants.{End, Free, Waits}
-use Rattle.shared_trace.specs.Kept.{is_end}
+use Rattle.device_stations.specs.Stations.{is_end}
 
 pub next_same : (p q : ℕ → ℕ) (n : Next) → ((g : ℕ) → p g ≡ q g) → may_pass p n ≡ may_pass q n
 next_same p q End h = refl

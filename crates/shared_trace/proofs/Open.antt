@@ -5,8 +5,8 @@ use Rattle.std.specs.Prelude.{Contains}
 use Rattle.std.proofs.lemmas.Bool.{eq-eqb, eqb-true, false≢true}
 use Rattle.trace_file.specs.declared.entry.Entry.{Entry}
 use Rattle.fleet_core.specs.Run.{made_by}
-use Rattle.shared_trace.specs.declared.station.Place.{Place}
-use Rattle.shared_trace.specs.declared.station.Place.TheVariants.{Parked, Out}
+use Rattle.device_stations.specs.declared.station.Place.{Place}
+use Rattle.device_stations.specs.declared.station.Place.TheVariants.{Parked, Out}
 use Rattle.shared_trace.specs.Trace.{is_out, open_from}
 
 -- with the same counts from here on

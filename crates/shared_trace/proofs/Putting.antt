@@ -17,15 +17,16 @@ use Rattle.fleet_core.proofs.Valid.{posts_within}
 use Rattle.fleet_core.proofs.Blocks.{block_follows, block_others}
 use Rattle.ticket_lock.specs.Log.{Adds}
 use Rattle.fleet_core.specs.declared.next.Next.{Next}
-use Rattle.shared_trace.specs.declared.station.Place.{Place}
-use Rattle.shared_trace.specs.declared.station.Place.TheVariants.{Parked, Out}
-use Rattle.shared_trace.specs.declared.station.Station.{Station}
+use Rattle.device_stations.specs.declared.station.Place.{Place}
+use Rattle.device_stations.specs.declared.station.Place.TheVariants.{Parked, Out}
+use Rattle.device_stations.specs.declared.station.Station.{Station}
 use Rattle.fleet_core.specs.Next.{next_of}
 use Rattle.shared_trace.specs.declared.stops.Stops.{Stops}
 use Rattle.shared_trace.specs.Stops.{numbers_in, is_among}
 use Rattle.shared_trace.specs.Trace.{TraceModel, IsPlaced, with_block, trace_log}
 use Rattle.shared_trace.specs.Job.{Task, IsOf, MayPut}
-use Rattle.shared_trace.specs.Kept.{IsTrace, IsStation, AreEnded, IsTask, IsOnWay, IsJob, places_of}
+use Rattle.shared_trace.specs.Kept.{IsTrace, IsStation, IsTask, IsOnWay, IsJob, places_of}
+use Rattle.device_stations.specs.Stations.{AreEnded}
 use Rattle.shared_trace.proofs.Lists.{from_map, map-set, all_weaker}
 use Rattle.shared_trace.proofs.Open.{IsOpen, open_same, open_tells}
 use Rattle.shared_trace.proofs.Stations.{traced}

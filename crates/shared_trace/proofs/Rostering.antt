@@ -8,12 +8,13 @@ use Rattle.lemmas.proofs.Lists.{set_elsewhere, set_gives}
 use Rattle.fleet_core.specs.declared.next.Next.{Next}
 use Rattle.fleet_core.specs.declared.next.Next.TheVariants.{End, Free, Waits}
 use Rattle.fleet_core.specs.Next.{may_pass}
-use Rattle.shared_trace.specs.declared.station.Place.{Place}
-use Rattle.shared_trace.specs.declared.station.Place.TheVariants.{Parked, Out}
-use Rattle.shared_trace.specs.declared.station.Station.{Station}
+use Rattle.device_stations.specs.declared.station.Place.{Place}
+use Rattle.device_stations.specs.declared.station.Place.TheVariants.{Parked, Out}
+use Rattle.device_stations.specs.declared.station.Station.{Station}
 use Rattle.shared_trace.specs.declared.roster.Roster.{Roster}
 use Rattle.shared_trace.specs.Roster.{CandidatesModel, IsCandidate, IsListedFor}
-use Rattle.shared_trace.specs.Kept.{is_parked, is_ready, is_ready_in, AreCandidates, IsListedAt, IsRosterOf}
+use Rattle.shared_trace.specs.Kept.{AreCandidates, IsListedAt, IsRosterOf}
+use Rattle.device_stations.specs.Stations.{is_parked, is_ready, is_ready_in}
 use Rattle.shared_trace.specs.Kept.{KeepsLists, IsAdded, IsPosted}
 use Rattle.shared_trace.proofs.Waits.{still_listed}
 

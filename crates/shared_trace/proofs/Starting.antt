@@ -6,9 +6,10 @@ use Rattle.lemmas.proofs.Lists.{pushed_cases}
 use Rattle.scenario_image.specs.Scenario.{Scenario, IsValid}
 use Rattle.trace_file.specs.declared.entry.Entry.{Entry}
 use Rattle.fleet_core.proofs.Board.{zeros}
-use Rattle.shared_trace.specs.declared.station.Place.{Place}
-use Rattle.shared_trace.specs.declared.station.Station.{Station}
-use Rattle.shared_trace.specs.Kept.{IsTrace, IsStation, AreParked, is_parked, places_of, table_length}
+use Rattle.device_stations.specs.declared.station.Place.{Place}
+use Rattle.device_stations.specs.declared.station.Station.{Station}
+use Rattle.shared_trace.specs.Kept.{IsTrace, IsStation, AreParked, places_of, table_length}
+use Rattle.device_stations.specs.Stations.{is_parked}
 use Rattle.shared_trace.proofs.Lists.{from_map}
 
 pub none_parked : (s : Scenario) (stations : List Station) → stations ≡ [] → AreParked s stations

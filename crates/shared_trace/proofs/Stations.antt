@@ -13,15 +13,16 @@ use Rattle.fleet_core.specs.Waiting.{is_waiting}
 use Rattle.fleet_core.proofs.Posts.{past_rows}
 use Rattle.fleet_core.proofs.Ends.{no_more}
 use Rattle.fleet_core.specs.declared.next.Next.{Next}
-use Rattle.shared_trace.specs.declared.station.Place.{Place}
-use Rattle.shared_trace.specs.declared.station.Place.TheVariants.{Parked, Out}
-use Rattle.shared_trace.specs.declared.station.Station.{Station}
+use Rattle.device_stations.specs.declared.station.Place.{Place}
+use Rattle.device_stations.specs.declared.station.Place.TheVariants.{Parked, Out}
+use Rattle.device_stations.specs.declared.station.Station.{Station}
 use Rattle.fleet_core.specs.Next.{may_pass}
 use Rattle.shared_trace.specs.declared.stops.Stops.{Stops}
 use Rattle.shared_trace.specs.Stops.{numbers_in}
 use Rattle.shared_trace.specs.Trace.{TraceModel, IsPlaced, IsShared, IsReady, is_stopped}
 use Rattle.shared_trace.specs.Claims.{IsAnyOut, IsAnyLeft, AreAllAtEnd, IsIdle}
-use Rattle.shared_trace.specs.Kept.{IsTrace, is_end, is_parked, is_ready, is_ready_in, places_of}
+use Rattle.shared_trace.specs.Kept.{IsTrace, places_of}
+use Rattle.device_stations.specs.Stations.{is_end, is_parked, is_ready, is_ready_in}
 use Rattle.shared_trace.proofs.Lists.{from_map}
 use Rattle.shared_trace.proofs.Nexts.{pass_enabled, waiting_is, past_waiting}
 

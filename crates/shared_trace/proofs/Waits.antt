@@ -15,7 +15,7 @@ use Rattle.fleet_core.proofs.Board.{get_or_any}
 use Rattle.fleet_core.proofs.Queueing.{added_here, added_kept, taken_or}
 use Rattle.shared_trace.specs.Roster.{CandidatesModel, WaitersModel, IsCandidate, IsListedFor, no_waiters}
 use Rattle.shared_trace.specs.Kept.{IsListedAt, KeepsLists}
-use Rattle.shared_trace.proofs.Lists.{same_some}
+use Rattle.device_stations.proofs.Scans.{same_some}
 
 -- ---- devices that are woken
 

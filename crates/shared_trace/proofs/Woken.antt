@@ -1,16 +1,16 @@
 -- The devices that may be ready.
 use Rattle.std.proofs.Common.{◌≡◌, ℕ, ◌<◌, ◌⊎◌, inl, inr, true, false, List, [], ◌∷◌, length, get_or}
-use Rattle.std.proofs.Common.{Option, None, Some, slice_get, Contains, IsPermutation, IfNone, IfSome, refl, sym, ap}
+use Rattle.std.proofs.Common.{Option, None, Some, slice_get, Contains, IsPermutation, IfNone, IfSome, sym, ap}
 use Rattle.std.proofs.Common.{subst, ◌∙◌, arith}
 use Rattle.std.proofs.lemmas.Bool.{false≢true}
-use Rattle.std.proofs.lemmas.Option.{slice_get_read}
 use Rattle.std.proofs.lemmas.List.Sorted.{length_permutation}
 use Rattle.std.specs.declared.cmp.Reverse.{Reverse}
 use Rattle.fleet_core.specs.Queue.{numbers_of}
 use Rattle.fleet_core.proofs.Queueing.{taken_or}
-use Rattle.shared_trace.specs.declared.station.Station.{Station}
+use Rattle.device_stations.specs.declared.station.Station.{Station}
 use Rattle.shared_trace.specs.Roster.{CandidatesModel}
-use Rattle.shared_trace.specs.Kept.{AreCandidates, is_ready}
+use Rattle.shared_trace.specs.Kept.{AreCandidates}
+use Rattle.device_stations.specs.Stations.{is_ready}
 
 -- ---- the lowest of the woken ones
 
@@ -48,11 +48,3 @@ module _ (posts : ℕ → ℕ) (stations : List Station) where
   kept_without old new d all fresh taken not i x at ready less =
       kept_by old new d i x at ready not
       (taken_or old.woken new.woken d i taken (all i x at ready (omega (arith, less, fresh))))
-
--- ---- the station of a device
-
--- as an index reads it
-pub found_at : (stations : List Station) (i d : ℕ) (x : Station) → i ≡ d → i < length stations → x ≡ get_or stations i x
-    → slice_get stations d ≡ Some x
-found_at stations i d x from within read =
-    subst (λ j. slice_get stations j ≡ Some x) from (slice_get_read stations (length stations) i x refl within read)

@@ -3,7 +3,7 @@ use Rattle.std.specs.Prelude.{◌≡◌, ℕ, ◌≤◌, true, false, [], Some, 
 use Rattle.fleet_core.specs.Run.{made_by, is_enabled, IsComplete}
 use Rattle.fleet_core.specs.Waiting.{is_waiting}
 use Rattle.fleet_core.specs.Board.{ShowsAfter}
-use Rattle.shared_trace.specs.declared.station.Place.TheVariants.{Parked, Out}
+use Rattle.device_stations.specs.declared.station.Place.TheVariants.{Parked, Out}
 use Rattle.shared_trace.specs.declared.claims.Claim.{Claim}
 use Rattle.shared_trace.specs.declared.claims.Claim.TheVariants.{Got, Busy, Done, Stalled, Stopped}
 use Rattle.shared_trace.specs.Trace.{TraceModel, IsReady, with_out, is_stopped, open_by}

@@ -13,9 +13,9 @@ use Rattle.fleet_core.specs.declared.next.Next.TheVariants.{End, Free, Waits}
 use Rattle.fleet_core.specs.Next.{next_of, may_pass}
 use Rattle.fleet_core.specs.Run.{made_by, posts_of, step_at, is_enabled, IsRun}
 use Rattle.fleet_core.specs.Board.{HoldsAfter, Holding}
-use Rattle.shared_trace.specs.declared.station.Place.{Place}
-use Rattle.shared_trace.specs.declared.station.Place.TheVariants.{Parked, Out}
-use Rattle.shared_trace.specs.declared.station.Station.{Station}
+use Rattle.device_stations.specs.declared.station.Place.{Place}
+use Rattle.device_stations.specs.declared.station.Station.{Station}
+use Rattle.device_stations.specs.Stations.{is_parked, is_ready}
 use Rattle.shared_trace.specs.declared.roster.Roster.{Roster}
 use Rattle.shared_trace.specs.Roster.{CandidatesModel, WaitersModel, IsCandidate, IsListedFor}
 use Rattle.shared_trace.specs.Trace.{IsPlaced}
@@ -44,26 +44,8 @@ groups_in (Event event) = []
 groups_in (Post group) = group ∷ []
 groups_in (Need group count) = []
 
--- the device has no next step
-abbrev pub is_end : Next → Bool
-is_end End = true
-is_end Free = false
-is_end (Waits group count) = false
-
-abbrev pub is_parked : Place → Bool
-is_parked (Parked x) = true
-is_parked (Out worker) = false
-
 abbrev pub places_of : List Station → List Place
 places_of stations = map (λ x. x.place) stations
-
--- the device is parked, and its next step may be made where each group has this many posts
-abbrev pub is_ready_in : (ℕ → ℕ) → Place → Next → Bool
-is_ready_in posts (Parked x) next = may_pass posts next
-is_ready_in posts (Out worker) next = false
-
-abbrev pub is_ready : (ℕ → ℕ) → Station → Bool
-is_ready posts x = is_ready_in posts x.place x.next
 
 -- what is kept of device d: its place, the count of its entries, what its next step asks for, and, while it is parked,
 -- a table for a job
@@ -77,16 +59,6 @@ pub record IsStation (s : Scenario) (es : List Entry) (d : ℕ) (x : Station) : 
 pub record AreParked (s : Scenario) (stations : List Station) : Type 0 where
   pub each : (d : ℕ) (x : Station) → slice_get stations d ≡ Some x → IsStation s [] d x
   pub parked : (d : ℕ) (x : Station) → slice_get stations d ≡ Some x → is_parked x.place ≡ true
-
--- each device before this one is at the end of its row
-abbrev pub AreEnded : List Station → ℕ → Type 0
-AreEnded stations low =
-    (i : ℕ) (x : Station) → i < low → slice_get stations i ≡ Some x → is_end x.next ≡ true
-
--- no device before this one is ready
-abbrev pub AreIdle : (ℕ → ℕ) → List Station → ℕ → Type 0
-AreIdle posts stations first =
-    (i : ℕ) (x : Station) → i < first → slice_get stations i ≡ Some x → is_ready posts x ≡ false
 
 -- each device that is ready is a candidate
 abbrev pub AreCandidates : (ℕ → ℕ) → List Station → CandidatesModel → Type 0

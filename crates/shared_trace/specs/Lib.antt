@@ -1,4 +1,3 @@
-pub mod Pages
 pub mod Stops
 pub mod Trace
 pub mod Job

@@ -7,8 +7,8 @@ use Rattle.fleet_core.specs.Run.{made_by, is_enabled, IsRun}
 use Rattle.fleet_core.specs.Waiting.{is_waiting}
 use Rattle.fleet_core.specs.Board.{HoldsAfter, Holding}
 use Rattle.ticket_lock.specs.Log.{Reading}
-use Rattle.shared_trace.specs.declared.station.Place.{Place}
-use Rattle.shared_trace.specs.declared.station.Place.TheVariants.{Parked, Out}
+use Rattle.device_stations.specs.declared.station.Place.{Place}
+use Rattle.device_stations.specs.declared.station.Place.TheVariants.{Parked, Out}
 use Rattle.shared_trace.specs.declared.work.OpenWork.{OpenWork}
 use Rattle.shared_trace.specs.Stops.{is_any, is_among}
 

@@ -2,11 +2,12 @@
 
 ghost use Rattle.std.specs.Prelude.{◌≡◌, ℕ, ◌<◌, ◌≤◌, ◌∷◌, true, false, All, IsPermutation, IfOk, IfSome, IfNone, Some};
 ghost use Rattle.std.specs.Prelude.{slice_get, slice_index};
-ghost use Rattle.shared_trace.specs.declared.station.Station.{Station};
+ghost use Rattle.device_stations.specs.declared.station.Station.{Station};
 ghost use Rattle.shared_trace.specs.Roster.{IsCandidate};
-ghost use Rattle.shared_trace.specs.Kept.{AreCandidates, is_ready};
+ghost use Rattle.shared_trace.specs.Kept.{AreCandidates};
+ghost use Rattle.device_stations.specs.Stations.{is_ready};
 
-use crate::station::{Station, is_ready_at, lowest_ready};
+use device_stations::{Station, is_ready_at, lowest_ready};
 use std::alloc::{AllocError, Global};
 use std::cmp::Reverse;
 use std::collections::BinaryHeap;

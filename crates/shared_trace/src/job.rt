@@ -9,9 +9,9 @@ ghost use Rattle.shared_trace.specs.Trace.{no_work};
 ghost use Rattle.shared_trace.specs.Job.{Task, IsOf, StandsIn, IsSameJob, Advances, Steps, seen_by};
 ghost use Rattle.shared_trace.specs.Kept.{IsJob, table_length};
 
-use crate::pages::PAGE;
 use crate::tables::push_group;
 use crate::trace::Trace;
+use entry_pages::PAGE;
 use fleet_core::{Held, Next, make_entry, may_pass, next_of, note_post, step_of};
 use scenario_image::Scenario;
 use std::alloc::{AllocError, Global};

@@ -5,12 +5,9 @@
 
 mod candidates;
 mod claims;
-mod entries;
 mod job;
-mod pages;
 mod roster;
 mod start;
-mod station;
 mod stops;
 mod tables;
 mod trace;
@@ -18,8 +15,6 @@ mod wait_queue;
 mod work;
 
 pub use claims::Claim;
-pub use entries::EntryIter;
 pub use job::{AdvanceFault, Job};
-pub use station::Place;
 pub use trace::Trace;
 pub use work::OpenWork;

@@ -1,13 +1,13 @@
 //! Which devices may be ready, and which wait for posts.
 
 ghost use Rattle.std.specs.Prelude.{◌≡◌, ℕ, ◌<◌, ◌≤◌, replicate, length, Some, slice_get, slice_index, IfOk, OnOk};
-ghost use Rattle.shared_trace.specs.declared.station.Station.{Station};
+ghost use Rattle.device_stations.specs.declared.station.Station.{Station};
 ghost use Rattle.shared_trace.specs.Roster.{IsCandidate, IsListedFor, HasRoomFor};
 ghost use Rattle.shared_trace.specs.Kept.{IsRosterOf, IsAdded, IsPosted, AreCandidates, IsListedAt, KeepsLists};
 
 use crate::candidates::Candidates;
-use crate::station::Station;
 use crate::wait_queue::WaitQueue;
+use device_stations::Station;
 use fleet_core::{Next, may_pass};
 use std::alloc::{AllocError, Global};
 

@@ -1,9 +1,10 @@
 //! The stations of a scenario at its start.
 
 ghost use Rattle.std.specs.Prelude.{◌≡◌, ◌<◌, [], true, length, IfOk};
-ghost use Rattle.shared_trace.specs.Kept.{IsStation, AreParked, table_length, is_parked};
+ghost use Rattle.shared_trace.specs.Kept.{IsStation, AreParked, table_length};
+ghost use Rattle.device_stations.specs.Stations.{is_parked};
 
-use crate::station::{Place, Station};
+use device_stations::{Place, Station};
 use fleet_core::{Held, next_of, step_of};
 use scenario_image::Scenario;
 use std::alloc::{AllocError, Global};

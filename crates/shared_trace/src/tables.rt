@@ -4,7 +4,7 @@ ghost use Rattle.std.specs.Prelude.{◌≡◌, ℕ, ◌+◌, ◌^◌, ◌<◌, �
 ghost use Rattle.std.specs.List.{AllByRecursion};
 ghost use Rattle.fleet_core.specs.Run.{steps_in};
 ghost use Rattle.scenario_image.specs.Scenario.{IsValid};
-ghost use Rattle.shared_trace.specs.declared.station.Station.{Station};
+ghost use Rattle.device_stations.specs.declared.station.Station.{Station};
 ghost use Rattle.shared_trace.specs.Kept.{groups_in, places_for, places_for_steps, table_length, IsRosterOf};
 
 use crate::roster::Roster;

@@ -5,24 +5,24 @@ ghost use Rattle.std.specs.Prelude.{IfErr, OnOk, OnErr};
 ghost use Rattle.fleet_core.specs.Run.{IsRun, made_by, is_enabled};
 ghost use Rattle.fleet_core.specs.Waiting.{is_waiting};
 ghost use Rattle.ticket_lock.specs.Log.{Adds};
-ghost use Rattle.shared_trace.specs.declared.station.Place.TheVariants.{Parked, Out};
+ghost use Rattle.device_stations.specs.declared.station.Place.TheVariants.{Parked, Out};
 ghost use Rattle.shared_trace.specs.Trace.{TraceModel, IsShared, IsReady, with_out, with_block, stopped_under};
 ghost use Rattle.shared_trace.specs.Trace.{is_stopped, open_by, trace_log};
 ghost use Rattle.shared_trace.specs.Job.{Task, MayPut, StandsIn};
 ghost use Rattle.shared_trace.specs.Claims.{IsTaken, IsAnyOut, IsAnyLeft, AreAllAtEnd, Claims, ClaimStands};
-ghost use Rattle.shared_trace.specs.Kept.{IsTrace, IsStation, table_length, is_parked};
-ghost use Rattle.shared_trace.specs.declared.station.Place.{Place};
+ghost use Rattle.shared_trace.specs.Kept.{IsTrace, IsStation, table_length};
+ghost use Rattle.device_stations.specs.Stations.{is_parked};
+ghost use Rattle.device_stations.specs.declared.station.Place.{Place};
 
 use crate::claims::Claim;
-use crate::entries::EntryIter;
 use crate::job::Job;
-use crate::pages::Pages;
 use crate::roster::Roster;
 use crate::start::start_stations;
-use crate::station::{Place, Station, any_out, count_ended, first_left};
 use crate::stops::Stops;
 use crate::tables::{add_posts, table_length};
 use crate::work::OpenWork;
+use device_stations::{Place, Station, any_out, count_ended, first_left};
+use entry_pages::{EntryIter, Pages};
 use scenario_image::Scenario;
 use std::alloc::{AllocError, Global};
 use std::marker::Model;
@@ -54,7 +54,8 @@ impl Model for Trace {
     ghost use Rattle.device_requests.specs.Client.{attributes_code};
     ghost use Rattle.shared_trace.specs.Trace.{TraceModel};
     ghost use Rattle.shared_trace.specs.Stops.{numbers_in};
-    ghost use Rattle.shared_trace.specs.Kept.{IsTrace, AreEnded, IsRosterOf, places_of};
+    ghost use Rattle.shared_trace.specs.Kept.{IsTrace, IsRosterOf, places_of};
+    ghost use Rattle.device_stations.specs.Stations.{AreEnded};
 
     ghost Value = { TraceModel };
 

@@ -2,7 +2,7 @@ use Rattle.std.proofs.Common.{sym, subst, arith}
 use Rattle.ticket_lock.specs.Log.{Adds}
 use Rattle.shared_trace.specs.Trace.{no_work, trace_log}
 use Rattle.shared_trace.specs.Job.{MayPut}
-use Rattle.fleet_workers.proofs.Following.{follows, may_put}
+use Rattle.worker_visits.proofs.Following.{follows, may_put}
 use Rattle.cases_memory.proofs.puts.put_in.Goals as goal
 
 pub put_twice-came-requires : goal.put_twice-came-requires

@@ -1,6 +1,6 @@
 use Rattle.std.proofs.lemmas.Bool.{false≢true}
 use Rattle.debugger.proofs.Changing.{change_said, is_asked, same_after, still_after, still_said}
-use Rattle.debugger.proofs.Counting.{entry_at}
+use Rattle.device_entries.proofs.Counting.{entry_at}
 use Rattle.debugger.proofs.Keeping.{iff_no}
 use Rattle.debugger.proofs.changes.changes_after.Goals as goal
 

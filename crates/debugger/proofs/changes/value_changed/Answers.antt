@@ -31,15 +31,15 @@ returns c =
         after = c.in-Some-watched_device.after.now;
         stands = stands;
         watch = c.in-Some-watched_device.ensures.some;
-        differs = said_differs c.is_same-same.result _ _ _ _ c.is_same-same.ensures c.value.ensures.left
-            c.value-2.ensures.left so;
+        differs = said_differs c.is_same-same.result _ _ _ _ c.is_same-same.ensures c.value.ensures.held
+            c.value-2.ensures.held so;
       };
       still = λ not_so x at.
           unchanged_at c.args.devices.now c.args.watched.now c.args.device c.args.path.now c.in-Some.before.now x
           stands at (record {
             after = c.in-Some-watched_device.after.now;
             watch = c.in-Some-watched_device.ensures.some;
-            same = said_same c.is_same-same.result _ _ _ _ c.is_same-same.ensures c.value.ensures.left
-                c.value-2.ensures.left not_so;
+            same = said_same c.is_same-same.result _ _ _ _ c.is_same-same.ensures c.value.ensures.held
+                c.value-2.ensures.held not_so;
           });
     }

@@ -1,6 +1,6 @@
 use Rattle.std.proofs.Common.{arith, ◌∙◌}
 use Rattle.debugger.proofs.Copying.{none_copied}
-use Rattle.debugger.proofs.Empties.{empty_more}
+use Rattle.device_entries.proofs.Empties.{empty_more}
 use Rattle.debugger.proofs.copies.no_copies.Goals as goal
 
 pub loop-row-preserved : goal.loop-row-preserved

@@ -6,7 +6,6 @@ use Rattle.debugger.proofs.Moving.{device_at}
 use Rattle.debugger.proofs.Passing.{earlier_no, earlier_yes, found_more, found_same, moved_all, none_found, passed_is}
 use Rattle.debugger.proofs.Passing.{count_of, passed_row, places_of, row_in, step_within, steps_all, steps_by, steps_few}
 use Rattle.debugger.proofs.Passing.{at_end, steps_next, steps_none, steps_still, sum_fits, within_is}
-use Rattle.debugger.proofs.Placing.{count_is, places_rise}
 use Rattle.debugger.proofs.Runs.{has_steps}
 use Rattle.debugger.proofs.moves.moved_devices.Goals as goal
 
@@ -93,16 +92,14 @@ offset_bounds-made-row c =
     c.index-entries-index.result c.args.made.now passed c.from-row.ensures c.requires.counted.rows in
     omega (arith, room)
 
-pub has_earlier-requires-clause-rise : goal.has_earlier-requires-clause-rise
-has_earlier-requires-clause-rise c =
+pub has_earlier-requires-clause-places : goal.has_earlier-requires-clause-places
+has_earlier-requires-clause-places c =
     let passed = passed_is c.args.scenario.now c.args.entries.now c.min-first.result c.max-last.result
     c.loop-index.index c.args.from c.args.to c.index-entries-index.result c.requires.run c.max-last.ensures
     c.requires.from c.requires.to c.loop-index.auto.index c.loop-index-test.true c.index-entries-index.is in
-    let has = places_of c.args.scenario.now c.args.entries.now c.min-first.result c.loop-index.index c.from-row.result
+    places_of c.args.scenario.now c.args.entries.now c.min-first.result c.loop-index.index c.from-row.result
     c.index-entries-index.result c.args.places.now c.index-places-row.result c.as_slice-indexes.result.now passed
-    c.requires.placed c.requires.listed c.from-row.ensures c.index-places-row.is c.as_slice-indexes.ensures.value in
-    places_rise c.args.entries.now (length c.args.entries.now) c.index-entries-index.result.device
-    c.as_slice-indexes.result.now has
+    c.requires.placed c.requires.listed c.from-row.ensures c.index-places-row.is c.as_slice-indexes.ensures.value
 
 pub has_earlier-requires-clause-step : goal.has_earlier-requires-clause-step
 has_earlier-requires-clause-step c =
@@ -115,16 +112,14 @@ has_earlier-requires-clause-step c =
     step_within c.args.scenario.now c.args.entries.now c.min-first.result c.loop-index.index
     c.index-entries-index.result c.as_slice-indexes.result.now passed has
 
-pub count_before-count-requires : goal.count_before-count-requires
-count_before-count-requires c =
+pub count_before-count-requires-clause-places : goal.count_before-count-requires-clause-places
+count_before-count-requires-clause-places c =
     let passed = passed_is c.args.scenario.now c.args.entries.now c.min-first.result c.max-last.result
     c.loop-index.index c.args.from c.args.to c.index-entries-index.result c.requires.run c.max-last.ensures
     c.requires.from c.requires.to c.loop-index.auto.index c.loop-index-test.true c.index-entries-index.is in
-    let has = places_of c.args.scenario.now c.args.entries.now c.min-first.result c.loop-index.index c.from-row.result
+    places_of c.args.scenario.now c.args.entries.now c.min-first.result c.loop-index.index c.from-row.result
     c.index-entries-index.result c.args.places.now c.index-places-row.result c.as_slice-indexes.result.now passed
-    c.requires.placed c.requires.listed c.from-row.ensures c.index-places-row.is c.as_slice-indexes.ensures.value in
-    places_rise c.args.entries.now (length c.args.entries.now) c.index-entries-index.result.device
-    c.as_slice-indexes.result.now has
+    c.requires.placed c.requires.listed c.from-row.ensures c.index-places-row.is c.as_slice-indexes.ensures.value
 
 pub moved_device-requires-clause-copied : goal.moved_device-requires-clause-copied
 moved_device-requires-clause-copied c =
@@ -189,13 +184,7 @@ moved_device-requires-clause-last c =
     let passed = passed_is c.args.scenario.now c.args.entries.now c.min-first.result c.max-last.result
     c.loop-index.index c.args.from c.args.to c.index-entries-index.result c.requires.run c.max-last.ensures
     c.requires.from c.requires.to c.loop-index.auto.index c.loop-index-test.true c.index-entries-index.is in
-    let has = places_of c.args.scenario.now c.args.entries.now c.min-first.result c.loop-index.index c.from-row.result
-    c.index-entries-index.result c.args.places.now c.index-places-row.result c.as_slice-indexes.result.now passed
-    c.requires.placed c.requires.listed c.from-row.ensures c.index-places-row.is c.as_slice-indexes.ensures.value in
-    let count = count_is c.args.entries.now c.index-entries-index.result.device c.args.to c.count_before-count.result
-    c.as_slice-indexes.result.now has c.requires.to c.count_before-count.ensures.within
-    c.count_before-count.ensures.before c.count_before-count.ensures.after in
-    subst (HasSteps c.args.scenario.now c.index-entries-index.result.device) (sym count)
+    subst (HasSteps c.args.scenario.now c.index-entries-index.result.device) (sym c.count_before-count.ensures)
     (has_steps c.args.scenario.now c.args.entries.now c.index-entries-index.result.device c.args.to c.requires.run)
 
 pub loop-index-preserved-then-has_earlier : goal.loop-index-preserved-then-has_earlier
@@ -203,14 +192,8 @@ loop-index-preserved-then-has_earlier c =
     let passed = passed_is c.args.scenario.now c.args.entries.now c.min-first.result c.max-last.result
     c.loop-index.index c.args.from c.args.to c.index-entries-index.result c.requires.run c.max-last.ensures
     c.requires.from c.requires.to c.loop-index.auto.index c.loop-index-test.true c.index-entries-index.is in
-    let has = places_of c.args.scenario.now c.args.entries.now c.min-first.result c.loop-index.index c.from-row.result
-    c.index-entries-index.result c.args.places.now c.index-places-row.result c.as_slice-indexes.result.now passed
-    c.requires.placed c.requires.listed c.from-row.ensures c.index-places-row.is c.as_slice-indexes.ensures.value in
-    let some = earlier_yes c.args.scenario.now c.args.entries.now (length c.args.entries.now) c.min-first.result
-    c.loop-index.index c.index-entries-index.result c.as_slice-indexes.result.now passed has
-    (step_within c.args.scenario.now c.args.entries.now c.min-first.result c.loop-index.index
-    c.index-entries-index.result c.as_slice-indexes.result.now passed has)
-    (c.has_earlier.ensures.0 c.if-has_earlier.true) in
+    let some = earlier_yes c.args.scenario.now c.args.entries.now c.min-first.result c.loop-index.index
+    c.index-entries-index.result passed (c.has_earlier.ensures.0 c.if-has_earlier.true) in
     record {
       found = found_same c.args.scenario.now c.args.entries.now c.args.to c.min-first.result c.loop-index.index
           c.index-entries-index.result c.loop-index.moved.items c.loop-index.invariant.found passed some;
@@ -223,17 +206,9 @@ overflow_add-steps c =
     let passed = passed_is c.args.scenario.now c.args.entries.now c.min-first.result c.max-last.result
     c.loop-index.index c.args.from c.args.to c.index-entries-index.result c.requires.run c.max-last.ensures
     c.requires.from c.requires.to c.loop-index.auto.index c.loop-index-test.true c.index-entries-index.is in
-    let has = places_of c.args.scenario.now c.args.entries.now c.min-first.result c.loop-index.index c.from-row.result
-    c.index-entries-index.result c.args.places.now c.index-places-row.result c.as_slice-indexes.result.now passed
-    c.requires.placed c.requires.listed c.from-row.ensures c.index-places-row.is c.as_slice-indexes.ensures.value in
-    let count = count_is c.args.entries.now c.index-entries-index.result.device c.args.to c.count_before-count.result
-    c.as_slice-indexes.result.now has c.requires.to c.count_before-count.ensures.within
-    c.count_before-count.ensures.before c.count_before-count.ensures.after in
-    let none = earlier_no c.args.scenario.now c.args.entries.now (length c.args.entries.now) c.min-first.result
-    c.loop-index.index c.index-entries-index.result c.as_slice-indexes.result.now passed has
-    (step_within c.args.scenario.now c.args.entries.now c.min-first.result c.loop-index.index
-    c.index-entries-index.result c.as_slice-indexes.result.now passed has)
-    (λ other. false≢true (sym c.if-has_earlier.false ∙ c.has_earlier.ensures.1 other)) in
+    let none = earlier_no c.args.scenario.now c.args.entries.now c.min-first.result c.loop-index.index
+    c.index-entries-index.result passed
+    (λ fewer. false≢true (sym c.if-has_earlier.false ∙ c.has_earlier.ensures.1 fewer)) in
     let sum : c.loop-index.steps + c.in_ok-next.next.steps ≡ steps_by c.args.scenario.now c.args.entries.now c.args.from
     c.args.to c.min-first.result (c.loop-index.index + 1) =
     steps_next c.args.scenario.now c.args.entries.now c.args.from c.args.to c.min-first.result
@@ -241,7 +216,8 @@ overflow_add-steps c =
     c.count_before-count.result c.index-entries-index.result passed none c.loop-index.invariant.steps
     c.in_ok-next.ensures.steps
     (count_of c.args.scenario.now c.args.entries.now c.args.from c.min-first.result c.loop-index.index c.from-row.result
-    c.index-entries-index.result c.args.made.now passed c.requires.counted c.from-row.ensures) count in
+    c.index-entries-index.result c.args.made.now passed c.requires.counted c.from-row.ensures)
+    c.count_before-count.ensures in
     let few : steps_by c.args.scenario.now c.args.entries.now c.args.from c.args.to c.min-first.result
     (c.loop-index.index + 1) ≤ 4096 * length c.args.scenario.now.rows =
     steps_few c.args.scenario.now c.args.entries.now c.args.from c.args.to c.min-first.result (c.loop-index.index + 1)
@@ -257,28 +233,21 @@ loop-index-preserved c =
     let passed = passed_is c.args.scenario.now c.args.entries.now c.min-first.result c.max-last.result
     c.loop-index.index c.args.from c.args.to c.index-entries-index.result c.requires.run c.max-last.ensures
     c.requires.from c.requires.to c.loop-index.auto.index c.loop-index-test.true c.index-entries-index.is in
-    let has = places_of c.args.scenario.now c.args.entries.now c.min-first.result c.loop-index.index c.from-row.result
-    c.index-entries-index.result c.args.places.now c.index-places-row.result c.as_slice-indexes.result.now passed
-    c.requires.placed c.requires.listed c.from-row.ensures c.index-places-row.is c.as_slice-indexes.ensures.value in
-    let count = count_is c.args.entries.now c.index-entries-index.result.device c.args.to c.count_before-count.result
-    c.as_slice-indexes.result.now has c.requires.to c.count_before-count.ensures.within
-    c.count_before-count.ensures.before c.count_before-count.ensures.after in
-    let none = earlier_no c.args.scenario.now c.args.entries.now (length c.args.entries.now) c.min-first.result
-    c.loop-index.index c.index-entries-index.result c.as_slice-indexes.result.now passed has
-    (step_within c.args.scenario.now c.args.entries.now c.min-first.result c.loop-index.index
-    c.index-entries-index.result c.as_slice-indexes.result.now passed has)
-    (λ other. false≢true (sym c.if-has_earlier.false ∙ c.has_earlier.ensures.1 other)) in
+    let none = earlier_no c.args.scenario.now c.args.entries.now c.min-first.result c.loop-index.index
+    c.index-entries-index.result passed
+    (λ fewer. false≢true (sym c.if-has_earlier.false ∙ c.has_earlier.ensures.1 fewer)) in
     record {
       found = found_more c.args.scenario.now c.args.entries.now c.args.to c.min-first.result c.loop-index.index
           c.count_before-count.result _ c.index-entries-index.result c.loop-index.moved.items c.push.new.self.items
-          c.in_ok-next.next c.loop-index.invariant.found passed c.in_ok-next.ensures count c.in_ok-push.ensures.items;
+          c.in_ok-next.next c.loop-index.invariant.found passed c.in_ok-next.ensures
+          c.count_before-count.ensures c.in_ok-push.ensures.items;
       steps = steps_next c.args.scenario.now c.args.entries.now c.args.from c.args.to c.min-first.result
           c.loop-index.index c.loop-index.steps c.in_ok-next.next.steps (slice_index c.args.made.now c.from-row.result)
           c.count_before-count.result c.index-entries-index.result passed none c.loop-index.invariant.steps
           c.in_ok-next.ensures.steps
           (count_of c.args.scenario.now c.args.entries.now c.args.from c.min-first.result c.loop-index.index
           c.from-row.result c.index-entries-index.result c.args.made.now passed c.requires.counted
-          c.from-row.ensures) count;
+          c.from-row.ensures) c.count_before-count.ensures;
     }
 
 pub returns-clause-moved : goal.returns-clause-moved

@@ -1,6 +1,6 @@
 use Rattle.std.proofs.Common.{◌+◌, sym, ◌∙◌}
 use Rattle.debugger.proofs.Changing.{holds_changed, still_none, still_some}
-use Rattle.debugger.proofs.Counting.{entry_at}
+use Rattle.device_entries.proofs.Counting.{entry_at}
 use Rattle.debugger.proofs.Marking.{marks_are}
 use Rattle.debugger.proofs.search.holds_after.Goals as goal
 

@@ -2,7 +2,7 @@ use Rattle.std.proofs.Common.{◌≡◌, ◌+◌, ◌<◌, length, sym, subst, a
 use Rattle.std.proofs.lemmas.List.{length-set}
 use Rattle.fleet_core.specs.Board.{ShowsAfter}
 use Rattle.debugger.proofs.Changing.{steps_next}
-use Rattle.debugger.proofs.Counting.{entry_at}
+use Rattle.device_entries.proofs.Counting.{entry_at}
 use Rattle.debugger.proofs.Watching.{has_set, read_twice, step_all, step_first, step_other, step_own, step_shows}
 use Rattle.debugger.proofs.watches.step_watched.Goals as goal
 

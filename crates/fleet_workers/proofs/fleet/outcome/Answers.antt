@@ -1,5 +1,5 @@
 use Rattle.std.proofs.Common.{sym, subst}
-use Rattle.fleet_workers.specs.Knowing.{IsDone}
+use Rattle.worker_visits.specs.Knowing.{IsDone}
 use Rattle.fleet_workers.specs.Fleet.{HasEnded, IsOutcome}
 use Rattle.fleet_workers.proofs.Ending.{fleet_run}
 use Rattle.fleet_workers.proofs.fleet.outcome.Goals as goal

@@ -1,9 +1,9 @@
 use Rattle.std.proofs.Common.{inl, refl, subst, ◌∙◌}
 use Rattle.std.specs.Prelude.{Ok, Err}
-use Rattle.fleet_workers.specs.Knowing.{IsVisit, Gets}
-use Rattle.fleet_workers.proofs.Following.{follows_itself, follows_both, err_is, ok_not}
-use Rattle.fleet_workers.proofs.Outs.{turn_outs, no_more}
-use Rattle.fleet_workers.proofs.Blocks.{visit_puts, puts_both}
+use Rattle.worker_visits.specs.Knowing.{IsVisit, Gets}
+use Rattle.worker_visits.proofs.Following.{follows_itself, follows_both, err_is, ok_not}
+use Rattle.worker_visits.proofs.Outs.{turn_outs, no_more}
+use Rattle.worker_visits.proofs.Blocks.{visit_puts, puts_both}
 use Rattle.fleet_workers.proofs.loops.worker_loop.Goals as goal
 
 pub loop-init : goal.loop-init

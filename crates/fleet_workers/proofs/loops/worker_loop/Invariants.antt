@@ -1,7 +1,7 @@
 use Rattle.std.proofs.Common.{◌≡◌, ◌⊎◌, ℕ}
 use Rattle.ticket_lock.specs.Names.{lock_id, pass_view, IsPass}
-use Rattle.fleet_workers.specs.Blocks.{HasPut}
-use Rattle.fleet_workers.specs.Knowing.{Follows, HasClaimed, has_stopped, IsOut, Gets}
+use Rattle.worker_visits.specs.Blocks.{HasPut}
+use Rattle.worker_visits.specs.Knowing.{Follows, HasClaimed, has_stopped, IsOut, Gets}
 use Rattle.fleet_workers.proofs.loops.worker_loop.Given as goal
 
 -- the pass is the lock's, and follows the one that the worker began with, which has put blocks since and stopped

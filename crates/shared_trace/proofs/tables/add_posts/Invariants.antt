@@ -1,6 +1,6 @@
 use Rattle.std.proofs.Common.{◌≡◌, ℕ, ◌+◌, ◌==◌, List, length, take, slice_index}
 use Rattle.std.specs.Prelude.{count_by}
-use Rattle.shared_trace.specs.declared.station.Station.{Station}
+use Rattle.device_stations.specs.declared.station.Station.{Station}
 use Rattle.shared_trace.specs.Kept.{IsRosterOf}
 use Rattle.shared_trace.proofs.tables.add_posts.Given as goal
 

@@ -1,7 +1,7 @@
 use Rattle.std.proofs.Common.{◌≤◌, length, take, sym, ap, subst, ◌∙◌}
 use Rattle.fleet_core.specs.Run.{IsRun}
 use Rattle.debugger.specs.Copies.{AreCopied}
-use Rattle.debugger.specs.Places.{ArePlaced}
+use Rattle.device_entries.specs.Places.{ArePlaced}
 use Rattle.debugger.specs.Session.{AreCounted}
 use Rattle.debugger.proofs.Keeping.{inside_is, moved_is}
 use Rattle.debugger.proofs.Going.{to_within, same_at, same_moves, go_keeps, go_steps}

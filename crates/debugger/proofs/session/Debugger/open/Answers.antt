@@ -3,7 +3,7 @@ use Rattle.std.proofs.lemmas.Result.{err_from_is_err_and}
 use Rattle.fleet_core.specs.Run.{IsRun}
 use Rattle.fleet_core.specs.Verdict.{BreaksAt}
 use Rattle.debugger.specs.Copies.{AreCopied}
-use Rattle.debugger.specs.Places.{ArePlaced}
+use Rattle.device_entries.specs.Places.{ArePlaced}
 use Rattle.debugger.specs.Session.{AreCounted}
 use Rattle.debugger.proofs.Faults.{same_fault}
 use Rattle.debugger.proofs.Keeping.{kept_start}

@@ -1,9 +1,10 @@
 use Rattle.std.proofs.Common.{◌<◌, length, sym, ap, subst, arith, ◌∙◌}
 use Rattle.fleet_core.specs.Run.{IsRun}
-use Rattle.debugger.specs.Places.{HasPlaces}
+use Rattle.device_entries.specs.Places.{HasPlaces}
 use Rattle.debugger.specs.Shown.{latest}
 use Rattle.debugger.proofs.Keeping.{inside_is, outputs_here}
-use Rattle.debugger.proofs.Placing.{places_read, count_read, count_within}
+use Rattle.device_entries.proofs.Placing.{places_read, count_within}
+use Rattle.debugger.proofs.OwnOutputs.{count_read}
 use Rattle.debugger.proofs.session.Debugger.outputs.Goals as goal
 
 pub latest_outputs-requires-clause-run : goal.latest_outputs-requires-clause-run

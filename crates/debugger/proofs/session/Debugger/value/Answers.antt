@@ -10,7 +10,7 @@ returns-in-Some-clause-value c =
     c.rows-known.ensures.valid
     (got_at c.self.inside.devices.items c.deref.result.now c.from.result c.args.device c.in-Some.machine.now
     c.deref.ensures.value c.from.ensures c.in-Some.ensures.lookup.0 c.in-Some.ensures.lookup.1)
-    c.value.ensures.left
+    c.value.ensures.held
 
 pub returns-in-Some-clause-device : goal.returns-in-Some-clause-device
 returns-in-Some-clause-device c =

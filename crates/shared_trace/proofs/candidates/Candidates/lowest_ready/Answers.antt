@@ -1,7 +1,7 @@
 use Rattle.std.proofs.Common.{◌≡◌, true, Some, slice_get, slice_index, refl, sym, ap, subst, ◌∙◌, arith}
 use Rattle.std.proofs.lemmas.Bool.{false≢true}
-use Rattle.shared_trace.specs.declared.station.Station.{Station}
-use Rattle.shared_trace.specs.Kept.{is_ready}
+use Rattle.device_stations.specs.declared.station.Station.{Station}
+use Rattle.device_stations.specs.Stations.{is_ready}
 use Rattle.shared_trace.proofs.Woken.{one_fewer, kept_without}
 use Rattle.shared_trace.proofs.candidates.Candidates.lowest_ready.Goals as goal
 use Rattle.shared_trace.proofs.candidates.Candidates.lowest_ready.Goals.{in-Some-lowest_ready, in-None}

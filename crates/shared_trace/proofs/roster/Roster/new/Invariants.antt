@@ -1,6 +1,6 @@
 -- The devices so far are listed, if they wait.
 use Rattle.std.proofs.Common.{◌≡◌, ℕ, ◌<◌, length, Some, slice_get}
-use Rattle.shared_trace.specs.declared.station.Station.{Station}
+use Rattle.device_stations.specs.declared.station.Station.{Station}
 use Rattle.shared_trace.specs.Kept.{IsListedAt}
 use Rattle.shared_trace.proofs.roster.Roster.new.Given as goal
 

@@ -1,12 +1,13 @@
 use Rattle.std.proofs.Common.{ℕ, set, ◌+◌, ◌<◌, length, refl, sym, ap, subst, ◌∙◌, arith, slice_index}
 use Rattle.std.specs.Prelude.{◌==◌, count_by}
 use Rattle.std.specs.List.{AllByRecursion}
-use Rattle.shared_trace.specs.declared.station.Place.TheVariants.{Parked}
+use Rattle.device_stations.specs.declared.station.Place.TheVariants.{Parked}
 use Rattle.shared_trace.specs.Trace.{IsShared, with_block}
 use Rattle.shared_trace.proofs.Stations.{traced, shared_is}
 use Rattle.shared_trace.proofs.Putting.{IsFitting, fitting, put_within, put_room, put_place, put_trace, put_view}
 use Rattle.shared_trace.proofs.Putting.{put_adds, put_ended}
-use Rattle.shared_trace.specs.Kept.{AreEnded, IsTrace}
+use Rattle.shared_trace.specs.Kept.{IsTrace}
+use Rattle.device_stations.specs.Stations.{AreEnded}
 use Rattle.shared_trace.proofs.Rostering.{kept_roster, put_back}
 use Rattle.shared_trace.proofs.trace.Trace.put.Goals as goal
 

@@ -1,0 +1,4 @@
+pub mod Runs
+pub mod Counting
+pub mod Empties
+pub mod Placing

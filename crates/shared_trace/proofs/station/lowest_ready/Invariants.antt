@@ -1,9 +1,0 @@
-use Rattle.std.proofs.Common.{◌≡◌, ℕ, ◌<◌, false, Some, slice_get, slice_index}
-use Rattle.shared_trace.specs.declared.station.Station.{Station}
-use Rattle.shared_trace.specs.Kept.{is_ready}
-use Rattle.shared_trace.proofs.station.lowest_ready.Given as goal
-
-abbrev pub invariant-loop-device : goal.invariant-loop-device
-invariant-loop-device l =
-    (i : ℕ) (x : Station) → i < l.device → slice_get l.stations i ≡ Some x
-    → is_ready (λ g. slice_index l.posts g) x ≡ false
