@@ -15,3 +15,4 @@ pub mod Stated
 pub mod Tried
 pub mod FileJudged
 pub mod Changed
+pub mod Zeros

@@ -1,5 +1,5 @@
 -- What the rows of a scenario say at a spot, which is one thing.
-use Rattle.std.proofs.Common.{◌≡◌, ℕ, ◌-◌, ◌<◌, ◌≤◌, Bool, false, List, [], ◌∷◌, ◌++◌, length}
+use Rattle.std.proofs.Common.{◌≡◌, ℕ, ◌-◌, ◌<◌, ◌≤◌, ◌||◌, List, [], ◌∷◌, ◌++◌, length}
 use Rattle.std.proofs.Common.{None, Some, slice_get, sym, ap, subst, ◌∙◌, arith}
 use Rattle.std.specs.Prelude.{fold}
 use Rattle.std.proofs.lemmas.List.Sums.{fold_push}
@@ -8,8 +8,8 @@ use Rattle.lemmas.proofs.Lists.{item_at}
 use Rattle.device_template.specs.Template.{Template}
 use Rattle.device_machine.specs.declared.event.Event.{Event}
 use Rattle.device_machine.specs.declared.output.Output.{Output}
-use Rattle.device_machine.specs.State.{Machine, Device, Shows}
-use Rattle.device_machine.specs.Reactions.{outputs_of, flat_after}
+use Rattle.device_machine.specs.State.{DeviceState, Machine, Device, Shows}
+use Rattle.device_machine.specs.Reactions.{outputs_of, flat_after, is_refused, passes_end}
 use Rattle.scenario_image.specs.declared.step.Step.{Step}
 use Rattle.scenario_image.specs.Scenario.{Row, Scenario, IsValid}
 use Rattle.scenario_image.specs.Play.{state_at, device_showing, IsRowOf}
@@ -120,12 +120,12 @@ puts_same s spot (parts.Recorded bytes) a b first other = first ∙ sym other
 
 -- ---- a device that shows a flat state
 
-device_with : (spent : Bool) (flat : Machine) → Device
-device_with spent flat = record { spent = spent; flat = flat }
-
-pub shown_is : (x : Device) (f : Machine) → Shows x f → x ≡ device_showing f
-unfolding device_with
-shown_is x f shows = ap (λ b. device_with b x.flat) shows.ready ∙ ap (device_with false) shows.holds
+-- it refuses what each device refuses that shows this state
+pub same_refusal : (x : Device) (f : Machine) (event : Event) → Shows x f
+    → is_refused x event ≡ is_refused (device_showing f) event
+same_refusal x f event shows =
+    ap (λ b. b || passes_end x.flat.kept.clock event) shows.ready
+    ∙ ap (λ (k : DeviceState). passes_end k.clock event) shows.kept
 
 -- ---- steps that are not there
 

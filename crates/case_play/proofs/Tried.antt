@@ -15,17 +15,18 @@ use Rattle.case_play.specs.Trying.{IsOneFinding, IsTriedIn, IsTriedBy, IsTriedAt
 -- ---- one file
 
 pub right_of : (kind : FileKind) (file : List ℕ) (stated : FileStated) (below : List FileAnswer) (finding : Finding)
-    (b : Bool) → IsOneFinding kind file finding → IsTrue b ↔ StatesFinding stated below finding → b ≡ true
-    → IsRightOf kind file stated below
+    (b : Bool) → IsOneFinding kind file finding → IsTrue b ↔ StatesFinding kind file stated below finding
+    → b ≡ true → IsRightOf kind file stated below
 right_of kind file stated below finding b one states is = (finding, one.is, states.0 is)
 
 pub wrong_of : (kind : FileKind) (file : List ℕ) (stated : FileStated) (below : List FileAnswer) (finding : Finding)
-    (b : Bool) → IsOneFinding kind file finding → IsTrue b ↔ StatesFinding stated below finding → b ≡ false
-    → IsTriedIn kind file stated below (Some finding)
+    (b : Bool) → IsOneFinding kind file finding → IsTrue b ↔ StatesFinding kind file stated below finding
+    → b ≡ false → IsTriedIn kind file stated below (Some finding)
 wrong_of kind file stated below finding b one states is = (
   λ right.
-      let e : true ≡ false = sym (states.1 (subst (StatesFinding stated below) (one.only right.0 right.1) right.2)) ∙ is
-      in cc,
+      let e : true ≡ false =
+      sym (states.1 (subst (StatesFinding kind file stated below) (one.only right.0 right.1) right.2)) ∙ is in
+      cc,
   one.is,
 )
 

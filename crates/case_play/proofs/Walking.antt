@@ -20,7 +20,7 @@ use Rattle.case_play.specs.Spots.{Spot, spot_after, HasBegun, PutsOut}
 use Rattle.case_play.specs.Holds.{IsMet, IsAnswered}
 use Rattle.case_play.specs.Walks.{IsMachine, IsCopy, IsAt, IsSomewhere, Asks, Takes, IsMadeLast}
 use Rattle.case_play.specs.Walks.{Advances, Passes}
-use Rattle.case_play.proofs.Rows.{machine_asked, none_asked, asked_next, shown_is, no_step, asked_same}
+use Rattle.case_play.proofs.Rows.{machine_asked, none_asked, asked_next, no_step, asked_same, same_refusal}
 
 -- ---- steps of a row
 
@@ -69,14 +69,14 @@ pub takes_it : (x y : Device) (f : Machine) (event : Event) (out : List Output) 
     → Takes f event (Some out) y
 takes_it x y f event out shows taken puts after = (
   not_refused (is_refused (device_showing f) event)
-      (λ h. taken (ap (λ d. is_refused d event) (shown_is x f shows) ∙ h)),
+      (λ h. taken (same_refusal x f event shows ∙ h)),
   puts,
   after,
 )
 
 pub refuses_it : (x y : Device) (f : Machine) (event : Event) → Shows x f → is_refused x event ≡ true
     → Takes f event None y
-refuses_it x y f event shows refused = ap (λ d. is_refused d event) (sym (shown_is x f shows)) ∙ refused
+refuses_it x y f event shows refused = sym (same_refusal x f event shows) ∙ refused
 
 -- ---- what is asked
 

@@ -6,12 +6,14 @@ use Rattle.scenario_words.specs.Words.{ended_line}
 use Rattle.scenario_asm.specs.Canonical.{text_of_scenario}
 use Rattle.trace_file.specs.declared.entry.Entry.{Entry}
 use Rattle.case_text.specs.declared.file_answer.FileAnswer.{FileAnswer}
+use Rattle.case_text.specs.declared.file_case.FileKind.{FileKind}
 use Rattle.case_text.specs.declared.file_stated.FileStated.{FileStated}
 use Rattle.case_text.specs.declared.file_stated.FileStated.TheVariants as states
 use Rattle.case_play.specs.Ends.{IsImageOf, IsTraceOf}
 use Rattle.case_play.specs.declared.finding.Finding.{Finding}
 use Rattle.case_play.specs.declared.finding.Finding.TheVariants as found
 use Rattle.case_play.specs.EntryWords.{entries_in_words}
+use Rattle.case_play.specs.Written.{IsKept, AreKept}
 
 -- ---- the lines of a text
 
@@ -36,23 +38,24 @@ lines_below (answer ∷ others) = line_before answer.stated (lines_below others)
 abbrev pub count_steps : Scenario → ℕ
 count_steps s = sum_by (λ r. length r.steps) s.rows
 
--- of a scenario: it has that many classes, devices and steps; its image in the version that is written, or its
--- canonical text, is this
-abbrev pub StatesScenario : FileStated → List FileAnswer → Scenario → Type 0
-StatesScenario (states.Ok classes devices steps) below s =
+-- of a scenario that was found in a file: it has that many classes, devices and steps; what is written of it is just
+-- this file; its image in the version that is written, or its canonical text, is this
+abbrev pub StatesScenario : FileKind → List ℕ → FileStated → List FileAnswer → Scenario → Type 0
+StatesScenario kind file (states.Ok classes devices steps) below s =
     (length s.classes ≡ classes) × (length s.rows ≡ devices) × (count_steps s ≡ steps)
-StatesScenario states.FaultOrOk below s = Unit {0}
-StatesScenario (states.Image digits) below s = IsImageOf s digits
-StatesScenario states.Text below s = text_of_scenario s ≡ lines_below below
-StatesScenario stated below s = ⊥
+StatesScenario kind file states.FaultOrOk below s = IsKept kind file s
+StatesScenario kind file (states.Image digits) below s = IsImageOf s digits
+StatesScenario kind file states.Text below s = text_of_scenario s ≡ lines_below below
+StatesScenario kind file stated below s = ⊥
 
--- of entries: there are that many; their trace file, or the entries in words, are this
-abbrev pub StatesEntries : FileStated → List FileAnswer → List Entry → Type 0
-StatesEntries (states.OkEntries count) below es = length es ≡ count
-StatesEntries states.FaultOrOk below es = Unit {0}
-StatesEntries (states.Trace digits) below es = IsTraceOf es digits
-StatesEntries states.Entries below es = entries_in_words es ≡ lines_below below
-StatesEntries stated below es = ⊥
+-- of entries that were found in a file: there are that many; what is written of them is just this file; their trace
+-- file, or the entries in words, are this
+abbrev pub StatesEntries : List ℕ → FileStated → List FileAnswer → List Entry → Type 0
+StatesEntries file (states.OkEntries count) below es = length es ≡ count
+StatesEntries file states.FaultOrOk below es = AreKept file es
+StatesEntries file (states.Trace digits) below es = IsTraceOf es digits
+StatesEntries file states.Entries below es = entries_in_words es ≡ lines_below below
+StatesEntries file stated below es = ⊥
 
 -- of a fault: its words are these
 abbrev pub StatesFault : FileStated → List ℕ → Type 0
@@ -60,8 +63,8 @@ StatesFault (states.Fault words) found = found ≡ words
 StatesFault states.FaultOrOk found = Unit {0}
 StatesFault stated found = ⊥
 
--- an answer, above these others, states what is found
-abbrev pub StatesFinding : FileStated → List FileAnswer → Finding → Type 0
-StatesFinding stated below (found.Scenario s) = StatesScenario stated below s
-StatesFinding stated below (found.Entries es) = StatesEntries stated below es
-StatesFinding stated below (found.Fault words) = StatesFault stated words
+-- an answer, above these others, states what is found in a file
+abbrev pub StatesFinding : FileKind → List ℕ → FileStated → List FileAnswer → Finding → Type 0
+StatesFinding kind file stated below (found.Scenario s) = StatesScenario kind file stated below s
+StatesFinding kind file stated below (found.Entries es) = StatesEntries file stated below es
+StatesFinding kind file stated below (found.Fault words) = StatesFault stated words

@@ -7,6 +7,7 @@ pub mod Faults
 pub mod Ends
 pub mod Came
 pub mod Walks
+pub mod Written
 pub mod Refusals
 pub mod Cases
 pub mod FaultWords

@@ -16,7 +16,7 @@ use Rattle.case_play.specs.Findings.{IsFinding}
 -- an answer, above these others, is right of a file: it states what is found there
 abbrev pub IsRightOf : FileKind → List ℕ → FileStated → List FileAnswer → Type 0
 IsRightOf kind file stated below =
-    (finding : Finding) × IsFinding kind file finding × StatesFinding stated below finding
+    (finding : Finding) × IsFinding kind file finding × StatesFinding kind file stated below finding
 
 -- it is right of each file of a trial
 abbrev pub IsRightOfEach : FileCase → Made → FileStated → List FileAnswer → Type 0

@@ -9,7 +9,8 @@ ghost use Rattle.case_play.specs.EntryWords.{entries_in_words};
 use crate::ends::{is_image, is_trace};
 use crate::entries::entries_in_words;
 use crate::finding::Finding;
-use case_text::{FileAnswer, FileStated};
+use crate::written::{are_kept, is_kept};
+use case_text::{FileAnswer, FileKind, FileStated};
 use scenario_asm::disassemble;
 use scenario_image::Scenario;
 use std::alloc::{AllocError, Global};
@@ -92,11 +93,13 @@ fn are_entries(alloc: Global, below: &[FileAnswer], entries: &[Entry]) -> Result
 
 fn states_scenario(
     alloc: Global,
+    kind: FileKind,
+    file: &[u8],
     stated: &FileStated,
     below: &[FileAnswer],
     scenario: &Scenario,
 ) -> Result<bool, AllocError>
-    ensures { IfOk result (λ b. IsTrue b ↔ StatesScenario stated.now below.now scenario.now) }
+    ensures { IfOk result (λ b. IsTrue b ↔ StatesScenario kind file.now stated.now below.now scenario.now) }
 {
     match stated {
         FileStated::Ok {
@@ -104,7 +107,7 @@ fn states_scenario(
             devices,
             steps,
         } => Ok(has_counts(scenario, *classes, *devices, *steps)),
-        FileStated::FaultOrOk => Ok(true),
+        FileStated::FaultOrOk => is_kept(alloc, kind, file, scenario),
         FileStated::Image(digits) => is_image(alloc, scenario, digits.as_slice()),
         FileStated::Text => is_text(alloc, below, scenario),
         FileStated::OkEntries(_)
@@ -117,15 +120,16 @@ fn states_scenario(
 
 fn states_entries(
     alloc: Global,
+    file: &[u8],
     stated: &FileStated,
     below: &[FileAnswer],
     entries: &[Entry],
 ) -> Result<bool, AllocError>
-    ensures { IfOk result (λ b. IsTrue b ↔ StatesEntries stated.now below.now entries.now) }
+    ensures { IfOk result (λ b. IsTrue b ↔ StatesEntries file.now stated.now below.now entries.now) }
 {
     match stated {
         FileStated::OkEntries(count) => Ok(entries.len() as u64 == *count),
-        FileStated::FaultOrOk => Ok(true),
+        FileStated::FaultOrOk => are_kept(alloc, file, entries),
         FileStated::Trace(digits) => is_trace(alloc, entries, digits.as_slice()),
         FileStated::Entries => are_entries(alloc, below, entries),
         FileStated::Ok { .. }
@@ -152,18 +156,24 @@ fn states_fault(stated: &FileStated, found: &str) -> bool
     }
 }
 
-/// Whether an answer, above these others, states what is found.
+/// Whether an answer, above these others, states what is found in a file.
 pub(crate) fn states_finding(
     alloc: Global,
+    kind: FileKind,
+    file: &[u8],
     stated: &FileStated,
     below: &[FileAnswer],
     finding: &Finding,
 ) -> Result<bool, AllocError>
-    ensures { IfOk result (λ b. IsTrue b ↔ StatesFinding stated.now below.now finding.now) }
+    ensures { IfOk result (λ b. IsTrue b ↔ StatesFinding kind file.now stated.now below.now finding.now) }
 {
     match finding {
-        Finding::Scenario(scenario) => states_scenario(alloc, stated, below, scenario),
-        Finding::Entries(entries) => states_entries(alloc, stated, below, entries.as_slice()),
+        Finding::Scenario(scenario) => {
+            states_scenario(alloc, kind, file, stated, below, scenario)
+        }
+        Finding::Entries(entries) => {
+            states_entries(alloc, file, stated, below, entries.as_slice())
+        }
         Finding::Fault(words) => Ok(states_fault(stated, words.as_str())),
     }
 }

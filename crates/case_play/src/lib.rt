@@ -31,6 +31,7 @@ mod text_faults;
 mod trying;
 mod verdict;
 mod walk;
+mod written;
 
 pub use answer_place::AnswerPlace;
 pub use below::first_wrong_end;

@@ -22,7 +22,7 @@ fn wrong_in(
     ensures { IfOk result (λ r. IsTriedIn kind file.now stated.now below.now r) }
 {
     let finding = find(alloc, kind, file)?;
-    if states_finding(alloc, stated, below, &finding)? {
+    if states_finding(alloc, kind, file, stated, below, &finding)? {
         return Ok(None);
     }
     Ok(Some(finding))

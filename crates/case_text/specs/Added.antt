@@ -67,3 +67,8 @@ whole_lines [] = []
 whole_lines (x ∷ xs) =
     if is_added x.line then whole_lines xs
     else (record { number = x.number; line = whole_line x.line (more_at xs) (digits_at xs) } ∷ whole_lines xs)
+
+-- a line, and the lines that add to no other one after it, each with what is added to it
+abbrev pub lines_from : Numbered → List Numbered → List Numbered
+lines_from x xs =
+    record { number = x.number; line = whole_line x.line (more_at xs) (digits_at xs) } ∷ whole_lines xs

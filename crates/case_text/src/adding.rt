@@ -1,8 +1,10 @@
 //! What lines add to the line above them.
 
-ghost use Rattle.std.specs.Prelude.{◌≡◌, ◌++◌, ◌∷◌, IfOk, OnOk};
-ghost use Rattle.case_text.specs.Added.{bytes_in, digits_in, is_added, whole_in_file, whole_line, whole_lines};
+ghost use Rattle.std.specs.Prelude.{◌≡◌, List, ◌++◌, ◌∷◌, IfOk, OnOk};
+ghost use Rattle.case_text.specs.Added.{bytes_in, digits_in, is_added, lines_from, whole_in_file, whole_line};
+ghost use Rattle.case_text.specs.Added.{whole_lines};
 ghost use Rattle.case_text.specs.declared.line.Line.TheVariants.{Remark};
+ghost use Rattle.case_text.specs.declared.numbered.Numbered.{Numbered as NumberedData};
 
 use crate::digit::Digit;
 use crate::file_stated::FileStated;
@@ -93,6 +95,32 @@ fn put_more(alloc: Global, line: &mut Line, more: &[u8], digits: &[Digit]) -> Re
     }
 }
 
+/// Adds the next line to the last one, or puts the last one after all others. Returns the line that is the last one
+/// then.
+#[tactic(auto, using(crate::proofs::Added::added))]
+#[inline(always)]
+fn put_next(
+    alloc: Global,
+    all: &mut Vec<Numbered>,
+    mut last: Numbered,
+    next: Numbered,
+) -> Result<Numbered, AllocError>
+    ensures { IfOk result (λ now. (rest : List NumberedData) → all.new.items ++ lines_from now rest
+        ≡ all.old.items ++ lines_from last (next ∷ rest)) }
+{
+    if is_added(&next.line) {
+        put_more(
+            alloc,
+            &mut last.line,
+            bytes_in(&next.line),
+            digits_in(&next.line),
+        )?;
+        return Ok(last);
+    }
+    all.push(last)?;
+    Ok(next)
+}
+
 /// A remark, and then the lines that add to no other one, each with what is added to it.
 #[tactic(auto, using(crate::proofs::Added::added))]
 pub(crate) fn whole_lines(alloc: Global, lines: Vec<Numbered>) -> Result<Vec<Numbered>, AllocError>
@@ -104,17 +132,7 @@ pub(crate) fn whole_lines(alloc: Global, lines: Vec<Numbered>) -> Result<Vec<Num
         line: Line::Remark,
     };
     for next in lines {
-        if is_added(&next.line) {
-            put_more(
-                alloc,
-                &mut last.line,
-                bytes_in(&next.line),
-                digits_in(&next.line),
-            )?;
-        } else {
-            all.push(last)?;
-            last = next;
-        }
+        last = put_next(alloc, &mut all, last, next)?;
     }
     all.push(last)?;
     Ok(all)
