@@ -404,7 +404,7 @@ unread a b same = subst (λ x. WhereKnown (IsWithin most_bytes) a x) (sym same) 
 
 within_job : (holds : List ℕ → List ℕ → Type 0) (faults : StreamFaults) (job : Job) (before after : Streams)
     → IsDebuggedJob holds faults job before after → WhereKnown (IsWithin most_bytes) before.input after.input
-within_job holds faults (jobs.Debug image trace) before after h = h.conversation.within
+within_job holds faults (jobs.Debug image trace reasons) before after h = h.conversation.within
 within_job holds faults (jobs.One hex form) before after h = absurd h
 within_job holds faults (jobs.Say hex server) before after h = absurd h
 within_job holds faults (jobs.Spell statement) before after h = absurd h
@@ -424,7 +424,7 @@ within_job holds faults (jobs.Lint file only except json) before after h = absur
 within_cut : (holds : List ℕ → List ℕ → Type 0) (faults : StreamFaults) (job : Job) (before after : Streams)
     (fault : Fault) → IsCutJob holds faults job before after fault
     → WhereKnown (IsWithin most_bytes) before.input after.input
-within_cut holds faults (jobs.Debug image trace) before after fault h = h.cut.within
+within_cut holds faults (jobs.Debug image trace reasons) before after fault h = h.cut.within
 within_cut holds faults (jobs.One hex form) before after fault h = absurd h
 within_cut holds faults (jobs.Say hex server) before after fault h = absurd h
 within_cut holds faults (jobs.Spell statement) before after fault h = absurd h

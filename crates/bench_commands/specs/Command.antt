@@ -109,7 +109,7 @@ IsDone holds (jobs.Show image trace device from to form) answer =
     (record { device = device; from = from; to = to }) answer
 IsDone holds (jobs.Pcap image trace output) answer =
     IsPcapDone holds (record { image = image.now; trace = trace.now }) output.now answer
-IsDone holds (jobs.Debug image trace) answer =
+IsDone holds (jobs.Debug image trace reasons) answer =
     IsDebugRefused holds (record { image = image.now; trace = trace.now }) answer
 IsDone holds (jobs.Titles files only) answer =
     IsTitlesDone holds (map (λ p. p.now) files.items) (option_map (λ w. w.now) only) answer
@@ -143,7 +143,7 @@ IsRefusedJob holds fails (jobs.Show image trace device from to form) fault =
     (record { device = device; from = from; to = to }) fault
 IsRefusedJob holds fails (jobs.Pcap image trace output) fault =
     IsPcapRefused holds fails (record { image = image.now; trace = trace.now }) fault
-IsRefusedJob holds fails (jobs.Debug image trace) fault =
+IsRefusedJob holds fails (jobs.Debug image trace reasons) fault =
     IsCheckRefused holds fails (record { image = image.now; trace = trace.now }) fault
 IsRefusedJob holds fails (jobs.Titles files only) fault =
     IsTestFault holds fails (map (λ p. p.now) files.items) (option_map (λ w. w.now) only) fault
@@ -178,14 +178,16 @@ IsRefused holds fails (asked.Text help is_mistake) fault = ⊥
 
 -- a job is answered by a conversation, which came to its end
 abbrev pub IsDebuggedJob : (List ℕ → List ℕ → Type 0) → StreamFaults → Job → Streams → Streams → Type 0
-IsDebuggedJob holds faults (jobs.Debug image trace) before after =
-    IsDebuggedAt holds faults (record { image = image.now; trace = trace.now }) before after
+IsDebuggedJob holds faults (jobs.Debug image trace reasons) before after =
+    IsDebuggedAt holds (record { faults = faults; reasons = reasons })
+    (record { image = image.now; trace = trace.now }) before after
 IsDebuggedJob holds faults _ before after = ⊥
 
 -- a job is answered by a conversation, which this fault cut short
 abbrev pub IsCutJob : (List ℕ → List ℕ → Type 0) → StreamFaults → Job → Streams → Streams → Fault → Type 0
-IsCutJob holds faults (jobs.Debug image trace) before after fault =
-    IsDebugCutAt holds faults (record { image = image.now; trace = trace.now }) before after fault
+IsCutJob holds faults (jobs.Debug image trace reasons) before after fault =
+    IsDebugCutAt holds (record { faults = faults; reasons = reasons })
+    (record { image = image.now; trace = trace.now }) before after fault
 IsCutJob holds faults _ before after fault = ⊥
 
 abbrev pub IsDebugged : (List ℕ → List ℕ → Type 0) → StreamFaults → Asked → Streams → Streams → Type 0

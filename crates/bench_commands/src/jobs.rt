@@ -173,7 +173,11 @@ pub(crate) fn answer_to<'a, R: Threads + Wait + Sync, F: Files, I: Input, O: Out
             let answer = pcap(alloc, image, trace, path, files)?;
             Ok(Some(answer))
         }
-        Job::Debug { image, trace } => debug(alloc, image, trace, files, input, output, errors),
+        Job::Debug {
+            image,
+            trace,
+            reasons,
+        } => debug(alloc, image, trace, reasons, files, input, output, errors),
         Job::Titles { files: paths, only } => {
             let answer = titles(alloc, paths.as_slice(), only, files)?;
             Ok(Some(answer))

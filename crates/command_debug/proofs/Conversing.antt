@@ -1,5 +1,5 @@
 -- A conversation, put together from its turns.
-use Rattle.std.proofs.Common.{ℕ, ◌≡◌, ◌+◌, ◌⊎◌, List, [], ◌∷◌, ◌++◌, length, Option, None, Some}
+use Rattle.std.proofs.Common.{ℕ, ◌≡◌, ◌+◌, ◌⊎◌, Bool, List, [], ◌∷◌, ◌++◌, length, Option, None, Some}
 use Rattle.std.proofs.Common.{refl, sym, ap, subst, arith, ◌∙◌, inl, inr, append_assoc, append-nil}
 use Rattle.std.specs.Io.KnownBytes.{Appends}
 use Rattle.std.proofs.KnownBytes.{Appends-nil, Appends-trans}
@@ -11,6 +11,7 @@ use Rattle.debug_answers.specs.Replies.{IsReply}
 use Rattle.command_debug.proofs.Turns.{parts}
 use Rattle.command_debug.specs.Conversation.{AreAnswered, AreNextLines, AreNoted, IsBeyond, IsConversation, IsCut}
 use Rattle.command_debug.specs.Conversation.{IsCutShort, IsExchange, IsLastTurn, IsNextLine, IsNoted, IsTurn}
+use Rattle.command_debug.specs.Conversation.{Terms}
 use Rattle.command_files.specs.Fault.{IsReadingFault}
 use Rattle.command_files.specs.Files.{most_bytes}
 use Rattle.command_files.specs.Input.{IsLonger, IsWithin, WhereKnown}
@@ -31,26 +32,27 @@ more_lines [] said bytes between rest same next =
 more_lines (first ∷ lines) said bytes between rest (middle, now, then) next =
     (middle, now, more_lines lines said middle between rest then next)
 
-more_answers : (old : Session) (lines : List (List ℕ)) (between new : Session) (text said more : List ℕ)
-    → AreAnswered old lines between text → (IsLineOf Quit said → ⊥) → IsReply between said new more
-    → AreAnswered old (lines ++ said ∷ []) new (text ++ more)
-more_answers old [] between new text said more (same, none) other reply = (
+more_answers : (reasons : Bool) (old : Session) (lines : List (List ℕ)) (between new : Session)
+    (text said more : List ℕ)
+    → AreAnswered reasons old lines between text → (IsLineOf Quit said → ⊥) → IsReply reasons between said new more
+    → AreAnswered reasons old (lines ++ said ∷ []) new (text ++ more)
+more_answers reasons old [] between new text said more (same, none) other reply = (
   new,
   more,
   [],
   other,
-  subst (λ s. IsReply s said new more) same reply,
+  subst (λ s. IsReply reasons s said new more) same reply,
   (refl, refl),
   ap (λ t. t ++ more) none ∙ sym (append-nil more),
 )
-more_answers old (first ∷ lines) between new text said more
+more_answers reasons old (first ∷ lines) between new text said more
     (middle, now, then, plain, answer, rest, split) other reply = (
       middle,
       now,
       then ++ more,
       plain,
       answer,
-      more_answers middle lines between new then said more rest other reply,
+      more_answers reasons middle lines between new then said more rest other reply,
       ap (λ t. t ++ more) split ∙ append_assoc now then more,
     )
 
@@ -61,12 +63,13 @@ noted_after faults a b c (Some note) same (inl printed) =
     inl (subst (λ errors. Appends errors c.errors note) same printed)
 noted_after faults a b c (Some note) same (inr refused) = inr refused
 
-more_notes : (faults : StreamFaults) (a b c : Streams) (lines : List (List ℕ)) (said : List ℕ)
-    (note : Option (List ℕ)) → AreNoted faults a b lines → IsNote said note → IsNoted faults b c note
-    → AreNoted faults a c (lines ++ said ∷ [])
-more_notes faults a b c [] said note same is noted = (note, c, is, noted_after faults a b c note same noted, refl)
-more_notes faults a b c (first ∷ lines) said note (now, middle, is_now, got, then) is noted =
-    (now, middle, is_now, got, more_notes faults middle b c lines said note then is noted)
+more_notes : (terms : Terms) (a b c : Streams) (lines : List (List ℕ)) (said : List ℕ)
+    (note : Option (List ℕ)) → AreNoted terms a b lines → IsNote terms.reasons said note
+    → IsNoted terms.faults b c note → AreNoted terms a c (lines ++ said ∷ [])
+more_notes terms a b c [] said note same is noted =
+    (note, c, is, noted_after terms.faults a b c note same noted, refl)
+more_notes terms a b c (first ∷ lines) said note (now, middle, is_now, got, then) is noted =
+    (now, middle, is_now, got, more_notes terms middle b c lines said note then is noted)
 
 more_read : (a b c : Option (List ℕ)) (lines : List (List ℕ)) (said : List ℕ) → WhereKnown (AreNextLines lines) a b
     → WhereKnown (IsNextLine said) b c → WhereKnown (AreNextLines (lines ++ said ∷ [])) a c
@@ -84,8 +87,8 @@ more_spent (Some x) (Some y) (Some z) most left more before next = omega (arith,
 
 -- ---- from the first turn to the last
 
-pub begun : (faults : StreamFaults) (a : Streams) (session : Session) → IsExchange faults a a session session
-begun faults a session =
+pub begun : (terms : Terms) (a : Streams) (session : Session) → IsExchange terms a a session session
+begun terms a session =
     record {
       lines = [];
       read = same a.input;
@@ -103,24 +106,24 @@ pub none_spent : (input : Option (List ℕ)) (most : ℕ) → IsSpent input inpu
 none_spent None most = tt
 none_spent (Some x) most = refl
 
-pub go_on : (faults : StreamFaults) (a b c : Streams) (old between new : Session) (left more : ℕ)
-    → IsExchange faults a b old between → IsTurn faults b c between new left more → IsExchange faults a c old new
-go_on faults a b c old between new left more so_far turn =
+pub go_on : (terms : Terms) (a b c : Streams) (old between new : Session) (left more : ℕ)
+    → IsExchange terms a b old between → IsTurn terms b c between new left more → IsExchange terms a c old new
+go_on terms a b c old between new left more so_far turn =
     record {
       lines = so_far.lines ++ turn.said ∷ [];
       read = more_read a.input b.input c.input so_far.lines turn.said so_far.read turn.read;
       text = so_far.text ++ turn.text;
       answered =
-          more_answers old so_far.lines between new so_far.text turn.said turn.text so_far.answered turn.other
-          turn.reply;
+          more_answers terms.reasons old so_far.lines between new so_far.text turn.said turn.text so_far.answered
+          turn.other turn.reply;
       printed = Appends-trans a.output b.output c.output so_far.text turn.text so_far.printed turn.printed;
       noted =
-          more_notes faults a b c so_far.lines turn.said turn.note so_far.noted turn.is_note turn.noted;
+          more_notes terms a b c so_far.lines turn.said turn.note so_far.noted turn.is_note turn.noted;
     }
 
-pub spend : (faults : StreamFaults) (a : Option (List ℕ)) (b c : Streams) (old new : Session) (most left more : ℕ)
-    → IsSpent a b.input most left → IsTurn faults b c old new left more → IsSpent a c.input most more
-spend faults a b c old new most left more so_far turn =
+pub spend : (terms : Terms) (a : Option (List ℕ)) (b c : Streams) (old new : Session) (most left more : ℕ)
+    → IsSpent a b.input most left → IsTurn terms b c old new left more → IsSpent a c.input most more
+spend terms a b c old new most left more so_far turn =
     more_spent a b.input c.input most left more so_far turn.spent
 
 -- what was taken in all is within what might be taken
@@ -131,10 +134,10 @@ within_all (Some x) None c left spent within = absurd spent
 within_all (Some x) (Some y) None left spent within = absurd within
 within_all (Some x) (Some y) (Some z) left spent within = omega (arith, spent, within)
 
-pub conversed : (faults : StreamFaults) (a b c : Streams) (old new : Session) (left : ℕ)
-    → IsExchange faults a b old new → IsSpent a.input b.input most_bytes left → IsLastTurn b c left
-    → IsConversation faults a c old
-conversed faults a b c old new left so_far spent last =
+pub conversed : (terms : Terms) (a b c : Streams) (old new : Session) (left : ℕ)
+    → IsExchange terms a b old new → IsSpent a.input b.input most_bytes left → IsLastTurn b c left
+    → IsConversation terms a c old
+conversed terms a b c old new left so_far spent last =
     record {
       between = b;
       new = new;
@@ -181,11 +184,11 @@ reading P Q faults.NoDatagram f h = absurd h
 reading P Q faults.OtherClasses f h = absurd h
 reading P Q faults.Slices f h = absurd h
 
-pub cut_short : (faults : StreamFaults) (a b c : Streams) (old new : Session) (left : ℕ) (fault : Fault)
-    → IsExchange faults a b old new → IsSpent a.input b.input most_bytes left
-    → IsCut (faults.input_fails ⊎ IsLonger left b.input) faults b c new fault
-    → WhereKnown (IsWithin left) b.input c.input → IsCutShort faults a c old fault
-cut_short faults a b c old new left fault so_far spent cut within =
+pub cut_short : (terms : Terms) (a b c : Streams) (old new : Session) (left : ℕ) (fault : Fault)
+    → IsExchange terms a b old new → IsSpent a.input b.input most_bytes left
+    → IsCut (terms.faults.input_fails ⊎ IsLonger left b.input) terms b c new fault
+    → WhereKnown (IsWithin left) b.input c.input → IsCutShort terms a c old fault
+cut_short terms a b c old new left fault so_far spent cut within =
     record {
       between = b;
       new = new;
@@ -194,14 +197,14 @@ cut_short faults a b c old new left fault so_far spent cut within =
       within = within_all a.input b.input c.input left spent within;
     }
   where
-    so : IsCut (faults.input_fails ⊎ IsLonger left b.input) faults b c new fault
-        → IsCut (faults.input_fails ⊎ WhereKnown IsBeyond a.input b.input) faults b c new fault
+    so : IsCut (terms.faults.input_fails ⊎ IsLonger left b.input) terms b c new fault
+        → IsCut (terms.faults.input_fails ⊎ WhereKnown IsBeyond a.input b.input) terms b c new fault
     so (inl unheard) =
         inl (record {
           why =
-              reading (faults.input_fails ⊎ IsLonger left b.input)
-              (faults.input_fails ⊎ WhereKnown IsBeyond a.input b.input) fault
-              (unread faults.input_fails a.input b.input left spent) unheard.why;
+              reading (terms.faults.input_fails ⊎ IsLonger left b.input)
+              (terms.faults.input_fails ⊎ WhereKnown IsBeyond a.input b.input) fault
+              (unread terms.faults.input_fails a.input b.input left spent) unheard.why;
           taken = unheard.taken;
           silent = unheard.silent;
         })

@@ -7,12 +7,12 @@ use Rattle.debugger.specs.Session.{new_session}
 use Rattle.command_files.proofs.Built.{check_image, check_trace}
 use Rattle.command_files.proofs.Faults.{file_memory}
 use Rattle.scenario_image.specs.Image.{HasImageFault}
-use Rattle.command_debug.specs.Conversation.{IsConversation, IsCutShort}
+use Rattle.command_debug.specs.Conversation.{IsConversation, IsCutShort, Terms}
 use Rattle.command_debug.specs.Debugging.{IsDebugCutAt, IsDebuggedAt, IsOpenedAt, IsDebugRefused}
 use Rattle.command_files.specs.Answers.{files_of}
 use Rattle.command_files.specs.Loading.{IsCheckRefused, IsImageFault, IsScenarioAt, IsTraceAt, IsTraceFault, RunPaths}
 use Rattle.command_files.specs.Verdicts.{IsJudged}
-use Rattle.command_files.specs.World.{IsIdle, StreamFaults, Streams}
+use Rattle.command_files.specs.World.{IsIdle, Streams}
 use Rattle.command_files.specs.declared.fault.Fault.{Fault}
 use Rattle.command_files.specs.declared.fault.Fault.TheVariants.{Memory}
 use Rattle.command_files.specs.declared.answer.Answer.{Answer}
@@ -33,10 +33,10 @@ debug_refused holds paths s es answer found read judged no_run none =
       no_run = no_run;
     }
 
-pub debugged_at : (holds : List ℕ → List ℕ → Type 0) (faults : StreamFaults) (paths : RunPaths) (s : Scenario)
+pub debugged_at : (holds : List ℕ → List ℕ → Type 0) (terms : Terms) (paths : RunPaths) (s : Scenario)
     (es : List Entry) (before after : Streams) → IsScenarioAt holds paths.image s → IsTraceAt holds paths.trace es
-    → IsRun s es → IsConversation faults before after (new_session s es) → IsDebuggedAt holds faults paths before after
-debugged_at holds faults paths s es before after found read run conversation =
+    → IsRun s es → IsConversation terms before after (new_session s es) → IsDebuggedAt holds terms paths before after
+debugged_at holds terms paths s es before after found read run conversation =
     record {
       session = new_session s es;
       opened = opened_at holds paths s es found read run;
@@ -44,33 +44,33 @@ debugged_at holds faults paths s es before after found read run conversation =
     }
 
 -- what is refused before the conversation, or cuts it short
-abbrev pub IsDebugFault : (List ℕ → List ℕ → Type 0) → (List ℕ → Type 0) → StreamFaults → RunPaths → Streams → Streams
+abbrev pub IsDebugFault : (List ℕ → List ℕ → Type 0) → (List ℕ → Type 0) → Terms → RunPaths → Streams → Streams
     → Fault → Type 0
-IsDebugFault holds fails faults paths before after fault =
-    (IsCheckRefused holds fails paths fault × IsIdle before after) ⊎ IsDebugCutAt holds faults paths before after fault
+IsDebugFault holds fails terms paths before after fault =
+    (IsCheckRefused holds fails paths fault × IsIdle before after) ⊎ IsDebugCutAt holds terms paths before after fault
 
-pub image_refused : (holds : List ℕ → List ℕ → Type 0) (fails : List ℕ → Type 0) (faults : StreamFaults)
+pub image_refused : (holds : List ℕ → List ℕ → Type 0) (fails : List ℕ → Type 0) (terms : Terms)
     (paths : RunPaths) (before after : Streams) (fault : Fault) → IsImageFault holds fails paths.image fault
-    → IsIdle before after → IsDebugFault holds fails faults paths before after fault
-image_refused holds fails faults paths before after fault h idle =
+    → IsIdle before after → IsDebugFault holds fails terms paths before after fault
+image_refused holds fails terms paths before after fault h idle =
     inl (check_image holds fails paths fault h, idle)
 
-pub trace_refused : (holds : List ℕ → List ℕ → Type 0) (fails : List ℕ → Type 0) (faults : StreamFaults)
+pub trace_refused : (holds : List ℕ → List ℕ → Type 0) (fails : List ℕ → Type 0) (terms : Terms)
     (paths : RunPaths) (before after : Streams) (s : Scenario) (fault : Fault) → IsScenarioAt holds paths.image s
     → IsTraceFault holds fails paths.trace fault → IsIdle before after
-    → IsDebugFault holds fails faults paths before after fault
-trace_refused holds fails faults paths before after s fault found h idle =
+    → IsDebugFault holds fails terms paths before after fault
+trace_refused holds fails terms paths before after s fault found h idle =
     inl (check_trace holds fails paths fault s found h, idle)
 
-pub run_refused : (holds : List ℕ → List ℕ → Type 0) (fails : List ℕ → Type 0) (faults : StreamFaults)
+pub run_refused : (holds : List ℕ → List ℕ → Type 0) (fails : List ℕ → Type 0) (terms : Terms)
     (paths : RunPaths) (before after : Streams) (s : Scenario) (es : List Entry) (fault : Fault)
     → IsScenarioAt holds paths.image s → IsTraceAt holds paths.trace es
     → ((fault ≡ Memory) × IsIdle before after)
-    ⊎ (IsRun s es × IsCutShort faults before after (new_session s es) fault)
-    → IsDebugFault holds fails faults paths before after fault
-run_refused holds fails faults paths before after s es fault found read (inl (memory, idle)) =
+    ⊎ (IsRun s es × IsCutShort terms before after (new_session s es) fault)
+    → IsDebugFault holds fails terms paths before after fault
+run_refused holds fails terms paths before after s es fault found read (inl (memory, idle)) =
     inl (check_image holds fails paths fault (file_memory holds fails HasImageFault paths.image fault memory), idle)
-run_refused holds fails faults paths before after s es fault found read (inr (run, cut)) =
+run_refused holds fails terms paths before after s es fault found read (inr (run, cut)) =
     inr (record {
       session = new_session s es;
       opened = opened_at holds paths s es found read run;

@@ -10,7 +10,7 @@ use Rattle.debug_answers.specs.Saying.{IsLineOf}
 use Rattle.debugger.specs.Session.{Session}
 use Rattle.debug_answers.specs.Notes.{IsNote}
 use Rattle.debug_answers.specs.Replies.{IsReply}
-use Rattle.command_debug.specs.Conversation.{IsCut, IsEnd, IsLastTurn, IsNextLine, IsNoted, IsTurn}
+use Rattle.command_debug.specs.Conversation.{IsCut, IsEnd, IsLastTurn, IsNextLine, IsNoted, IsTurn, Terms}
 use Rattle.command_files.proofs.Lines.{through_all}
 use Rattle.command_files.specs.Fault.{IsReadingFault, IsWritingFault}
 use Rattle.command_files.specs.Input.{IsOfLine, IsWithin, WhereKnown}
@@ -119,14 +119,14 @@ noted_on faults before after None same = same
 noted_on faults before after (Some note) noted = noted
 
 -- a line was read and answered
-pub turn : (faults : StreamFaults) (before after : Streams) (old new : Session) (line said text : List ℕ)
+pub turn : (terms : Terms) (before after : Streams) (old new : Session) (line said text : List ℕ)
     (note : Option (List ℕ)) (left more : ℕ)
     → IfSome before.input (λ bytes. line ≡ take_through 10 bytes) → DropsThrough before.input after.input 10
     → said ≡ strip_last 10 line → 0 < length line → length line ≤ left → more ≡ left - length line
-    → (IsLineOf Quit said → ⊥) → IsReply old said new text → Appends before.output after.output text
-    → IsNote said note → IsNoted (error_faults_of faults) (errors_of before) (errors_of after) note
-    → IsTurn faults before after old new left more
-turn faults before after old new line said text note left more is rest bare some fits same other reply printed is_note
+    → (IsLineOf Quit said → ⊥) → IsReply terms.reasons old said new text → Appends before.output after.output text
+    → IsNote terms.reasons said note → IsNoted (error_faults_of terms.faults) (errors_of before) (errors_of after) note
+    → IsTurn terms before after old new left more
+turn terms before after old new line said text note left more is rest bare some fits same other reply printed is_note
     noted =
     record {
       said = said;
@@ -137,26 +137,27 @@ turn faults before after old new line said text note left more is rest bare some
       printed = printed;
       note = note;
       is_note = is_note;
-      noted = noted_on faults before after note noted;
+      noted = noted_on terms.faults before after note noted;
       fewer = omega (arith, some, fits, same);
       spent = spent_by before.input after.input line left more is rest fits same;
     }
 
 -- the next line was not read
-pub unheard : (failed : Type 0) (faults : StreamFaults) (before after : Streams) (old : Session) (fault : Fault)
+pub unheard : (failed : Type 0) (terms : Terms) (before after : Streams) (old : Session) (fault : Fault)
     → IsReadingFault failed fault → WhereKnown IsOfLine before.input after.input → IsSilent before after
-    → IsCut failed faults before after old fault
-unheard failed faults before after old fault why taken silent =
+    → IsCut failed terms before after old fault
+unheard failed terms before after old fault why taken silent =
     inl (record { why = why; taken = taken; silent = silent })
 
 -- the answer to the line was not printed
-pub unsaid : (failed : Type 0) (faults : StreamFaults) (before after : Streams) (old new : Session)
+pub unsaid : (failed : Type 0) (terms : Terms) (before after : Streams) (old new : Session)
     (line said text : List ℕ) (fault : Fault)
     → IfSome before.input (λ bytes. line ≡ take_through 10 bytes) → DropsThrough before.input after.input 10
-    → said ≡ strip_last 10 line → 0 < length line → (IsLineOf Quit said → ⊥) → IsReply old said new text
-    → IsWritingFault (faults.output_refuses text) fault → after.errors ≡ before.errors
-    → IsCut failed faults before after old fault
-unsaid failed faults before after old new line said text fault is rest bare some other reply why silent =
+    → said ≡ strip_last 10 line → 0 < length line → (IsLineOf Quit said → ⊥)
+    → IsReply terms.reasons old said new text
+    → IsWritingFault (terms.faults.output_refuses text) fault → after.errors ≡ before.errors
+    → IsCut failed terms before after old fault
+unsaid failed terms before after old new line said text fault is rest bare some other reply why silent =
     inr (record {
       said = said;
       read = next_line before.input after.input line said is rest bare some;

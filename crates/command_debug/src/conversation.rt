@@ -16,29 +16,37 @@ use debugger::Debugger;
 use std::alloc::Global;
 
 /// Answers the lines of the input, each before the next one is read, until one asks for the end or the input ends. A
-/// person gets on `errors` what is to be said of a line that is no command. Of the input at most 64 MiB are taken,
+/// person gets on `errors` what is to be said of a line that is no command. `why` is one where `reasons` are asked for
+/// alone. Of the input at most 64 MiB are taken,
 /// whatever the end: a line that goes beyond is not answered.
 #[tactic(auto, using(crate::proofs::Conversing::begun, crate::proofs::Conversing::none_spent, crate::proofs::Conversing::go_on, crate::proofs::Conversing::spend, crate::proofs::Conversing::conversed, crate::proofs::Conversing::cut_short))]
 pub fn converse<'a, I: Input, O: Output, E: Output>(
     alloc: Global,
     debugger: &mut Debugger,
+    reasons: bool,
     input: &mut I,
     output: &mut O,
     errors: &mut E,
 ) -> Result<(), Refusal<'a>>
     ensures done { OnOk result (IsConversation
-        (record { input_fails = I.fails; output_refuses = O.refuses; errors_refuse = E.refuses })
+        (record {
+          faults = record { input_fails = I.fails; output_refuses = O.refuses; errors_refuse = E.refuses };
+          reasons = reasons;
+        })
         (record { input = I.rest input.old; output = O.taken output.old; errors = E.taken errors.old })
         (record { input = I.rest input.new; output = O.taken output.new; errors = E.taken errors.new })
         debugger.old) }
     ensures cut { IfErr result (λ r. IsCutShort
-        (record { input_fails = I.fails; output_refuses = O.refuses; errors_refuse = E.refuses })
+        (record {
+          faults = record { input_fails = I.fails; output_refuses = O.refuses; errors_refuse = E.refuses };
+          reasons = reasons;
+        })
         (record { input = I.rest input.old; output = O.taken output.old; errors = E.taken errors.old })
         (record { input = I.rest input.new; output = O.taken output.new; errors = E.taken errors.new })
         debugger.old r.fault) }
 {
     let mut left = most_bytes();
-    while let Some(more) = take_turn(alloc, debugger, input, output, errors, left)? {
+    while let Some(more) = take_turn(alloc, debugger, reasons, input, output, errors, left)? {
         left = more;
     }
     Ok(())
@@ -50,13 +58,17 @@ pub fn converse<'a, I: Input, O: Output, E: Output>(
 fn take_turn<'a, I: Input, O: Output, E: Output>(
     alloc: Global,
     debugger: &mut Debugger,
+    reasons: bool,
     input: &mut I,
     output: &mut O,
     errors: &mut E,
     left: u32,
 ) -> Result<Option<u32>, Refusal<'a>>
     ensures turn { IfOk result (λ o. IfSome o (λ more. IsTurn
-        (record { input_fails = I.fails; output_refuses = O.refuses; errors_refuse = E.refuses })
+        (record {
+          faults = record { input_fails = I.fails; output_refuses = O.refuses; errors_refuse = E.refuses };
+          reasons = reasons;
+        })
         (record { input = I.rest input.old; output = O.taken output.old; errors = E.taken errors.old })
         (record { input = I.rest input.new; output = O.taken output.new; errors = E.taken errors.new })
         debugger.old debugger.new left more)) }
@@ -65,7 +77,10 @@ fn take_turn<'a, I: Input, O: Output, E: Output>(
         (record { input = I.rest input.new; output = O.taken output.new; errors = E.taken errors.new })
         left)) }
     ensures cut { IfErr result (λ r. IsCut (I.fails ⊎ IsLonger left (I.rest input.old))
-        (record { input_fails = I.fails; output_refuses = O.refuses; errors_refuse = E.refuses })
+        (record {
+          faults = record { input_fails = I.fails; output_refuses = O.refuses; errors_refuse = E.refuses };
+          reasons = reasons;
+        })
         (record { input = I.rest input.old; output = O.taken output.old; errors = E.taken errors.old })
         (record { input = I.rest input.new; output = O.taken output.new; errors = E.taken errors.new })
         debugger.old r.fault) }
@@ -75,7 +90,7 @@ fn take_turn<'a, I: Input, O: Output, E: Output>(
     if line.is_empty() {
         return Ok(None);
     }
-    let reply = reply_to(alloc, debugger, said_in(line.as_slice()))?;
+    let reply = reply_to(alloc, debugger, reasons, said_in(line.as_slice()))?;
     if reply.is_last {
         return Ok(None);
     }

@@ -1,4 +1,4 @@
-//! `debug IMAGE TRACE`: a conversation with a debugger over a run.
+//! `debug IMAGE TRACE [--why]`: a conversation with a debugger over a run.
 ghost use Rattle.std.specs.Prelude.{◌≡◌, ◌⊎◌, [], IfErr, IfNone, IfOk, IfSome};
 ghost use Rattle.fleet_core.specs.Run.{IsRun};
 ghost use Rattle.debugger.specs.Session.{new_session};
@@ -20,12 +20,13 @@ use std::alloc::Global;
 use trace_file::Entries;
 
 /// `debug IMAGE TRACE`: answers the lines of the input, over a run, with notes for a person on `errors`; where the
-/// trace is none, the answer says so.
+/// trace is none, the answer says so. With `--why`, `reasons` are asked for: then `why` is a command.
 #[tactic(auto, using(crate::proofs::Debugged::debug_refused, crate::proofs::Debugged::debugged_at, crate::proofs::Debugged::image_refused, crate::proofs::Debugged::trace_refused, crate::proofs::Debugged::run_refused))]
 pub fn debug<'a, F: Files, I: Input, O: Output, E: Output>(
     alloc: Global,
     image: &'a str,
     trace: &'a str,
+    reasons: bool,
     files: &F,
     input: &mut I,
     output: &mut O,
@@ -37,7 +38,10 @@ pub fn debug<'a, F: Files, I: Input, O: Output, E: Output>(
         (record { input = I.rest input.old; output = O.taken output.old; errors = E.taken errors.old })
         (record { input = I.rest input.new; output = O.taken output.new; errors = E.taken errors.new }))) }
     ensures conversation { IfOk result (λ o. IfNone o (IsDebuggedAt (F.holds files.now)
-        (record { input_fails = I.fails; output_refuses = O.refuses; errors_refuse = E.refuses })
+        (record {
+          faults = record { input_fails = I.fails; output_refuses = O.refuses; errors_refuse = E.refuses };
+          reasons = reasons;
+        })
         (record { image = image.entry.now; trace = trace.entry.now })
         (record { input = I.rest input.old; output = O.taken output.old; errors = E.taken errors.old })
         (record { input = I.rest input.new; output = O.taken output.new; errors = E.taken errors.new }))) }
@@ -47,7 +51,10 @@ pub fn debug<'a, F: Files, I: Input, O: Output, E: Output>(
         (record { input = I.rest input.old; output = O.taken output.old; errors = E.taken errors.old })
         (record { input = I.rest input.new; output = O.taken output.new; errors = E.taken errors.new }))
         ⊎ IsDebugCutAt (F.holds files.now)
-        (record { input_fails = I.fails; output_refuses = O.refuses; errors_refuse = E.refuses })
+        (record {
+          faults = record { input_fails = I.fails; output_refuses = O.refuses; errors_refuse = E.refuses };
+          reasons = reasons;
+        })
         (record { image = image.entry.now; trace = trace.entry.now })
         (record { input = I.rest input.old; output = O.taken output.old; errors = E.taken errors.old })
         (record { input = I.rest input.new; output = O.taken output.new; errors = E.taken errors.new })
@@ -55,7 +62,7 @@ pub fn debug<'a, F: Files, I: Input, O: Output, E: Output>(
 {
     let scenario = load_scenario(alloc, image, files)?;
     let entries = load_trace(alloc, trace, files)?;
-    debug_run(alloc, &scenario, entries, input, output, errors)
+    debug_run(alloc, &scenario, entries, reasons, input, output, errors)
 }
 
 /// Answers the lines of the input, over a run; where the entries are none, the answer says so.
@@ -64,6 +71,7 @@ fn debug_run<'a, I: Input, O: Output, E: Output>(
     alloc: Global,
     scenario: &Scenario,
     entries: Entries,
+    reasons: bool,
     input: &mut I,
     output: &mut O,
     errors: &mut E,
@@ -76,7 +84,10 @@ fn debug_run<'a, I: Input, O: Output, E: Output>(
         (record { input = I.rest input.new; output = O.taken output.new; errors = E.taken errors.new }))) }
     ensures run { IfOk result (λ o. IfNone o (IsRun scenario.now entries)) }
     ensures conversed { IfOk result (λ o. IfNone o (IsConversation
-        (record { input_fails = I.fails; output_refuses = O.refuses; errors_refuse = E.refuses })
+        (record {
+          faults = record { input_fails = I.fails; output_refuses = O.refuses; errors_refuse = E.refuses };
+          reasons = reasons;
+        })
         (record { input = I.rest input.old; output = O.taken output.old; errors = E.taken errors.old })
         (record { input = I.rest input.new; output = O.taken output.new; errors = E.taken errors.new })
         (new_session scenario.now entries))) }
@@ -84,14 +95,17 @@ fn debug_run<'a, I: Input, O: Output, E: Output>(
         (record { input = I.rest input.old; output = O.taken output.old; errors = E.taken errors.old })
         (record { input = I.rest input.new; output = O.taken output.new; errors = E.taken errors.new }))
         ⊎ (IsRun scenario.now entries × IsCutShort
-        (record { input_fails = I.fails; output_refuses = O.refuses; errors_refuse = E.refuses })
+        (record {
+          faults = record { input_fails = I.fails; output_refuses = O.refuses; errors_refuse = E.refuses };
+          reasons = reasons;
+        })
         (record { input = I.rest input.old; output = O.taken output.old; errors = E.taken errors.old })
         (record { input = I.rest input.new; output = O.taken output.new; errors = E.taken errors.new })
         (new_session scenario.now entries) r.fault)) }
 {
     match Debugger::open(alloc, scenario, entries) {
         Ok(mut debugger) => {
-            converse(alloc, &mut debugger, input, output, errors)?;
+            converse(alloc, &mut debugger, reasons, input, output, errors)?;
             Ok(None)
         }
         Err(OpenFault::NotRun(place)) => Ok(Some(no_run(alloc, place)?)),

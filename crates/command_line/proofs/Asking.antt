@@ -23,7 +23,7 @@ use Rattle.command_line.specs.Words.{AsksForWire, AsksToLive, MayHaveForm, Stand
 use Rattle.command_line.specs.Words.{IsReadAs, IsRefusedAs, MayAskFor, bench_app, is_set, refusals}
 use Rattle.command_line.specs.Inside.{IsTakenAs, LacksFleet, LacksJoin, LacksLint, LacksLive, LacksOne, LacksPlay}
 use Rattle.command_line.specs.Inside.{LacksRun, LacksSay, LacksShow, LacksTest, LacksVerdict, LacksWire}
-use Rattle.command_line.specs.Inside.{WantsOtherForm, WantsTwoCaseForms, WantsTwoForms}
+use Rattle.command_line.specs.Inside.{IsNoPlainName, TakesNoList, WantsOtherForm, WantsTwoCaseForms, WantsTwoForms}
 
 -- words that exclude each other ask for no form
 one_form : (rows : List Row) (form : TraceForm) → WantsTwoForms rows → AsksForForm rows form → ⊥
@@ -43,7 +43,7 @@ no_one rows (jobs.Run image workers batch trace) none asks = search rules
 no_one rows (jobs.Check image trace json) none asks = search rules
 no_one rows (jobs.Show image trace device from to form) none asks = search rules
 no_one rows (jobs.Pcap image trace output) none asks = search rules
-no_one rows (jobs.Debug image trace) none asks = search rules
+no_one rows (jobs.Debug image trace reasons) none asks = search rules
 no_one rows (jobs.Titles files only) none asks = search rules
 no_one rows (jobs.Test files only form junit) none asks = search rules
 no_one rows (jobs.Expect files image device only form junit) none asks = search rules
@@ -62,7 +62,7 @@ no_spell rows (jobs.Run image workers batch trace) none asks = search rules
 no_spell rows (jobs.Check image trace json) none asks = search rules
 no_spell rows (jobs.Show image trace device from to form) none asks = search rules
 no_spell rows (jobs.Pcap image trace output) none asks = search rules
-no_spell rows (jobs.Debug image trace) none asks = search rules
+no_spell rows (jobs.Debug image trace reasons) none asks = search rules
 no_spell rows (jobs.Titles files only) none asks = search rules
 no_spell rows (jobs.Test files only form junit) none asks = search rules
 no_spell rows (jobs.Expect files image device only form junit) none asks = search rules
@@ -81,7 +81,7 @@ no_play rows (jobs.Run image workers batch trace) none asks = search rules
 no_play rows (jobs.Check image trace json) none asks = search rules
 no_play rows (jobs.Show image trace device from to form) none asks = search rules
 no_play rows (jobs.Pcap image trace output) none asks = search rules
-no_play rows (jobs.Debug image trace) none asks = search rules
+no_play rows (jobs.Debug image trace reasons) none asks = search rules
 no_play rows (jobs.Titles files only) none asks = search rules
 no_play rows (jobs.Test files only form junit) none asks = search rules
 no_play rows (jobs.Expect files image device only form junit) none asks = search rules
@@ -101,7 +101,7 @@ no_asm rows (jobs.Run image workers batch trace) none asks = search rules
 no_asm rows (jobs.Check image trace json) none asks = search rules
 no_asm rows (jobs.Show image trace device from to form) none asks = search rules
 no_asm rows (jobs.Pcap image trace output) none asks = search rules
-no_asm rows (jobs.Debug image trace) none asks = search rules
+no_asm rows (jobs.Debug image trace reasons) none asks = search rules
 no_asm rows (jobs.Titles files only) none asks = search rules
 no_asm rows (jobs.Test files only form junit) none asks = search rules
 no_asm rows (jobs.Expect files image device only form junit) none asks = search rules
@@ -119,7 +119,7 @@ no_dis rows (jobs.Run image workers batch trace) none asks = search rules
 no_dis rows (jobs.Check image trace json) none asks = search rules
 no_dis rows (jobs.Show image trace device from to form) none asks = search rules
 no_dis rows (jobs.Pcap image trace output) none asks = search rules
-no_dis rows (jobs.Debug image trace) none asks = search rules
+no_dis rows (jobs.Debug image trace reasons) none asks = search rules
 no_dis rows (jobs.Titles files only) none asks = search rules
 no_dis rows (jobs.Test files only form junit) none asks = search rules
 no_dis rows (jobs.Expect files image device only form junit) none asks = search rules
@@ -139,7 +139,7 @@ no_run rows (jobs.Run image workers batch trace) (inr (inr none)) asks = none ba
 no_run rows (jobs.Check image trace json) lacks asks = search rules
 no_run rows (jobs.Show image trace device from to form) lacks asks = search rules
 no_run rows (jobs.Pcap image trace output) lacks asks = search rules
-no_run rows (jobs.Debug image trace) lacks asks = search rules
+no_run rows (jobs.Debug image trace reasons) lacks asks = search rules
 no_run rows (jobs.Titles files only) lacks asks = search rules
 no_run rows (jobs.Test files only form junit) lacks asks = search rules
 no_run rows (jobs.Expect files image device only form junit) lacks asks = search rules
@@ -159,7 +159,7 @@ no_check rows (jobs.Check image trace json) (inl none) asks = search rules
 no_check rows (jobs.Check image trace json) (inr none) asks = search rules
 no_check rows (jobs.Show image trace device from to form) none asks = search rules
 no_check rows (jobs.Pcap image trace output) none asks = search rules
-no_check rows (jobs.Debug image trace) none asks = search rules
+no_check rows (jobs.Debug image trace reasons) none asks = search rules
 no_check rows (jobs.Titles files only) none asks = search rules
 no_check rows (jobs.Test files only form junit) none asks = search rules
 no_check rows (jobs.Expect files image device only form junit) none asks = search rules
@@ -179,7 +179,7 @@ no_show rows (jobs.Show image trace device from to form) (inl none) asks = searc
 no_show rows (jobs.Show image trace device from to form) (inr (inl none)) asks = search rules
 no_show rows (jobs.Show image trace device from to form) (inr (inr both)) asks = one_form rows form both asks.6
 no_show rows (jobs.Pcap image trace output) lacks asks = search rules
-no_show rows (jobs.Debug image trace) lacks asks = search rules
+no_show rows (jobs.Debug image trace reasons) lacks asks = search rules
 no_show rows (jobs.Titles files only) lacks asks = search rules
 no_show rows (jobs.Test files only form junit) lacks asks = search rules
 no_show rows (jobs.Expect files image device only form junit) lacks asks = search rules
@@ -198,8 +198,8 @@ no_debug rows (jobs.Run image workers batch trace) none asks = search rules
 no_debug rows (jobs.Check image trace json) none asks = search rules
 no_debug rows (jobs.Show image trace device from to form) none asks = search rules
 no_debug rows (jobs.Pcap image trace output) none asks = search rules
-no_debug rows (jobs.Debug image trace) (inl none) asks = search rules
-no_debug rows (jobs.Debug image trace) (inr none) asks = search rules
+no_debug rows (jobs.Debug image trace reasons) (inl none) asks = search rules
+no_debug rows (jobs.Debug image trace reasons) (inr none) asks = search rules
 no_debug rows (jobs.Titles files only) none asks = search rules
 no_debug rows (jobs.Test files only form junit) none asks = search rules
 no_debug rows (jobs.Expect files image device only form junit) none asks = search rules
@@ -221,7 +221,7 @@ no_pcap rows (jobs.Show image trace device from to form) none asks = search rule
 no_pcap rows (jobs.Pcap image trace output) (inl none) asks = search rules
 no_pcap rows (jobs.Pcap image trace output) (inr (inl none)) asks = search rules
 no_pcap rows (jobs.Pcap image trace output) (inr (inr none)) asks = search rules
-no_pcap rows (jobs.Debug image trace) none asks = search rules
+no_pcap rows (jobs.Debug image trace reasons) none asks = search rules
 no_pcap rows (jobs.Titles files only) none asks = search rules
 no_pcap rows (jobs.Test files only form junit) none asks = search rules
 no_pcap rows (jobs.Expect files image device only form junit) none asks = search rules
@@ -253,7 +253,7 @@ no_test rows (jobs.Run image workers batch trace) lacks asks = search rules
 no_test rows (jobs.Check image trace json) lacks asks = search rules
 no_test rows (jobs.Show image trace device from to form) lacks asks = search rules
 no_test rows (jobs.Pcap image trace output) lacks asks = search rules
-no_test rows (jobs.Debug image trace) lacks asks = search rules
+no_test rows (jobs.Debug image trace reasons) lacks asks = search rules
 no_test rows (jobs.Titles files only) (inl none) asks = cc
 no_test rows (jobs.Titles files only) (inr (inl both)) asks = one_case_form rows case_forms.Text both asks.2
 no_test rows (jobs.Titles files only) (inr (inr (inl both))) asks =
@@ -294,7 +294,7 @@ no_join rows (jobs.Run image workers batch trace) lacks asks = search rules
 no_join rows (jobs.Check image trace json) lacks asks = search rules
 no_join rows (jobs.Show image trace device from to form) lacks asks = search rules
 no_join rows (jobs.Pcap image trace output) lacks asks = search rules
-no_join rows (jobs.Debug image trace) lacks asks = search rules
+no_join rows (jobs.Debug image trace reasons) lacks asks = search rules
 no_join rows (jobs.Titles files only) lacks asks = search rules
 no_join rows (jobs.Test files only form junit) lacks asks = search rules
 no_join rows (jobs.Expect files image device only form junit) lacks asks = search rules
@@ -328,7 +328,7 @@ no_lint rows (jobs.Run image workers batch trace) lacks asks = search rules
 no_lint rows (jobs.Check image trace json) lacks asks = search rules
 no_lint rows (jobs.Show image trace device from to form) lacks asks = search rules
 no_lint rows (jobs.Pcap image trace output) lacks asks = search rules
-no_lint rows (jobs.Debug image trace) lacks asks = search rules
+no_lint rows (jobs.Debug image trace reasons) lacks asks = search rules
 no_lint rows (jobs.Titles files only) lacks asks = search rules
 no_lint rows (jobs.Test files only form junit) lacks asks = search rules
 no_lint rows (jobs.Expect files image device only form junit) lacks asks = search rules
@@ -338,6 +338,28 @@ no_lint rows (jobs.Lint file only except form) (inl both) asks =
 no_lint rows (jobs.Lint file only except form) (inr (inl two)) asks = one_form rows form two asks.5
 no_lint rows (jobs.Lint file only except form) (inr (inr (none, other))) asks =
     no_other_form (λ p. p.now) rows (first_of (codes "FILE") rows) file form none other asks.1 asks.5 asks.6
+
+-- a name that is no command's asks for nothing
+pub no_other : (name : Word) (rows : List Row) (job : Job) → TakesNoList name → IsNoPlainName name
+    → name ≢ codes "check" → name ≢ codes "show" → name ≢ codes "pcap" → name ≢ codes "debug"
+    → AsksFor (name, rows) job → ⊥
+no_other name rows (jobs.One hex form) listless plain check show pcap debug asks = plain.0 asks.0
+no_other name rows (jobs.Say hex server) listless plain check show pcap debug asks = listless.0 asks.0
+no_other name rows (jobs.Spell statement) listless plain check show pcap debug asks = listless.1 asks.0
+no_other name rows (jobs.Play file device from to form) listless plain check show pcap debug asks = plain.1 asks.0
+no_other name rows (jobs.Asm input output) listless plain check show pcap debug asks = plain.2 asks.0
+no_other name rows (jobs.Dis input) listless plain check show pcap debug asks = plain.3 asks.0
+no_other name rows (jobs.Run image workers batch trace) listless plain check show pcap debug asks = plain.4 asks.0
+no_other name rows (jobs.Check image trace json) listless plain check show pcap debug asks = check asks.0
+no_other name rows (jobs.Show image trace device from to form) listless plain check show pcap debug asks = show asks.0
+no_other name rows (jobs.Pcap image trace output) listless plain check show pcap debug asks = pcap asks.0
+no_other name rows (jobs.Debug image trace reasons) listless plain check show pcap debug asks = debug asks.0
+no_other name rows (jobs.Titles files only) listless plain check show pcap debug asks = listless.2 asks.0.0
+no_other name rows (jobs.Test files only form junit) listless plain check show pcap debug asks = listless.2 asks.0.0
+no_other name rows (jobs.Expect files image device only form junit) listless plain check show pcap debug asks =
+    listless.2 asks.0.0
+no_other name rows (jobs.Join output images) listless plain check show pcap debug asks = listless.3 asks.0
+no_other name rows (jobs.Lint file only except form) listless plain check show pcap debug asks = listless.4 asks.0
 
 -- the words of a device on the network
 lacks_live : (rows : List Row) (live : Live) → LacksLive rows → AsksToLive (codes "live", rows) live → ⊥
@@ -358,7 +380,7 @@ live_alone rows (jobs.Run image workers batch trace) asks = search rules
 live_alone rows (jobs.Check image trace json) asks = search rules
 live_alone rows (jobs.Show image trace device from to form) asks = search rules
 live_alone rows (jobs.Pcap image trace output) asks = search rules
-live_alone rows (jobs.Debug image trace) asks = search rules
+live_alone rows (jobs.Debug image trace reasons) asks = search rules
 live_alone rows (jobs.Titles files only) asks = search rules
 live_alone rows (jobs.Test files only form junit) asks = search rules
 live_alone rows (jobs.Expect files image device only form junit) asks = search rules
@@ -418,7 +440,7 @@ fleet_alone rows (jobs.Run image workers batch trace) asks = search rules
 fleet_alone rows (jobs.Check image trace json) asks = search rules
 fleet_alone rows (jobs.Show image trace device from to form) asks = search rules
 fleet_alone rows (jobs.Pcap image trace output) asks = search rules
-fleet_alone rows (jobs.Debug image trace) asks = search rules
+fleet_alone rows (jobs.Debug image trace reasons) asks = search rules
 fleet_alone rows (jobs.Titles files only) asks = search rules
 fleet_alone rows (jobs.Test files only form junit) asks = search rules
 fleet_alone rows (jobs.Expect files image device only form junit) asks = search rules
@@ -445,7 +467,7 @@ lacks_hex rows (jobs.Run image workers batch trace) lacks asks = search rules
 lacks_hex rows (jobs.Check image trace json) lacks asks = search rules
 lacks_hex rows (jobs.Show image trace device from to form) lacks asks = search rules
 lacks_hex rows (jobs.Pcap image trace output) lacks asks = search rules
-lacks_hex rows (jobs.Debug image trace) lacks asks = search rules
+lacks_hex rows (jobs.Debug image trace reasons) lacks asks = search rules
 lacks_hex rows (jobs.Titles files only) lacks asks = search rules
 lacks_hex rows (jobs.Test files only form junit) lacks asks = search rules
 lacks_hex rows (jobs.Expect files image device only form junit) lacks asks = search rules

@@ -135,3 +135,15 @@ IsTakenAs found (asked.Live live) = (p : Word × List Row) × (found ≡ Some p)
 IsTakenAs found (asked.Fleet fleet) = (p : Word × List Row) × (found ≡ Some p) × AsksForFleet p fleet
 IsTakenAs found (asked.Text text is_mistake) =
     (is_mistake ≡ true) × ((p : Word × List Row) (wanted : Asked) → found ≡ Some p → MayAskFor p wanted → ⊥)
+
+-- no command of this name takes a list of words, and it is not `say`
+abbrev pub TakesNoList : Word → Type 0
+TakesNoList name =
+    (name ≢ codes "say") × (name ≢ codes "spell") × (name ≢ codes "test") × (name ≢ codes "join")
+    × (name ≢ codes "lint")
+
+-- it is the name of none of these commands, which take no trace
+abbrev pub IsNoPlainName : Word → Type 0
+IsNoPlainName name =
+    (name ≢ codes "one") × (name ≢ codes "play") × (name ≢ codes "asm") × (name ≢ codes "dis")
+    × (name ≢ codes "run")

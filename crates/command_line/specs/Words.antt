@@ -111,8 +111,8 @@ commands =
     -- `pcap IMAGE TRACE OUT`
     ∷ command (codes "pcap") (required_word (codes "IMAGE") ∷ required_word (codes "TRACE") ∷ required_word
     (codes "OUT") ∷ [])
-    -- `debug IMAGE TRACE`
-    ∷ command (codes "debug") (required_word (codes "IMAGE") ∷ required_word (codes "TRACE") ∷ [])
+    -- `debug IMAGE TRACE [--why]`
+    ∷ command (codes "debug") (required_word (codes "IMAGE") ∷ required_word (codes "TRACE") ∷ flag (codes "why") ∷ [])
     -- `live IMAGE DEVICE PORT TURNS [--save FILE] [--show]`
     ∷ command (codes "live") (required_word (codes "IMAGE") ∷ needed_number (codes "DEVICE") 0 65535
     ∷ needed_number (codes "PORT") 0 65535 ∷ needed_number (codes "TURNS") 1 100000 ∷ text_option (codes "save")
@@ -242,8 +242,9 @@ AsksFor found (jobs.Show image trace device from to form) =
 AsksFor found (jobs.Pcap image trace output) =
     (found.0 ≡ codes "pcap") × IsText found (codes "IMAGE") image.now × IsText found (codes "TRACE") trace.now
     × IsText found (codes "OUT") output.now
-AsksFor found (jobs.Debug image trace) =
+AsksFor found (jobs.Debug image trace reasons) =
     (found.0 ≡ codes "debug") × IsText found (codes "IMAGE") image.now × IsText found (codes "TRACE") trace.now
+    × (is_set (codes "why") found.1 ≡ reasons)
 AsksFor found (jobs.Titles files only) =
     AsksForCases found (map (λ p. p.now) files.items) (option_map (λ w. w.now) only)
     × (is_set (codes "list") found.1 ≡ true) × AsksForCaseForm found.1 case_forms.Text

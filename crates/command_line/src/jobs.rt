@@ -4,7 +4,7 @@ ghost use Rattle.clap.specs.Words.{all_of, first_of, found_of, rows_of};
 ghost use Rattle.command_line.specs.declared.words.Job.{Job as JobData};
 ghost use Rattle.command_line.specs.Words.{AsksFor, AsksForCaseForm, AsksForForm, is_set};
 ghost use Rattle.command_line.specs.Inside.{ExcludesInTest, LacksJoin, LacksLint, LacksOne, LacksPlay, LacksRun};
-ghost use Rattle.command_line.specs.Inside.{LacksShow, LacksTest};
+ghost use Rattle.command_line.specs.Inside.{IsNoPlainName, LacksShow, LacksTest, TakesNoList};
 ghost use Rattle.command_line.specs.Inside.{WantsTwoCaseForms, WantsTwoForms};
 
 use crate::values::{flag, number, small_number, value_of, values_if, values_of};
@@ -12,7 +12,7 @@ use crate::words::{CaseForm, Job, TraceForm};
 use clap::ArgMatches;
 use std::alloc::{AllocError, Global};
 
-#[tactic(auto, using(crate::proofs::Asking::no_one, crate::proofs::Asking::no_spell, crate::proofs::Asking::no_play, crate::proofs::Asking::no_asm, crate::proofs::Asking::no_dis, crate::proofs::Asking::no_run, crate::proofs::Asking::no_check, crate::proofs::Asking::no_show, crate::proofs::Asking::no_pcap, crate::proofs::Asking::no_debug, crate::proofs::Asking::no_test, crate::proofs::Asking::no_join, crate::proofs::Asking::no_lint))]
+#[tactic(auto, using(crate::proofs::Asking::no_spell, crate::proofs::Asking::no_test, crate::proofs::Asking::no_join, crate::proofs::Asking::no_lint))]
 pub(crate) fn job_in<'a>(
     alloc: Global,
     name: &str,
@@ -24,20 +24,45 @@ pub(crate) fn job_in<'a>(
         → ⊥)) }
 {
     match name {
-        "one" => Ok(one_job(found)),
         "spell" => spell_job(alloc, found),
-        "play" => Ok(play_job(found)),
-        "asm" => Ok(asm_job(found)),
-        "dis" => Ok(dis_job(found)),
-        "run" => Ok(run_job(found)),
-        "check" => Ok(check_job(found)),
-        "show" => Ok(show_job(found)),
-        "pcap" => Ok(pcap_job(found)),
-        "debug" => Ok(debug_job(found)),
         "test" => test_job(alloc, found),
         "join" => join_job(alloc, found),
         "lint" => lint_job(alloc, found),
-        _ => Ok(None),
+        _ => Ok(plain_job(name, found)),
+    }
+}
+
+/// A job without a list.
+#[tactic(auto, using(crate::proofs::Asking::no_one, crate::proofs::Asking::no_play, crate::proofs::Asking::no_asm, crate::proofs::Asking::no_dis, crate::proofs::Asking::no_run))]
+fn plain_job<'a>(name: &str, found: &ArgMatches<'a>) -> Option<Job<'a>>
+    requires { TakesNoList name.now }
+    ensures some { IfSome result (AsksFor (name.now, rows_of (found_of found.now))) }
+    ensures none { IfNone result ((job : JobData) → AsksFor (name.now, rows_of (found_of found.now)) job → ⊥) }
+{
+    match name {
+        "one" => one_job(found),
+        "play" => play_job(found),
+        "asm" => asm_job(found),
+        "dis" => dis_job(found),
+        "run" => run_job(found),
+        _ => trace_job(name, found),
+    }
+}
+
+/// A job on the trace of a run.
+#[tactic(auto, using(crate::proofs::Asking::no_check, crate::proofs::Asking::no_show, crate::proofs::Asking::no_pcap, crate::proofs::Asking::no_debug, crate::proofs::Asking::no_other))]
+fn trace_job<'a>(name: &str, found: &ArgMatches<'a>) -> Option<Job<'a>>
+    requires plain { TakesNoList name.now }
+    requires traced { IsNoPlainName name.now }
+    ensures some { IfSome result (AsksFor (name.now, rows_of (found_of found.now))) }
+    ensures none { IfNone result ((job : JobData) → AsksFor (name.now, rows_of (found_of found.now)) job → ⊥) }
+{
+    match name {
+        "check" => check_job(found),
+        "show" => show_job(found),
+        "pcap" => pcap_job(found),
+        "debug" => debug_job(found),
+        _ => None,
     }
 }
 
@@ -165,6 +190,7 @@ fn debug_job<'a>(found: &ArgMatches<'a>) -> Option<Job<'a>>
     Some(Job::Debug {
         image: value_of(found, "IMAGE")?,
         trace: value_of(found, "TRACE")?,
+        reasons: flag(found, "why"),
     })
 }
 

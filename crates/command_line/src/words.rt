@@ -200,6 +200,8 @@ pub enum Job<'a> {
         image: &'a str,
         /// The path of the run's trace file.
         trace: &'a str,
+        /// Whether reasons are asked for, so that `why` is a command.
+        reasons: bool,
     },
     /// The titles of cases.
     Titles {
@@ -421,12 +423,19 @@ fn usage(alloc: Global, found: &ArgMatches) -> Result<String, AllocError> {
 /// What is wrong with the words of a command, if they exclude each other or lack one.
 fn mistake_in(found: &ArgMatches) -> Option<&'static str> {
     match found.subcommand() {
-        Some(("test", test)) => Some(test_usage(test)),
-        Some(("lint", lint)) => Some(lint_usage(lint)),
-        Some(("fleet", fleet)) => Some(fleet_usage(fleet)),
-        Some(("show", _)) => Some(SHOW_JSON_AND_WHY),
-        Some(("play", _)) => Some(PLAY_JSON_AND_WHY),
-        Some(("one", _)) => Some(ONE_JSON_AND_WHY),
+        Some((name, inner)) => mistake_of(name, inner),
+        None => None,
+    }
+}
+
+fn mistake_of(name: &str, found: &ArgMatches) -> Option<&'static str> {
+    match name {
+        "test" => Some(test_usage(found)),
+        "lint" => Some(lint_usage(found)),
+        "fleet" => Some(fleet_usage(found)),
+        "show" => Some(SHOW_JSON_AND_WHY),
+        "play" => Some(PLAY_JSON_AND_WHY),
+        "one" => Some(ONE_JSON_AND_WHY),
         _ => None,
     }
 }

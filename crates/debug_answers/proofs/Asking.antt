@@ -1,10 +1,12 @@
--- A line that is `help` alone.
+-- A line that is `help` alone, and which commands a debugger has.
 use Rattle.std.proofs.Common.{◌≡◌, ◌↔◌, Bool, true, false, cond, List, [], ◌∷◌, ℕ, codes, refl, ap, sym, ◌∙◌}
+use Rattle.std.proofs.Common.{Option, Some, subst}
 use Rattle.std.specs.Str.{bytes_eq}
 use Rattle.std.proofs.lemmas.Bool.{false≢true}
 use Rattle.std.proofs.lemmas.Slice.Eq.{bytes_eq-Decides}
 use Rattle.scenario_words.specs.Words.{words}
-use Rattle.debug_answers.specs.Saying.{IsHelp, is_plain}
+use Rattle.debug_answers.specs.declared.command.Command.{Command}
+use Rattle.debug_answers.specs.Saying.{HasCommand, IsCommandIn, IsHelp, IsLineOf, is_plain}
 use Rattle.debug_answers.specs.Reading.{is_help, is_last}
 
 -- words of which the first is this name, and the last too
@@ -27,3 +29,23 @@ help_line line help plain same =
 -- another one
 pub no_help : (line : List ℕ) → is_plain line ≡ false → (false ≡ true) ↔ IsHelp line
 no_help line other = (λ h. absurd (false≢true h), λ h. sym other ∙ h.0)
+
+same_command : (c d : Command) → Some c ≡ Some d → c ≡ d
+same_command c d same = cc
+
+-- the debugger has the only command that the line says
+pub had : (reasons : Bool) (line : List ℕ) (c : Command) (b : Bool) → IsLineOf c line
+    → (b ≡ true) ↔ HasCommand reasons c → b ≡ true → IsCommandIn reasons c line
+had reasons line c b is has there = (is, has.0 there)
+
+-- it lacks that command
+pub not_had : (reasons : Bool) (line : List ℕ) (c : Command) (b : Bool)
+    → ((d : Command) → IsLineOf d line → Some c ≡ Some d) → (b ≡ true) ↔ HasCommand reasons c → b ≡ false
+    → (d : Command) → IsCommandIn reasons d line → ⊥
+not_had reasons line c b only has lacks d h =
+    false≢true (sym lacks ∙ has.1 (subst (HasCommand reasons) (sym (same_command c d (only d h.0))) h.1))
+
+pub only_not_had : (reasons : Bool) (line : List ℕ) (c : Command) (b : Bool) (r : Option Command)
+    → ((d : Command) → IsLineOf d line → Some c ≡ Some d) → (b ≡ true) ↔ HasCommand reasons c → b ≡ false
+    → (d : Command) → IsCommandIn reasons d line → r ≡ Some d
+only_not_had reasons line c b r only has lacks d h = absurd (not_had reasons line c b only has lacks d h)

@@ -1,9 +1,9 @@
 -- A debugger where no memory was left for the line of an answer.
-use Rattle.std.proofs.Common.{◌≡◌, inl, inr, ℕ, List, Some, Result, Ok, Err, OnErr, refl, sym, subst}
+use Rattle.std.proofs.Common.{◌≡◌, inl, inr, ℕ, Bool, List, Some, Result, Ok, Err, OnErr, refl, sym, subst}
 use Rattle.debug_answers.specs.declared.command.Command.{Command}
 use Rattle.debug_answers.specs.declared.command.Command.TheVariants as command
 use Rattle.debug_answers.specs.declared.command.Point.{Point}
-use Rattle.debug_answers.specs.Saying.{IsLineOf}
+use Rattle.debug_answers.specs.Saying.{IsCommandIn}
 use Rattle.debugger.specs.declared.breaks.Break.{Break}
 use Rattle.debugger.specs.declared.breaks.Stop.{Stop}
 use Rattle.debugger.specs.Breaks.{AreAllTaken, IsAdded}
@@ -47,9 +47,9 @@ break_left r old new c p b is same h =
     (subst (λ (x : Break). OnErr r (IsAsBeforeOrAfter (IsBreak old x) old new)) same h)
 
 -- as after the command that a line says
-pub reply_left : (old : Session) (said : List ℕ) (new : Session) (c : Command) → IsLineOf c said
-    → ((d : Command) → IsLineOf d said → Some c ≡ Some d) → IsAsBeforeOrAfter (IsAnswer old c) old new
-    → IsAsBeforeOrAfter (IsReply old said) old new
-reply_left old said new c is again (inl same) = inl same
-reply_left old said new c is again (inr (text, answered)) =
-    inr (text, reply_of old said new text c is again answered)
+pub reply_left : (reasons : Bool) (old : Session) (said : List ℕ) (new : Session) (c : Command)
+    → IsCommandIn reasons c said → ((d : Command) → IsCommandIn reasons d said → Some c ≡ Some d)
+    → IsAsBeforeOrAfter (IsAnswer old c) old new → IsAsBeforeOrAfter (IsReply reasons old said) old new
+reply_left reasons old said new c is again (inl same) = inl same
+reply_left reasons old said new c is again (inr (text, answered)) =
+    inr (text, reply_of reasons old said new text c is again answered)

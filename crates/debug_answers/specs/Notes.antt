@@ -1,8 +1,9 @@
 -- What a person gets on standard error beside the answer `bad command`.
-use Rattle.std.specs.Prelude.{◌≡◌, ℕ, nat_le, List, [], ◌++◌, length, take, Option, None, Some, codes, if◌then◌else◌}
+use Rattle.std.specs.Prelude.{◌≡◌, ℕ, nat_le, Bool, List, [], ◌++◌, length, take, Option, None, Some, codes}
+use Rattle.std.specs.Prelude.{if◌then◌else◌}
 use Rattle.scenario_words.specs.Quoted.{quoted_word}
 use Rattle.debug_answers.specs.declared.command.Command.{Command}
-use Rattle.debug_answers.specs.Saying.{IsHelp, IsLineOf}
+use Rattle.debug_answers.specs.Saying.{IsCommandIn, IsHelp}
 use Rattle.debug_answers.specs.Help.{help_text}
 use Rattle.scenario_words.specs.Words.{ended_line}
 
@@ -21,9 +22,9 @@ no_command_line shown mark = ended_line (codes "lwbench: standard input: not a c
 abbrev pub no_command : List ℕ → List ℕ
 no_command said = no_command_line (quoted_word (take most_shown_bytes said)) (cut_mark said)
 
--- the note on a line of the debugger's input: none on a command; on `help`, the commands; on any other line, that it
--- was not understood
-pub record IsNote (said : List ℕ) (note : Option (List ℕ)) : Type 0 where
-  pub command : (c : Command) → IsLineOf c said → note ≡ None
-  pub help : IsHelp said → note ≡ Some help_text
-  pub other : ((c : Command) → IsLineOf c said → ⊥) → (IsHelp said → ⊥) → note ≡ Some (no_command said)
+-- the note on a line of the input of a debugger, which is asked for reasons or not: none on a command; on `help`, the
+-- commands; on any other line, that it was not understood
+pub record IsNote (reasons : Bool) (said : List ℕ) (note : Option (List ℕ)) : Type 0 where
+  pub command : (c : Command) → IsCommandIn reasons c said → note ≡ None
+  pub help : IsHelp said → note ≡ Some (help_text reasons)
+  pub other : ((c : Command) → IsCommandIn reasons c said → ⊥) → (IsHelp said → ⊥) → note ≡ Some (no_command said)

@@ -1,10 +1,10 @@
 -- What is answered to a line of the debugger's input, and where the debugger then is.
-use Rattle.std.specs.Prelude.{◌≡◌, ℕ, ◌<◌, ◌≤◌, List, [], length, codes}
+use Rattle.std.specs.Prelude.{◌≡◌, ℕ, ◌<◌, ◌≤◌, Bool, List, [], length, codes}
 use Rattle.debug_answers.specs.declared.command.Command.{Command}
 use Rattle.debug_answers.specs.declared.command.Command.TheVariants as command
 use Rattle.debug_answers.specs.declared.command.Point.{Point}
 use Rattle.debug_answers.specs.declared.command.Point.TheVariants as point
-use Rattle.debug_answers.specs.Saying.{IsLineOf}
+use Rattle.debug_answers.specs.Saying.{IsCommandIn}
 use Rattle.debugger.specs.declared.breaks.Break.{Break}
 use Rattle.debugger.specs.declared.breaks.Break.TheVariants as breaks
 use Rattle.debugger.specs.Session.{Session}
@@ -47,7 +47,9 @@ IsAnswer old (command.Outputs d) new text =
 IsAnswer old (command.Why d) new text = (new ≡ old) × IsWhyAnswer old d text
 IsAnswer old command.Quit new text = (new ≡ old) × (text ≡ [])
 
--- what is answered to a line: the answer to the command that it says, or `bad command` where it says none
-pub record IsReply (old : Session) (said : List ℕ) (new : Session) (text : List ℕ) : Type 0 where
-  pub answer : (c : Command) → IsLineOf c said → IsAnswer old c new text
-  pub bad_command : ((c : Command) → IsLineOf c said → ⊥) → IsCommandRefused old new (codes "bad command") text
+-- what a debugger, which is asked for reasons or not, answers to a line: the answer to the command that it says, or
+-- `bad command` where it says none that the debugger has
+pub record IsReply (reasons : Bool) (old : Session) (said : List ℕ) (new : Session) (text : List ℕ) : Type 0 where
+  pub answer : (c : Command) → IsCommandIn reasons c said → IsAnswer old c new text
+  pub bad_command : ((c : Command) → IsCommandIn reasons c said → ⊥)
+      → IsCommandRefused old new (codes "bad command") text

@@ -45,6 +45,15 @@ is_plain line = list_all (λ b. nat_le 32 b && nat_le b 126 && not (b == 35)) li
 abbrev pub IsLineOf : Command → List ℕ → Type 0
 IsLineOf c line = (is_plain line ≡ true) × IsSaidBy c (words line)
 
+-- a debugger has this command: only one that is asked for reasons has `why`
+abbrev pub HasCommand : Bool → Command → Type 0
+HasCommand reasons (command.Why d) = reasons ≡ true
+HasCommand reasons c = Unit {0}
+
+-- the line says this command, and the debugger has it
+abbrev pub IsCommandIn : Bool → Command → List ℕ → Type 0
+IsCommandIn reasons c line = IsLineOf c line × HasCommand reasons c
+
 -- the line is the word `help` alone: what a person asks, and no command
 abbrev pub IsHelp : List ℕ → Type 0
 IsHelp line = (is_plain line ≡ true) × (words line ≡ codes "help" ∷ [])

@@ -22,7 +22,7 @@ pub use laws::{commands_read_again, one_command};
 pub use moves::{back, forward, place};
 pub use notes::no_command;
 pub use outputs::outputs_text;
-pub use reading::{asks_for_help, read_command};
+pub use reading::{asks_for_help, command_in, read_command};
 pub use replies::{Reply, reply_to};
 pub use show::{show_observations, show_outputs, show_value};
 pub use why::show_why;

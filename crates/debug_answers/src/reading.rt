@@ -4,7 +4,7 @@ ghost use Rattle.std.specs.Prelude.{◌≡◌, ◌↔◌, true, Some, IfSome, If
 ghost use Rattle.scenario_words.specs.Words.{words};
 ghost use Rattle.scenario_words.specs.Reading.{Reads};
 ghost use Rattle.debug_answers.specs.declared.command.Command.{Command};
-ghost use Rattle.debug_answers.specs.Saying.{IsHelp, IsLineOf, IsSaidBy, is_plain};
+ghost use Rattle.debug_answers.specs.Saying.{HasCommand, IsCommandIn, IsHelp, IsLineOf, IsSaidBy, is_plain};
 ghost use Rattle.debug_answers.specs.Reading.{about_device, break_point, command_by, command_of, is_help};
 ghost use Rattle.debug_answers.specs.Reading.{command_alone};
 
@@ -113,6 +113,40 @@ pub fn read_command(line: &[u8]) -> Option<Command>
         return None;
     }
     read_words(line)
+}
+
+/// Whether a debugger, which is asked for reasons or not, has the command.
+fn has_command(command: Command, reasons: bool) -> bool
+    ensures { (result ≡ true) ↔ HasCommand reasons command }
+{
+    match command {
+        Command::Why(_) => reasons,
+        Command::At
+        | Command::Forward(_)
+        | Command::Back(_)
+        | Command::Break(_)
+        | Command::Clear(_)
+        | Command::Resume
+        | Command::Value(_, _)
+        | Command::Observations(_)
+        | Command::Outputs(_)
+        | Command::Quit => true,
+    }
+}
+
+/// The command that a line of the debugger's input says, as `read_command` reads it, if the debugger has it: one that
+/// is not asked for reasons has no `why`.
+#[tactic(auto, using(crate::proofs::Asking::had, crate::proofs::Asking::not_had, crate::proofs::Asking::only_not_had))]
+pub fn command_in(line: &[u8], reasons: bool) -> Option<Command>
+    ensures line_says_it { IfSome result (λ c. IsCommandIn reasons c line.now) }
+    ensures no_command { IfNone result ((c : Command) → IsCommandIn reasons c line.now → ⊥) }
+    ensures only_command { (c : Command) → IsCommandIn reasons c line.now → result ≡ Some c }
+{
+    let command = read_command(line)?;
+    if !has_command(command, reasons) {
+        return None;
+    }
+    Some(command)
 }
 
 /// Whether the words of a line are `help` alone.

@@ -14,7 +14,7 @@ use crate::help::show_help;
 use crate::lines::fixed_line;
 use crate::moves::{back, forward, place};
 use crate::notes::no_command;
-use crate::reading::{asks_for_help, read_command};
+use crate::reading::{asks_for_help, command_in};
 use crate::show::{show_observations, show_outputs, show_value};
 use crate::why::show_why;
 use debugger::{Break, Debugger};
@@ -72,31 +72,36 @@ fn is_quit(command: Command) -> bool
 }
 
 /// The note on a line that says no command: on `help` the commands, on another that it was not understood.
-fn note_on(alloc: Global, line: &[u8]) -> Result<String, AllocError>
-    ensures help { IfOk result (λ text. IsHelp line.now → string_bytes text ≡ help_text) }
+fn note_on(alloc: Global, reasons: bool, line: &[u8]) -> Result<String, AllocError>
+    ensures help { IfOk result (λ text. IsHelp line.now → string_bytes text ≡ help_text reasons) }
     ensures other_line { IfOk result (λ text. (IsHelp line.now → ⊥) → string_bytes text ≡ no_command line.now) }
 {
     if asks_for_help(line) {
-        show_help(alloc)
+        show_help(alloc, reasons)
     } else {
         no_command(alloc, line)
     }
 }
 
 /// The answer to a line of the debugger's input, without the LF that ends it: that to the command that it says, or `bad
-/// command` where it says none, which changes nothing. There is no note on a command; on `help` it is the list of the
-/// commands, and on any other line that says none it shows at most 200 bytes of that line. `quit` is answered by
-/// nothing, and nothing else asks for the end (`asks_for_end`). Without memory the debugger is as before, or as after
-/// the command (`as_before_or_after`).
+/// command` where it says none, which changes nothing. Where no reasons are asked for, `why` is not a command. There is
+/// no note on a command; the note on `help` is the list of the commands, and that on any other line which says none
+/// shows at most 200 bytes of it. `quit` is answered by nothing, and nothing else asks for the end (`asks_for_end`).
+/// Without memory the debugger is as before, or as after the command (`as_before_or_after`).
 #[tactic(auto, using(crate::proofs::ReplyParts::reply_of, crate::proofs::ReplyParts::bad_reply, crate::proofs::ReplyParts::no_note, crate::proofs::ReplyParts::note_of, crate::proofs::WithoutMemory::reply_left))]
-pub fn reply_to(alloc: Global, debugger: &mut Debugger, line: &[u8]) -> Result<Reply, AllocError>
-    ensures reply { IfOk result (λ r. IsReply debugger.old line.now debugger.new (string_bytes r.text)) }
-    ensures note { IfOk result (λ r. IsNote line.now (option_map (λ text. string_bytes text) r.note)) }
+pub fn reply_to(
+    alloc: Global,
+    debugger: &mut Debugger,
+    reasons: bool,
+    line: &[u8],
+) -> Result<Reply, AllocError>
+    ensures reply { IfOk result (λ r. IsReply reasons debugger.old line.now debugger.new (string_bytes r.text)) }
+    ensures note { IfOk result (λ r. IsNote reasons line.now (option_map (λ text. string_bytes text) r.note)) }
     ensures as_before_or_after { OnErr result
-        (IsAsBeforeOrAfter (IsReply debugger.old line.now) debugger.old debugger.new) }
+        (IsAsBeforeOrAfter (IsReply reasons debugger.old line.now) debugger.old debugger.new) }
     ensures asks_for_end { IfOk result (λ r. (r.is_last ≡ true) ↔ IsLineOf Quit line.now) }
 {
-    match read_command(line) {
+    match command_in(line, reasons) {
         Some(command) => Ok(Reply {
             text: answer(alloc, debugger, command)?,
             note: None,
@@ -104,7 +109,7 @@ pub fn reply_to(alloc: Global, debugger: &mut Debugger, line: &[u8]) -> Result<R
         }),
         None => Ok(Reply {
             text: fixed_line(alloc, "bad command")?,
-            note: Some(note_on(alloc, line)?),
+            note: Some(note_on(alloc, reasons, line)?),
             is_last: false,
         }),
     }

@@ -7,12 +7,14 @@ pub(crate) const COMMAND: Subcommand = Subcommand {
     arguments: &arguments! {
         "IMAGE" Needed: "The scenario that was run, as an image";
         "TRACE" Needed: "The trace file of the run";
+        "why" Flag: "Answers why a device answers so, too";
     },
     below: "\
 Reads IMAGE, and then TRACE. Then reads commands from standard input, a line each, and answers each.
 `quit` ends it, and so does the end of the input. A line that is no command is answered `bad command`,
-and shown on standard error; on the line `help`, standard error gets the list of the commands. Where the
-trace is not a run of the scenario, prints the least place, from 0, at which it is not (status 3):
+and shown on standard error; on the line `help`, standard error gets the list of the commands. With `--why`
+`why D` is a command, too: why device D handled the datagram of its latest step so. Where the trace is not
+a run of the scenario, prints the least place, from 0, at which it is not (status 3):
   not a run at N
 Writes no file.
 

@@ -8,9 +8,12 @@ abbrev pub invariant-loop-more : goal.invariant-loop-more
 invariant-loop-more g l = record {
   so_far : IsExchange
       (record {
-        input_fails = g.I.Input.fails;
-        output_refuses = g.O.Output.refuses;
-        errors_refuse = g.E.Output.refuses;
+        faults = record {
+          input_fails = g.I.Input.fails;
+          output_refuses = g.O.Output.refuses;
+          errors_refuse = g.E.Output.refuses;
+        };
+        reasons = l.reasons;
       })
       (record {
         input = g.I.Input.rest l.initial.input;

@@ -1,7 +1,8 @@
 use Rattle.std.proofs.Common.{Global, option_map, refl, rules, ◌⊎◌}
 use Rattle.std.specs.String.{string_bytes}
 use Rattle.command_files.specs.Input.{IsLonger}
-use Rattle.command_files.specs.World.{StreamFaults, Streams}
+use Rattle.command_files.specs.World.{Streams}
+use Rattle.command_debug.specs.Conversation.{Terms}
 use Rattle.command_debug.proofs.Turns.{at_end, at_quit, turn, unsaid, within_left}
 use Rattle.command_debug.proofs.conversation.take_turn.Goals as goal
 
@@ -16,10 +17,13 @@ returns-then-reply-clause-last g c =
 
 pub returns-in_err-say-clause-cut : goal.returns-in_err-say-clause-cut
 returns-in_err-say-clause-cut g c =
-    let faults : StreamFaults = record {
-      input_fails = g.I.Input.fails;
-      output_refuses = g.O.Output.refuses;
-      errors_refuse = g.E.Output.refuses;
+    let terms : Terms = record {
+      faults = record {
+        input_fails = g.I.Input.fails;
+        output_refuses = g.O.Output.refuses;
+        errors_refuse = g.E.Output.refuses;
+      };
+      reasons = c.args.reasons;
     } in
     let before : Streams = record {
       input = g.I.Input.rest c.args.input.now;
@@ -31,7 +35,7 @@ returns-in_err-say-clause-cut g c =
       output = g.O.Output.taken c.say.new.output;
       errors = g.E.Output.taken c.args.errors.now;
     } in
-    let cut = unsaid (g.I.Input.fails ⊎ IsLonger c.args.left (g.I.Input.rest c.args.input.now)) faults before after
+    let cut = unsaid (g.I.Input.fails ⊎ IsLonger c.args.left (g.I.Input.rest c.args.input.now)) terms before after
     c.args.debugger.now c.reply_to.new.debugger c.in_ok-line.line.items c.said_in.result.now c.as_str.result.now
     c.in_err-say.field-0.0.fault
     c.in_ok-line.ensures.line (search rules) (search rules) (search rules) (search rules) (search rules)

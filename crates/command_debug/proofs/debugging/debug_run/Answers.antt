@@ -2,8 +2,8 @@ use Rattle.std.proofs.Common.{◌≡◌, ◌⊎◌, inr, rules, subst}
 use Rattle.std.proofs.lemmas.Result.{err_from_is_err_and}
 use Rattle.fleet_core.specs.Run.{IsRun}
 use Rattle.debugger.specs.Session.{new_session}
-use Rattle.command_debug.specs.Conversation.{IsCutShort}
-use Rattle.command_files.specs.World.{IsIdle, StreamFaults, Streams}
+use Rattle.command_debug.specs.Conversation.{IsCutShort, Terms}
+use Rattle.command_files.specs.World.{IsIdle, Streams}
 use Rattle.command_files.specs.declared.fault.Fault.TheVariants.{Memory}
 use Rattle.command_files.proofs.Built.{judged_none}
 use Rattle.command_debug.proofs.debugging.debug_run.Goals as goal
@@ -15,10 +15,13 @@ returns-in_ok-no_run-in-Err-NotRun-clause-verdict g c =
 
 pub returns-in_err-converse-in-Ok-clause-refused : goal.returns-in_err-converse-in-Ok-clause-refused
 returns-in_err-converse-in-Ok-clause-refused g c =
-    let faults : StreamFaults = record {
-      input_fails = g.I.Input.fails;
-      output_refuses = g.O.Output.refuses;
-      errors_refuse = g.E.Output.refuses;
+    let terms : Terms = record {
+      faults = record {
+        input_fails = g.I.Input.fails;
+        output_refuses = g.O.Output.refuses;
+        errors_refuse = g.E.Output.refuses;
+      };
+      reasons = c.args.reasons;
     } in
     let before : Streams = record {
       input = g.I.Input.rest c.args.input.now;
@@ -30,14 +33,14 @@ returns-in_err-converse-in-Ok-clause-refused g c =
       output = g.O.Output.taken c.converse.new.output;
       errors = g.E.Output.taken c.converse.new.errors;
     } in
-    let cut : IsCutShort faults before after (new_session c.args.scenario.now c.args.entries)
+    let cut : IsCutShort terms before after (new_session c.args.scenario.now c.args.entries)
     c.in_err-converse-in-Ok.field-0.0.fault =
-    subst (λ session. IsCutShort faults before after session c.in_err-converse-in-Ok.field-0.0.fault)
+    subst (λ session. IsCutShort terms before after session c.in_err-converse-in-Ok.field-0.0.fault)
     c.in-Ok.ensures.opened c.in_err-converse-in-Ok.ensures.cut in
     let run : IsRun c.args.scenario.now c.args.entries = c.in-Ok.ensures.run in
     let right : ((c.in_err-converse-in-Ok.field-0.0.fault ≡ Memory) × IsIdle before after)
     ⊎ (IsRun c.args.scenario.now c.args.entries
-    × IsCutShort faults before after (new_session c.args.scenario.now c.args.entries)
+    × IsCutShort terms before after (new_session c.args.scenario.now c.args.entries)
     c.in_err-converse-in-Ok.field-0.0.fault) =
     inr (run, cut) in
     let p = err_from_is_err_and c.from_residual.result c.from_residual.ensures.1 in
