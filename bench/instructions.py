@@ -4,10 +4,10 @@
     bench/instructions.py USES [KIND]
 
 USES is the built program crates/fleet_workers_uses/out/fleet_workers_uses. For each kind, 64 devices make 100 steps
-each: mixed steps, reads, ticks, puts, posts (runs.py says what they are). From the instructions of such a run those of
-reading the image and starting the devices are taken away. With a KIND it prints besides what each function takes of a
-step of that kind, itself, where that is one instruction or more. The counts are the same whatever else the machine
-does. It needs Debian's valgrind.
+each: mixed steps, reads, ticks, writes, tlv-writes, puts, posts (runs.py says what they are). From the instructions of
+such a run those of reading the image and starting the devices are taken away. With a KIND it prints besides what each
+function takes of a step of that kind, itself, where that is one instruction or more. The counts are the same whatever
+else the machine does. It needs Debian's valgrind.
 """
 import collections
 import os
@@ -24,6 +24,8 @@ KINDS = {
     "mixed": runs.mixed(EACH),
     "reads": runs.reads(EACH),
     "ticks": runs.ticks(EACH),
+    "writes": runs.writes(EACH),
+    "tlv-writes": runs.tlv_writes(EACH),
     "puts": [runs.put(100 - number % 100) for number in range(EACH)],
     "posts": runs.posts(EACH),
 }

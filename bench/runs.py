@@ -71,6 +71,21 @@ def acknowledgement(mid):
     return received(b"\x60\x00" + u16(mid))
 
 
+def write(mid, path, payload):
+    """A confirmable PUT at the path that these option bytes are, whose payload follows its Content-Format."""
+    return received(bytes([0x40, 0x03]) + u16(mid) + path + payload)
+
+
+def write_text(mid):
+    """A Write of /3/0/14, the UTC Offset, as plain text."""
+    return write(mid, b"\xb1\x33\x01\x30\x02\x31\x34\x10\xff", b"+02:00")
+
+
+def write_tlv(mid):
+    """A Write of /3/0 as TLV: the UTC Offset and the Timezone."""
+    return write(mid, b"\xb1\x33\x01\x30\x12\x2d\x16\xff", b"\xc6\x0e+02:00\xc8\x0f\x0dEurope/Berlin")
+
+
 def tick():
     return b"\x02" + struct.pack(">I", 1)
 
@@ -96,6 +111,16 @@ def mixed(count):
 def reads(count):
     """Reads alone, with rising message IDs, in one second."""
     return [read(number) for number in range(count)]
+
+
+def writes(count):
+    """Writes of a text alone, with rising message IDs, in one second."""
+    return [write_text(number) for number in range(count)]
+
+
+def tlv_writes(count):
+    """The same of an instance, with two records of TLV."""
+    return [write_tlv(number) for number in range(count)]
 
 
 def post(group):
