@@ -5,6 +5,7 @@ pub mod OneRecord
 pub mod Nodes
 pub mod OneTlv
 pub mod ReadTlv
+pub mod TlvPlaces
 pub mod Shortest
 pub mod NoShorter
 pub mod OneBytes

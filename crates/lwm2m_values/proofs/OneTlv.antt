@@ -12,7 +12,7 @@ use Rattle.lwm2m_values.specs.Tlv.{nesting, within}
 use Rattle.lwm2m_values.proofs.OneRecord.{one_record}
 
 -- no record that may stand there begins here
-abbrev IsEnd : Around → List ℕ → Type 0
+abbrev pub IsEnd : Around → List ℕ → Type 0
 IsEnd level at =
     (tree : Tree) (kind : RecordType) (id : ℕ) (head content rest : List ℕ) → IsHead head kind id (length content)
     → at ≡ head ++ (content ++ rest) → is_allowed level kind ≡ true → Holds tree kind id content → ⊥
@@ -23,10 +23,10 @@ end_nil level = λ tree kind id head content rest h e a w.
     e ∙ ap (λ x. x ++ (content ++ rest)) h.parts in
     absurd (omega (arith, ap length bytes))
 
-end_cut : (level : Around) (at : List ℕ) → IsCut at → IsEnd level at
+pub end_cut : (level : Around) (at : List ℕ) → IsCut at → IsEnd level at
 end_cut level at cut_off = λ tree kind id head content rest h e a w. cut_off head content rest kind id h e
 
-end_nesting : (level : Around) (kind : RecordType) (id : ℕ) (head content rest : List ℕ)
+pub end_nesting : (level : Around) (kind : RecordType) (id : ℕ) (head content rest : List ℕ)
     → IsHead head kind id (length content) → is_allowed level kind ≡ false → IsEnd level (head ++ (content ++ rest))
 end_nesting level kind id head content rest is_head allowed = λ tree k i h c r w e a holds.
     let same = one_record head h kind k id i content c rest r is_head w e in
@@ -49,7 +49,7 @@ inner_nodes (part i bytes) kind id content inner p e = let same : None ≡ Some 
 inner_nodes (single i bytes) kind id content inner p e = let same : None ≡ Some inner =
     sym (ap level_within p.0) ∙ e in absurd cc
 
-end_within : (level inner : Around) (kind : RecordType) (id : ℕ) (head content rest : List ℕ)
+pub end_within : (level inner : Around) (kind : RecordType) (id : ℕ) (head content rest : List ℕ)
     → IsHead head kind id (length content) → level_within kind ≡ Some inner
     → ((nodes : Trees) → IsNodes nodes inner content → ⊥) → IsEnd level (head ++ (content ++ rest))
 end_within level inner kind id head content rest is_head e unread = λ tree k i h c r w at a holds.
@@ -127,7 +127,7 @@ not_both _ _ _ (within level inner bytes nodes kind id head content rest e p h a
     (not_both inner content e w)) (record_long head content rest kind id h)
 
 -- two ends after whole records are one place
-one_place : (f g : Trees) (level : Around) (bytes r s : List ℕ) → IsFront level bytes f r → IsFront level bytes g s
+pub one_place : (f g : Trees) (level : Around) (bytes r s : List ℕ) → IsFront level bytes f r → IsFront level bytes g s
     → IsEnd level r → IsEnd level s → r ≡ s
 one_place f g level bytes r s p q u v = (one_front f g level p.0 q.0 r s p.1 q.1 (sym p.2 ∙ q.2) u v).1
 

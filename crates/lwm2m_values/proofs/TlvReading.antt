@@ -256,7 +256,7 @@ nodes_of_bytes_written f p = tlv_to f (shortest_tlv f) (nodes_written f Top p.0)
 
 -- what a reader owes
 
-none_case : (bytes : List ℕ) (e : TlvFault) (o : Option Trees) → nodes_of_bytes bytes ≡ o → HasFault Top bytes e
+pub none_case : (bytes : List ℕ) (e : TlvFault) (o : Option Trees) → nodes_of_bytes bytes ≡ o → HasFault Top bytes e
     → nodes_of_bytes bytes ≡ None
 none_case bytes e None q h = q
 none_case bytes e (Some f) q h = absurd (not_both Top bytes e h f (tlv_from f bytes q))

@@ -1,4 +1,5 @@
 pub mod Tlv
+pub mod TlvPlace
 pub mod Tree
 pub mod Value
 pub mod Reading

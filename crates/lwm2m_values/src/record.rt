@@ -3,6 +3,7 @@ ghost use Rattle.std.specs.Prelude.{if◌then◌else◌};
 ghost use Rattle.std.specs.Int.Digits.{number_from_digits};
 ghost use Rattle.lwm2m_values.specs.declared.level.RecordType.{RecordType};
 ghost use Rattle.lwm2m_values.specs.Tlv.{IsHead, IsCut};
+ghost use Rattle.lwm2m_values.specs.TlvPlace.{header_size};
 
 use crate::level::{RecordType, type_of};
 
@@ -44,18 +45,19 @@ fn size_of(first: u8, field: &[u8]) -> u32
 
 /// The head at the front of bytes: all of a record but its content.
 #[derive(Drop)]
-struct Head<'a> {
+pub(crate) struct Head<'a> {
     kind: RecordType,
     id: u16,
-    size: u32,
-    rest: &'a [u8],
+    pub(crate) size: u32,
+    pub(crate) rest: &'a [u8],
 }
 
-fn head_at(bytes: &[u8]) -> Option<Head<'_>>
+pub(crate) fn head_at(bytes: &[u8]) -> Option<Head<'_>>
     ensures found { IfSome result (λ h. (head : List ℕ) × IsHead head h.kind h.id h.size
         × (bytes.now ≡ head ++ h.rest.now)) }
     ensures cut { IfNone result ((head rest : List ℕ) (kind : RecordType) (id size : ℕ) → IsHead head kind id size
         → bytes.now ≡ head ++ rest → ⊥) }
+    ensures short { IfNone result (length bytes.now < header_size bytes.now) }
 {
     let (first, rest) = bytes.split_first()?;
     let (id, rest) = rest.split_at_checked(usize::from(1 + first / 32 % 2))?;
