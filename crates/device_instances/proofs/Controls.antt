@@ -1,6 +1,6 @@
 -- The instance of object 2 that a Create adds.
 use Rattle.std.proofs.Common.{◌≡◌, ◌≢◌, ℕ, Bool, true, false, cond, nat_le, eqb, length, Option, None, Some, pos}
-use Rattle.std.proofs.Common.{◌&&◌, ◌||◌, refl, sym, ap, ◌∙◌, ◌⊎◌, inl, inr}
+use Rattle.std.proofs.Common.{◌&&◌, refl, sym, ap, ◌∙◌, ◌⊎◌, inl, inr}
 use Rattle.std.specs.Option.{is_some}
 use Rattle.std.specs.Ordering.{eq_by_cmp}
 use Rattle.std.specs.FinMap as map
@@ -90,17 +90,14 @@ pub number_free : (s : Stored) (accounts j : ℕ) → new_number s accounts ≡ 
     → has_instance s (instance_at 2 j) ≡ false
 number_free s accounts j h = found_free s 2 j (chosen (nat_le 2 accounts) (smallest_free s 2) j h).1
 
-has_room : (a b c d : Bool) → (a || ((b && c) || d)) ≡ false → b ≡ true → c ≡ false
-has_room true b c d h e = cc
-has_room false true false d h e = refl
-has_room false true true d h e = cc
-has_room false false c d h e = cc
+has_room : (b c : Bool) → (b && c) ≡ false → b ≡ true → c ≡ false
+has_room true c h e = h
+has_room false c h e = cc
 
-pub number_fits : (s : Stored) (accounts j : ℕ) (a d : Bool)
-    → (a || ((nat_le 2 accounts && is_full s 2) || d)) ≡ false → new_number s accounts ≡ Some j
-    → is_full s 2 ≡ false
-number_fits s accounts j a d h e =
-    has_room a (nat_le 2 accounts) (is_full s 2) d h (chosen (nat_le 2 accounts) (smallest_free s 2) j e).0
+pub number_fits : (s : Stored) (accounts j : ℕ) → (nat_le 2 accounts && is_full s 2) ≡ false
+    → new_number s accounts ≡ Some j → is_full s 2 ≡ false
+number_fits s accounts j h e =
+    has_room (nat_le 2 accounts) (is_full s 2) h (chosen (nat_le 2 accounts) (smallest_free s 2) j e).0
 
 -- every other instance is there or not as before
 instances_by : (s : Stored) (b : Bool) (r : Option ℕ) (server : ℕ) (place p : InstancePath) → smallest_free s 2 ≡ r

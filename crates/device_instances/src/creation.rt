@@ -5,7 +5,7 @@ ghost use Rattle.object_defs.specs.Numbers.{access_control_owner};
 ghost use Rattle.instance_store.specs.Stored.{Stored, has_instance, resource_path, with_instance};
 ghost use Rattle.instance_store.specs.Stored.{without_values};
 ghost use Rattle.access_control.specs.Rights.{control};
-ghost use Rattle.lwm2m_payloads.specs.Changes.{is_too_many, has_too_many, instance_written};
+ghost use Rattle.lwm2m_payloads.specs.Changes.{has_too_many, instance_written};
 ghost use Rattle.object_defs.specs.declared.path.InstancePath.{InstancePath};
 ghost use Rattle.object_defs.specs.declared.path.ResourcePath.{ResourcePath};
 ghost use Rattle.lwm2m_payloads.specs.declared.given.Mode.TheVariants.{Replace};
@@ -13,61 +13,15 @@ ghost use Rattle.device_instances.specs.Numbers.{instance_at, smallest_free};
 ghost use Rattle.device_instances.specs.Creations.{is_full, has_no_room, with_number, with_control, with_created};
 
 use crate::number::free_number;
+use crate::room::lack_of_room;
 use access_control::control;
 use instance_store::{Store, StoreFault};
-use lwm2m_payloads::{Assignments, Given, Mode, is_kept, write_instance};
+use lwm2m_payloads::{Assignments, Mode, write_instance};
 use lwm2m_values::Value;
 use object_defs::object_number::ACCESS_CONTROL;
 use object_defs::resource_number::{ACCESS_CONTROL_OWNER, ACL, OBJECT_ID, OBJECT_INSTANCE_ID};
 use object_defs::{InstancePath, ResourceDef};
 use std::alloc::AllocError;
-
-/// Whether an object has 64 instances.
-fn is_full(store: &Store, object: u16) -> bool
-    ensures { result ≡ is_full store.now object }
-{
-    store.instances(object).len() >= 64
-}
-
-/// Whether a new resource would have more than 32 parts.
-fn is_too_many(given: &Given) -> bool
-    ensures { (stored : Stored) (path : ResourcePath) → result ≡ is_too_many Replace stored path given.now }
-{
-    match given {
-        Given::Single(_) => false,
-        Given::Parts(parts) => parts.as_slice().len() > 32,
-    }
-}
-
-/// Whether what is given makes more than 32 parts of one resource.
-fn has_too_many(resources: &[ResourceDef], given: &Assignments) -> bool
-    ensures { (stored : Stored) (place : InstancePath)
-        → result ≡ has_too_many Replace resources.now stored place given.now }
-{
-    for assignment in given.as_slice() {
-        if is_kept(resources, assignment.resource) && is_too_many(&assignment.given) {
-            return true;
-        }
-    }
-    false
-}
-
-/// Whether a store has no room for a new instance with what it is given (this profile's limits): its object has 64
-/// instances; or, with two accounts or more, Access Control has; or a resource would have more than 32 parts. It takes
-/// no memory.
-pub fn has_no_room(
-    store: &Store,
-    accounts: usize,
-    resources: &[ResourceDef],
-    place: InstancePath,
-    given: &Assignments,
-) -> bool
-    ensures { result ≡ has_no_room store.now accounts resources.now place given.now }
-{
-    is_full(store, place.object)
-        || accounts >= 2 && is_full(store, ACCESS_CONTROL)
-        || has_too_many(resources, given)
-}
 
 /// Adds an instance for which there is room.
 fn add(store: &mut Store, place: InstancePath) -> Result<(), AllocError>
@@ -217,7 +171,7 @@ fn make(
 
 /// Creates an instance of an object other than 2 with what its resources are given, for a server of a device that has
 /// this many accounts. With two accounts or more it also adds an instance of object 2 Access Control, which refers to
-/// it and has the server as owner. `Exists`, otherwise `Full` exactly if there is no room (`has_no_room`): both change
+/// it and has the server as owner. `Exists`, otherwise `Full` exactly if there is no room (`lack_of_room`): both change
 /// nothing. If an allocation fails, part of this may be done.
 pub fn create(
     store: &mut Store,
@@ -241,7 +195,7 @@ pub fn create(
     if store.has_instance(place) {
         return Err(StoreFault::Exists);
     }
-    if has_no_room(store, accounts, resources, place, &given) {
+    if lack_of_room(store, accounts, resources, place, &given).is_some() {
         return Err(StoreFault::Full);
     }
     make(store, accounts, server, resources, place, given)?;

@@ -5,7 +5,9 @@ mod creation;
 mod deletion;
 pub mod laws;
 mod number;
+mod room;
 
-pub use creation::{create, has_no_room};
+pub use creation::create;
 pub use deletion::delete;
 pub use number::{free_number, number_for};
+pub use room::{NoRoom, lack_of_room};

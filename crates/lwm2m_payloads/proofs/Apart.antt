@@ -1,7 +1,7 @@
 -- What is given to one resource leaves the values of the others, so that each has the room, and the values to replace,
 -- that it had.
 use Rattle.std.proofs.Common.{◌≡◌, ℕ, ◌+◌, ◌==◌, Bool, true, false, not, ◌&&◌, ◌||◌, List, [], ◌∷◌, ◌++◌, length}
-use Rattle.std.proofs.Common.{nat_lt, Option, None, Some, refl, sym, ap, ◌∙◌, arith, true≢false, cond, append_assoc}
+use Rattle.std.proofs.Common.{Option, None, Some, refl, sym, ap, ◌∙◌, arith, true≢false, cond, append_assoc}
 use Rattle.std.proofs.Common.{if◌then◌else◌}
 use Rattle.std.specs.Option.{is_some}
 use Rattle.std.specs.List.{filter, list_any, AllByRecursion, IsDistinct}
@@ -27,10 +27,12 @@ use Rattle.lwm2m_payloads.specs.declared.given.Given.TheVariants.{Single, Parts}
 use Rattle.lwm2m_payloads.specs.declared.given.Mode.{Mode}
 use Rattle.lwm2m_payloads.specs.declared.given.Mode.TheVariants.{Replace, Update}
 use Rattle.lwm2m_payloads.specs.Changes.{resource_of, with_parts, with_given, with_assignments, is_kept, is_other}
-use Rattle.lwm2m_payloads.specs.Changes.{is_too_many, has_too_many, is_lost, without_lost, gives_new, has_new}
+use Rattle.lwm2m_payloads.specs.Changes.{above_limit, is_too_many, has_too_many, is_lost, without_lost, gives_new}
+use Rattle.lwm2m_payloads.specs.Changes.{has_new}
 use Rattle.lwm2m_payloads.specs.Once.{ResourcesOnce}
 use Rattle.lwm2m_payloads.specs.PartList.{PartList}
 use Rattle.lwm2m_payloads.specs.Written.{is_taken_away}
+use Rattle.lwm2m_payloads.proofs.Exceeding.{any_exceeds}
 use Rattle.lwm2m_payloads.proofs.Held.{held_distinct, held_at}
 use Rattle.lwm2m_payloads.proofs.New.{later}
 use Rattle.lwm2m_payloads.proofs.Places.{at_number, at_part, at_single, at_without, lies_own}
@@ -60,8 +62,8 @@ pub cleared : (stored : Stored) (p : ResourcePath) (parts : PartList)
     → is_too_many Update (without_values stored (resource_path p)) p (Parts parts)
     ≡ is_too_many Replace stored p (Parts parts)
 cleared stored p parts =
-    ap (λ ns. nat_lt 32 (length parts + length (filter (is_other parts) ns))) (none_held stored p)
-    ∙ ap (λ n. nat_lt 32 n) (no_more (length parts))
+    ap (λ ns. is_some (above_limit (length parts + length (filter (is_other parts) ns)))) (none_held stored p)
+    ∙ ap (λ n. is_some (above_limit n)) (no_more (length parts))
 
 -- ---- the values elsewhere stay
 
@@ -131,7 +133,8 @@ same_room : (mode : Mode) (g : Given) (s t : Stored) (p : ResourcePath)
 same_room mode (Single v) s t p h = refl
 same_room Replace (Parts parts) s t p h = refl
 same_room Update (Parts parts) s t p h =
-    ap (λ n. nat_lt 32 (length parts + n)) (length-from_same_keys nat_eq_equiv (filter (is_other parts) (parts_of s p))
+    ap (λ n. is_some (above_limit (length parts + n)))
+    (length-from_same_keys nat_eq_equiv (filter (is_other parts) (parts_of s p))
     (filter (is_other parts) (parts_of t p))
     (kept_distinct (is_other parts) (parts_of s p) (held_distinct s p))
     (kept_distinct (is_other parts) (parts_of t p) (held_distinct t p))
@@ -179,7 +182,10 @@ pub one_means : (mode : Mode) (resources : List ResourceDef) (stored : Stored) (
     → ResourcesOnce given
     → (is_kept resources a && is_too_many mode (with_assignments mode resources stored place done)
     (resource_of place a.resource) a.given) ≡ true → has_too_many mode resources stored place given ≡ true
-one_means mode = one_of (is_too_many mode) (λ g s t p h. same_room mode g s t p (λ n. h (Some n))) mode
+one_means mode resources stored place given done a rest is once holds =
+    any_exceeds mode resources stored place given
+    ∙ one_of (is_too_many mode) (λ g s t p h. same_room mode g s t p (λ n. h (Some n))) mode resources stored place
+    given done a rest is once holds
 
 same_parts : (parts : PartList) (s t : Stored) (p : ResourcePath)
     → ((n : Option ℕ) → value_at s (at_number p n) ≡ value_at t (at_number p n))

@@ -20,8 +20,9 @@ use Rattle.object_defs.specs.declared.path.ResourcePath.{ResourcePath}
 use Rattle.instance_store.specs.Stored.{Stored, value_at, with_value, parts_of, is_full, has_instance}
 use Rattle.lwm2m_payloads.specs.declared.given.Given.TheVariants.{Parts}
 use Rattle.lwm2m_payloads.specs.declared.given.Mode.TheVariants.{Update}
-use Rattle.lwm2m_payloads.specs.Changes.{with_parts, is_other, is_too_many}
+use Rattle.lwm2m_payloads.specs.Changes.{with_parts, is_other, is_too_many, parts_behind}
 use Rattle.lwm2m_payloads.specs.PartList.{PartList}
+use Rattle.lwm2m_payloads.proofs.Exceeding.{too_many}
 use Rattle.lwm2m_payloads.proofs.Held.{held_distinct, held_at}
 use Rattle.lwm2m_payloads.proofs.Places.{at_part, lies_own}
 use Rattle.lwm2m_payloads.proofs.Written.{parts_instances}
@@ -119,7 +120,8 @@ new_fits stored p done e rest few new =
     let sum = length-append (map_list (λ e. e.0) parts) (filter (is_other parts) (parts_of stored p))
     ∙ ap (λ k. k + length (filter (is_other parts) (parts_of stored p))) (length-map parts (λ e. e.0)) in
     below (length (parts_of now p)) (length parts) (length (filter (is_other parts) (parts_of stored p)))
-    (subst (λ k. length (e.0 ∷ parts_of now p) ≤ k) sum count) few
+    (subst (λ k. length (e.0 ∷ parts_of now p) ≤ k) sum count)
+    (sym (too_many (parts_behind Update stored p parts)) ∙ few)
 
 -- no part finds its resource full where all of them have room
 never_full : (stored : Stored) (p : ResourcePath) (done : PartList) (e : ℕ × Value) (rest : PartList)

@@ -1,5 +1,6 @@
 -- The arguments of an Execute (OMA LwM2M 1.1 Core).
-use Rattle.std.specs.Prelude.{◌≡◌, ℕ, ◌==◌, nat_le, Bool, true, ◌&&◌, ◌||◌, List, [], ◌∷◌, ◌++◌, ◌⊎◌}
+use Rattle.std.specs.Prelude.{◌≡◌, ℕ, ◌+◌, ◌<◌, ◌≤◌, ◌==◌, nat_le, Bool, true, ◌&&◌, ◌||◌, List, [], ◌∷◌, ◌++◌, length}
+use Rattle.std.specs.Prelude.{take, ◌⊎◌}
 use Rattle.std.specs.List.{list_all}
 
 abbrev pub is_between : ℕ → ℕ → ℕ → Bool
@@ -27,3 +28,15 @@ pub data AreSome : List ℕ → Type 0 where
 -- no arguments, or some
 abbrev pub AreArguments : List ℕ → Type 0
 AreArguments payload = (payload ≡ []) ⊎ AreSome payload
+
+-- some arguments begin with these bytes
+abbrev pub BeginArguments : List ℕ → Type 0
+BeginArguments bytes = (others : List ℕ) × AreArguments (bytes ++ others)
+
+-- where a payload stops being arguments: some arguments begin with its first n bytes, and none with one byte more,
+-- unless these are all of it
+pub record IsArgumentFault (payload : List ℕ) (n : ℕ) : Type 0 where
+  pub refused : ¬ AreArguments payload
+  pub within : n ≤ length payload
+  pub begun : BeginArguments (take n payload)
+  pub ended : n < length payload → ¬ BeginArguments (take (n + 1) payload)

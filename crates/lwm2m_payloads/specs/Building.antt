@@ -1,9 +1,9 @@
 -- How records are put together and taken apart, as clauses of private functions name it. No promise rests on it.
-use Rattle.std.specs.Prelude.{ℕ, ◌==◌, Option, None, Some, option_map, if◌then◌else◌}
-use Rattle.lwm2m_values.specs.declared.kind.ValueKind.{ValueKind}
-use Rattle.lwm2m_values.specs.declared.value.Value.{Value}
-use Rattle.lwm2m_values.specs.Reading.{value_of_bytes}
+use Rattle.std.specs.Prelude.{ℕ, ◌==◌, Option, None, Some, Result, Ok, Err, if◌then◌else◌}
 use Rattle.lwm2m_values.specs.Tree.{Tree, Trees, instance, multi, part, single, none, more}
+use Rattle.lwm2m_payloads.specs.declared.fault.PayloadFault.{PayloadFault}
+use Rattle.lwm2m_payloads.specs.declared.given.Assignment.{Assignment}
+use Rattle.lwm2m_payloads.specs.declared.given.Given.{Given}
 
 -- a record after others
 abbrev pub with_last : Trees → Tree → Trees
@@ -30,9 +30,7 @@ sole none = None
 sole (more t none) = Some t
 sole (more t (more u nodes)) = None
 
--- the number and the value of a Resource Instance
-abbrev pub part_in : ValueKind → Tree → Option (ℕ × Value)
-part_in kind (part n bytes) = option_map (λ v. (n, v)) (value_of_bytes kind bytes)
-part_in kind (instance i inner) = None
-part_in kind (multi r inner) = None
-part_in kind (single r bytes) = None
+-- what is given, as an assignment to the resource of this number
+abbrev pub assigned_to : ℕ → Result Given PayloadFault → Result Assignment PayloadFault
+assigned_to n (Ok g) = Ok (record { resource = n; given = g })
+assigned_to n (Err e) = Err e

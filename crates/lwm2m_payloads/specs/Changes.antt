@@ -1,6 +1,6 @@
 -- What a Write changes (OMA LwM2M 1.1 Core, Write: Replace and Partial Update).
-use Rattle.std.specs.Prelude.{◌≡◌, ℕ, ◌+◌, ◌==◌, nat_lt, Bool, false, not, ◌&&◌, List, [], ◌∷◌, length, Option, None}
-use Rattle.std.specs.Prelude.{Some, is_some, if◌then◌else◌}
+use Rattle.std.specs.Prelude.{◌≡◌, ℕ, ◌+◌, ◌-◌, ◌^◌, ◌==◌, nat_lt, min, Bool, false, not, ◌&&◌, List, [], ◌∷◌, length}
+use Rattle.std.specs.Prelude.{find, Option, None, Some, is_some, option_map, option_and_then, if◌then◌else◌}
 use Rattle.std.specs.List.{filter, list_any}
 use Rattle.object_defs.specs.Catalog.{resource_in}
 use Rattle.object_defs.specs.Operations.{can_read, can_write}
@@ -9,6 +9,7 @@ use Rattle.object_defs.specs.declared.definition.ResourceDef.{ResourceDef}
 use Rattle.object_defs.specs.declared.path.InstancePath.{InstancePath}
 use Rattle.object_defs.specs.declared.path.ResourcePath.{ResourcePath}
 use Rattle.instance_store.specs.Stored.{Stored, value_at, parts_of, resource_path, with_value, without_values}
+use Rattle.lwm2m_payloads.specs.declared.counts.Excess.{Excess}
 use Rattle.lwm2m_payloads.specs.declared.given.Assignment.{Assignment}
 use Rattle.lwm2m_payloads.specs.declared.given.Given.{Given}
 use Rattle.lwm2m_payloads.specs.declared.given.Given.TheVariants.{Single, Parts}
@@ -75,15 +76,36 @@ abbrev pub KeepsParts : Mode → Given → Type 0
 KeepsParts mode (Single value) = ⊥
 KeepsParts mode (Parts parts) = mode ≡ Update
 
--- a resource has 32 parts at most (this profile)
+-- a count of parts, where it is more than 32; one above 2^64 - 1 is told as that
+abbrev pub above_limit : ℕ → Option ℕ
+above_limit count = if nat_lt 32 count then Some (min count (2 ^ 64 - 1)) else None
+
+-- how many parts a resource would have, where these are more than 32 (this profile)
+abbrev pub excess_of : Mode → Stored → ResourcePath → Given → Option ℕ
+excess_of mode stored p (Single value) = None
+excess_of mode stored p (Parts parts) = above_limit (parts_behind mode stored p parts)
+
+-- a resource has 32 parts at most
 abbrev pub is_too_many : Mode → Stored → ResourcePath → Given → Bool
-is_too_many mode stored p (Single value) = false
-is_too_many mode stored p (Parts parts) = nat_lt 32 (parts_behind mode stored p parts)
+is_too_many mode stored p given = is_some (excess_of mode stored p given)
+
+-- an assignment that is kept, and exceeds
+abbrev pub excess_by : Mode → List ResourceDef → Stored → InstancePath → Assignment → Option Excess
+excess_by mode resources stored place a =
+    if is_kept resources a
+    then option_map (λ n. record { resource = a.resource; count = n })
+    (excess_of mode stored (resource_of place a.resource) a.given)
+    else None
+
+-- the first of these
+abbrev pub first_excess : Mode → List ResourceDef → Stored → InstancePath → List Assignment → Option Excess
+first_excess mode resources stored place given =
+    option_and_then (excess_by mode resources stored place)
+    (find (λ a. is_some (excess_by mode resources stored place a)) given)
 
 -- some resource would have more
 abbrev pub has_too_many : Mode → List ResourceDef → Stored → InstancePath → List Assignment → Bool
-has_too_many mode resources stored place given =
-    list_any (λ a. is_kept resources a && is_too_many mode stored (resource_of place a.resource) a.given) given
+has_too_many mode resources stored place given = is_some (first_excess mode resources stored place given)
 
 -- something that a resource is given has no value there to replace: Replace has removed its parts by then
 abbrev pub gives_new : Mode → Stored → ResourcePath → Given → Bool

@@ -7,6 +7,7 @@ pub mod Least
 pub mod Nodes
 pub mod Once
 pub mod PartList
+pub mod Results
 pub mod Scanning
 pub mod Shown
 pub mod Written

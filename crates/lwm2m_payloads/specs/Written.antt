@@ -1,6 +1,6 @@
 -- What stands at each full path of an instance after a Write (OMA LwM2M 1.1 Core, Write: Replace and Partial Update).
 use Rattle.std.specs.Prelude.{◌≡◌, ℕ, ◌==◌, false, ◌&&◌, Bool, List, [], ◌∷◌, Option, None, Some, find, option_map}
-use Rattle.std.specs.Prelude.{if◌then◌else◌}
+use Rattle.std.specs.Prelude.{Ok, if◌then◌else◌}
 use Rattle.std.specs.List.{list_any}
 use Rattle.std.specs.Option.{option_or}
 use Rattle.lwm2m_values.specs.declared.value.Value.{Value}
@@ -100,10 +100,10 @@ KeepsInstances =
 abbrev pub PayloadsGiveOnce : Type 0
 PayloadsGiveOnce =
     ((d : ResourceDef) (format : Format) (payload : List ℕ) (given : Given)
-    → resource_given d format payload ≡ Some given → GivenOnce given)
+    → resource_given d format payload ≡ Ok given → GivenOnce given)
     × ((d : ResourceDef) (n : ℕ) (format : Format) (payload : List ℕ) (given : Given)
-    → part_given d n format payload ≡ Some given → GivenOnce given)
+    → part_given d n format payload ≡ Ok given → GivenOnce given)
     × ((resources : List ResourceDef) (i : ℕ) (payload : List ℕ) (given : List Assignment)
-    → instance_given resources i payload ≡ Some given → EachOnce given)
+    → instance_given resources i payload ≡ Ok given → EachOnce given)
     × ((resources : List ResourceDef) (payload : List ℕ) (creation : Creation)
-    → creation_given resources payload ≡ Some creation → EachOnce creation.assigned)
+    → creation_given resources payload ≡ Ok creation → EachOnce creation.assigned)

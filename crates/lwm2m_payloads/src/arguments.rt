@@ -1,5 +1,5 @@
-ghost use Rattle.std.specs.Prelude.{◌≡◌, ◌↔◌, IsTrue};
-ghost use Rattle.lwm2m_payloads.specs.Arguments.{is_digit, is_text_byte, AreArguments};
+ghost use Rattle.std.specs.Prelude.{◌≡◌, ◌↔◌, not, is_some, IsTrue, MatchOption};
+ghost use Rattle.lwm2m_payloads.specs.Arguments.{is_digit, is_text_byte, AreArguments, IsArgumentFault};
 ghost use Rattle.lwm2m_payloads.specs.Scanning.{are_arguments, step, is_end, run};
 
 /// A place in the arguments, by what stands before it.
@@ -132,4 +132,24 @@ pub fn are_arguments(payload: &[u8]) -> bool
     ensures test { result ≡ are_arguments payload.now }
 {
     are_read(payload)
+}
+
+/// Where a payload stops being arguments: the place of the first byte, counted from 0, that cannot stand there; or the
+/// payload's length, where it ends too early. None where it is arguments.
+pub fn argument_fault(payload: &[u8]) -> Option<usize>
+    ensures place { MatchOption result (AreArguments payload.now) (IsArgumentFault payload.now) }
+    ensures test { is_some result ≡ not (are_arguments payload.now) }
+{
+    let mut place = Place::Start;
+    let mut at: usize = 0;
+    for byte in payload {
+        match place.step(*byte) {
+            Place::Nowhere => return Some(at),
+            next => {
+                place = next;
+                at += 1;
+            }
+        }
+    }
+    if place.is_end() { None } else { Some(at) }
 }

@@ -27,7 +27,7 @@ fn put_parts(store: &mut Store, path: ResourcePath, parts: Parts) -> Result<(), 
 
 /// Sets what a resource is given: its single value, or parts. Under Replace it then has these parts and no others;
 /// under Update it keeps the others. `Absent`: there is no such instance; `Full`: the resource would have more than 32
-/// parts, for which `is_too_many` is the test. An allocation can fail only if something is given, and kept, that
+/// parts, for which `excess_of` is the test. An allocation can fail only if something is given, and kept, that
 /// replaces no value. After an error some of its values may be gone or set.
 pub fn set_given(
     mode: Mode,
@@ -130,7 +130,7 @@ fn clear_lost(
 
 /// Writes what an instance is given (OMA LwM2M 1.1 Core, Write). Replace first takes away the optional writable
 /// resources that are not named. Values of write-only resources are not kept. `Absent`: there is no such instance;
-/// `Full`: a resource would have more than 32 parts, for which `has_too_many` is the test. An allocation can fail only
+/// `Full`: a resource would have more than 32 parts, for which `first_excess` is the test. An allocation can fail only
 /// if something is given, and kept, that replaces no value. After an error a part of this may be done.
 pub fn write_instance(
     mode: Mode,

@@ -1,108 +1,164 @@
-ghost use Rattle.std.specs.Prelude.{◌≡◌, IfOk, option_map};
-ghost use Rattle.lwm2m_values.specs.Tree.{tree_of, trees_of};
-ghost use Rattle.lwm2m_payloads.specs.Building.{part_in};
-ghost use Rattle.lwm2m_payloads.specs.Given.{parts_given, some_parts, given_by, one_part};
-ghost use Rattle.lwm2m_payloads.specs.declared.given.Given.TheVariants.{Single};
+ghost use Rattle.std.specs.Prelude.{◌≡◌, IfOk};
+ghost use Rattle.lwm2m_values.specs.Tree.{multi, single, tree_of, trees_of};
+ghost use Rattle.lwm2m_payloads.specs.Given.{at_record, given_by, number_in, one_part, part_in, parts_given, some_parts};
+ghost use Rattle.lwm2m_payloads.specs.Results.{result_map};
+ghost use Rattle.lwm2m_payloads.specs.declared.fault.PayloadFault.TheVariants as faults;
+ghost use Rattle.lwm2m_payloads.specs.declared.given.Given.TheVariants as given;
 
+use crate::fault::{PayloadFault, RecordFault};
 use crate::given::{Given, Parts};
+use crate::nodes::has_number;
 use crate::spelled::value_in_bytes;
-use lwm2m_values::{Node, Value, ValueKind};
+use lwm2m_values::{Node, Value, ValueFault, ValueKind, value_of};
 use object_defs::ResourceDef;
 use std::alloc::{AllocError, Global};
 
-/// The number and the value of a Resource Instance.
-fn part_in(alloc: Global, kind: ValueKind, node: &Node) -> Result<Option<(u16, Value)>, AllocError>
-    ensures { IfOk result (λ e. e ≡ part_in kind (tree_of node.now)) }
+/// The number and the value of a part of a Multiple Resource, before the others.
+fn part_in(
+    alloc: Global,
+    kind: ValueKind,
+    node: &Node,
+    others: &[Node],
+) -> Result<Result<(u16, Value), RecordFault>, AllocError>
+    ensures { IfOk result (λ e. e ≡ part_in kind (tree_of node.now) (trees_of others.now)) }
 {
     match node {
-        Node::Part { id, bytes } => match value_in_bytes(alloc, kind, bytes.as_slice())? {
-            None => Ok(None),
-            Some(value) => Ok(Some((*id, value))),
-        },
-        Node::Instance { .. } => Ok(None),
-        Node::Multi { .. } => Ok(None),
-        Node::Single { .. } => Ok(None),
+        Node::Part { id, bytes } => {
+            let part = *id;
+            let bytes = bytes.as_slice();
+            let Some(value) = value_in_bytes(alloc, kind, bytes)? else {
+                let length = bytes.len();
+                return Ok(Err(RecordFault::Part { part, kind, length }));
+            };
+            if has_number(part, others) {
+                return Ok(Err(RecordFault::PartTwice { part }));
+            }
+            Ok(Ok((part, value)))
+        }
+        Node::Instance { .. } => Ok(Err(RecordFault::Form)),
+        Node::Multi { .. } => Ok(Err(RecordFault::Form)),
+        Node::Single { .. } => Ok(Err(RecordFault::Form)),
     }
 }
 
 /// The parts that a Multiple Resource gives, each number once.
-fn parts_given(alloc: Global, kind: ValueKind, nodes: &[Node]) -> Result<Option<Parts>, AllocError>
+fn parts_given(
+    alloc: Global,
+    kind: ValueKind,
+    nodes: &[Node],
+) -> Result<Result<Parts, RecordFault>, AllocError>
     ensures { IfOk result (λ p. p ≡ parts_given kind (trees_of nodes.now)) }
 {
     let mut parts = Parts::new(alloc);
-    for node in nodes {
-        let Some(part) = part_in(alloc, kind, node)? else {
-            return Ok(None);
-        };
-        if parts.has(part.0) {
-            return Ok(None);
+    let mut rest = nodes;
+    while let [node, others @ ..] = rest {
+        match part_in(alloc, kind, node, others)? {
+            Err(fault) => return Ok(Err(fault)),
+            Ok(part) => parts.push(part)?,
         }
-        parts.push(part)?;
+        rest = others;
     }
-    Ok(Some(parts))
+    Ok(Ok(parts))
 }
 
-/// A mandatory resource is given one part at least.
-fn some_parts(mandatory: bool, parts: Option<Parts>) -> Option<Given>
-    ensures { result ≡ some_parts mandatory parts }
-{
-    let parts = parts?;
-    if mandatory && parts.as_slice().len() == 0 {
-        return None;
-    }
-    Some(Given::Parts(parts))
-}
-
-/// A single value, where there is one.
-pub(crate) fn one_value(value: Option<Value>) -> Option<Given>
-    ensures { result ≡ option_map Single value }
-{
-    match value {
-        None => None,
-        Some(value) => Some(Given::Single(value)),
-    }
-}
-
-/// A value for the part of this number, where there is one.
-pub(crate) fn one_part(
+/// The parts that a Multiple Resource gives: one at least, where its resource is mandatory.
+fn some_parts(
     alloc: Global,
-    number: u16,
-    value: Option<Value>,
-) -> Result<Option<Given>, AllocError>
+    definition: ResourceDef,
+    nodes: &[Node],
+) -> Result<Result<Parts, RecordFault>, AllocError>
+    ensures { IfOk result (λ p. result_map given.Parts p ≡ some_parts definition (trees_of nodes.now)) }
+{
+    match nodes {
+        [] => {
+            if definition.mandatory {
+                return Ok(Err(RecordFault::Empty));
+            }
+            Ok(Ok(Parts::new(alloc)))
+        }
+        _ => parts_given(alloc, definition.kind, nodes),
+    }
+}
+
+/// A value for the part of this number.
+pub(crate) fn one_part(alloc: Global, number: u16, value: Value) -> Result<Given, AllocError>
     ensures { IfOk result (λ g. g ≡ one_part number value) }
 {
-    let Some(value) = value else {
-        return Ok(None);
-    };
     let mut parts = Parts::new(alloc);
     parts.push((number, value))?;
-    Ok(Some(Given::Parts(parts)))
+    Ok(Given::Parts(parts))
 }
 
-/// What a record gives to the resource of this definition.
+/// A fault of the record of this place and number.
+pub(crate) fn refused(place: usize, number: u16, fault: RecordFault) -> PayloadFault
+    ensures { result ≡ faults.Record place number fault }
+{
+    PayloadFault::Record {
+        place,
+        number,
+        fault,
+    }
+}
+
+/// What the Resource of this place and number gives to the resource of this definition.
+fn single_given(
+    alloc: Global,
+    definition: ResourceDef,
+    place: usize,
+    number: u16,
+    bytes: &[u8],
+) -> Result<Result<Given, PayloadFault>, AllocError>
+    ensures { IfOk result (λ g. g ≡ at_record place number (given_by definition (single number bytes.now))) }
+{
+    if definition.multiple {
+        return Ok(Err(refused(place, number, RecordFault::Form)));
+    }
+    let kind = definition.kind;
+    match value_of(alloc, kind, bytes) {
+        Ok(value) => Ok(Ok(Given::Single(value))),
+        Err(ValueFault::BadValue) => {
+            let length = bytes.len();
+            Ok(Err(refused(place, number, RecordFault::Value { kind, length })))
+        }
+        Err(ValueFault::Memory) => Err(AllocError),
+    }
+}
+
+/// What the Multiple Resource of this place and number gives to the resource of this definition.
+fn multi_given(
+    alloc: Global,
+    definition: ResourceDef,
+    place: usize,
+    number: u16,
+    nodes: &[Node],
+) -> Result<Result<Given, PayloadFault>, AllocError>
+    ensures { IfOk result (λ g. g ≡ at_record place number (given_by definition (multi number (trees_of nodes.now)))) }
+{
+    if !definition.multiple {
+        return Ok(Err(refused(place, number, RecordFault::Form)));
+    }
+    match some_parts(alloc, definition, nodes)? {
+        Ok(parts) => Ok(Ok(Given::Parts(parts))),
+        Err(fault) => Ok(Err(refused(place, number, fault))),
+    }
+}
+
+/// What a record, which has this place, gives to the resource of this definition.
 pub(crate) fn given_by(
     alloc: Global,
     definition: ResourceDef,
+    place: usize,
     node: &Node,
-) -> Result<Option<Given>, AllocError>
-    ensures { IfOk result (λ g. g ≡ given_by definition (tree_of node.now)) }
+) -> Result<Result<Given, PayloadFault>, AllocError>
+    ensures { IfOk result (λ g. g
+        ≡ at_record place (number_in (tree_of node.now)) (given_by definition (tree_of node.now))) }
 {
     match node {
-        Node::Single { bytes, .. } => {
-            if definition.multiple {
-                return Ok(None);
-            }
-            let value = value_in_bytes(alloc, definition.kind, bytes.as_slice())?;
-            Ok(one_value(value))
+        Node::Single { id, bytes } => {
+            single_given(alloc, definition, place, *id, bytes.as_slice())
         }
-        Node::Multi { parts, .. } => {
-            if !definition.multiple {
-                return Ok(None);
-            }
-            let parts = parts_given(alloc, definition.kind, parts)?;
-            Ok(some_parts(definition.mandatory, parts))
-        }
-        Node::Part { .. } => Ok(None),
-        Node::Instance { .. } => Ok(None),
+        Node::Multi { id, parts } => multi_given(alloc, definition, place, *id, parts),
+        Node::Part { id, .. } => Ok(Err(refused(place, *id, RecordFault::Form))),
+        Node::Instance { id, .. } => Ok(Err(refused(place, *id, RecordFault::Form))),
     }
 }

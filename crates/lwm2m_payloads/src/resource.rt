@@ -1,25 +1,56 @@
 ghost use Rattle.std.specs.Prelude.{◌≡◌, IfOk};
+ghost use Rattle.lwm2m_values.specs.Reading.{value_of_bytes, value_of_text};
 ghost use Rattle.lwm2m_values.specs.Tree.{tree_of, trees_of};
-ghost use Rattle.lwm2m_payloads.specs.Given.{number_in, lone_record, lone_part, part_record, resource_given};
-ghost use Rattle.lwm2m_payloads.specs.Given.{part_given};
+ghost use Rattle.lwm2m_payloads.specs.Given.{at_record, lone_part, lone_record, number_in, one_part, part_by, part_given};
+ghost use Rattle.lwm2m_payloads.specs.Given.{part_record, resource_given, whole_value};
+ghost use Rattle.lwm2m_payloads.specs.Results.{result_map};
+ghost use Rattle.lwm2m_payloads.specs.declared.format.Format.TheVariants as Format;
+ghost use Rattle.lwm2m_payloads.specs.declared.given.Given.TheVariants.{Single};
 
+use crate::fault::{PayloadFault, RecordFault};
 use crate::format::Format;
 use crate::given::Given;
-use crate::parts::{given_by, one_part, one_value};
-use crate::spelled::{records_in, sole, value_in_bytes, value_in_text};
-use lwm2m_values::{Node, ValueKind};
+use crate::nodes::{count_of, number_in, sole};
+use crate::parts::{given_by, one_part, refused};
+use crate::spelled::{records_in, value_in_bytes, value_in_text};
+use lwm2m_values::{Node, Value, ValueFault, ValueKind, read_text, value_of};
 use object_defs::ResourceDef;
 use std::alloc::{AllocError, Global};
 
-/// The number of a record.
-pub fn number_in(node: &Node) -> u16
-    ensures { result ≡ number_in (tree_of node.now) }
+/// The single value that a plain text spells.
+#[inline]
+fn single_text(
+    alloc: Global,
+    kind: ValueKind,
+    text: &[u8],
+) -> Result<Result<Given, PayloadFault>, AllocError>
+    ensures { IfOk result (λ g. g ≡ result_map Single (whole_value kind text.now (value_of_text kind text.now))) }
 {
-    match node {
-        Node::Instance { id, .. } => *id,
-        Node::Multi { id, .. } => *id,
-        Node::Part { id, .. } => *id,
-        Node::Single { id, .. } => *id,
+    match read_text(alloc, kind, text) {
+        Ok(value) => Ok(Ok(Given::Single(value))),
+        Err(ValueFault::BadValue) => {
+            let length = text.len();
+            Ok(Err(PayloadFault::NotValue { kind, length }))
+        }
+        Err(ValueFault::Memory) => Err(AllocError),
+    }
+}
+
+/// The single value with these bytes.
+fn single_bytes(
+    alloc: Global,
+    kind: ValueKind,
+    bytes: &[u8],
+) -> Result<Result<Given, PayloadFault>, AllocError>
+    ensures { IfOk result (λ g. g ≡ result_map Single (whole_value kind bytes.now (value_of_bytes kind bytes.now))) }
+{
+    match value_of(alloc, kind, bytes) {
+        Ok(value) => Ok(Ok(Given::Single(value))),
+        Err(ValueFault::BadValue) => {
+            let length = bytes.len();
+            Ok(Err(PayloadFault::NotValue { kind, length }))
+        }
+        Err(ValueFault::Memory) => Err(AllocError),
     }
 }
 
@@ -28,41 +59,76 @@ fn lone_record(
     alloc: Global,
     definition: ResourceDef,
     nodes: &[Node],
-) -> Result<Option<Given>, AllocError>
+) -> Result<Result<Given, PayloadFault>, AllocError>
     ensures { IfOk result (λ g. g ≡ lone_record definition (trees_of nodes.now)) }
 {
     let Some(node) = sole(nodes) else {
-        return Ok(None);
+        let count = count_of(nodes);
+        return Ok(Err(PayloadFault::Records { count }));
     };
-    if number_in(node) != definition.id {
-        return Ok(None);
+    let number = number_in(node);
+    if number != definition.id {
+        return Ok(Err(refused(1, number, RecordFault::Number)));
     }
-    given_by(alloc, definition, node)
+    given_by(alloc, definition, 1, node)
+}
+
+/// What records in TLV give to a resource.
+fn single_tlv(
+    alloc: Global,
+    definition: ResourceDef,
+    payload: &[u8],
+) -> Result<Result<Given, PayloadFault>, AllocError>
+    ensures { IfOk result (λ g. g ≡ resource_given definition Format.Tlv payload.now) }
+{
+    let Some(nodes) = records_in(alloc, payload)? else {
+        return Ok(Err(PayloadFault::NotTlv));
+    };
+    lone_record(alloc, definition, nodes.as_slice())
 }
 
 /// What the payload of a Write gives to a resource (OMA LwM2M 1.1 Core, data formats): a valid value of its kind in
-/// plain text or application/octet-stream, or in TLV a record of its number, alone. None where it gives nothing.
+/// plain text or application/octet-stream, or in TLV a record of its number, alone. Else why it gives nothing.
 pub fn resource_given(
     alloc: Global,
     definition: ResourceDef,
     format: Format,
     payload: &[u8],
-) -> Result<Option<Given>, AllocError>
+) -> Result<Result<Given, PayloadFault>, AllocError>
     ensures { IfOk result (λ g. g ≡ resource_given definition format payload.now) }
 {
     match format {
-        Format::PlainText => {
-            let value = value_in_text(alloc, definition.kind, payload)?;
-            Ok(one_value(value))
+        Format::PlainText => single_text(alloc, definition.kind, payload),
+        Format::OctetStream => single_bytes(alloc, definition.kind, payload),
+        Format::Tlv => single_tlv(alloc, definition, payload),
+    }
+}
+
+/// What a record, which stands alone, gives to the part of this number.
+fn part_by(
+    alloc: Global,
+    kind: ValueKind,
+    number: u16,
+    node: &Node,
+) -> Result<Result<Given, RecordFault>, AllocError>
+    ensures { IfOk result (λ g. g ≡ part_by kind number (tree_of node.now)) }
+{
+    match node {
+        Node::Part { id, bytes } => {
+            if *id != number {
+                return Ok(Err(RecordFault::Number));
+            }
+            let bytes = bytes.as_slice();
+            let Some(value) = value_in_bytes(alloc, kind, bytes)? else {
+                let length = bytes.len();
+                return Ok(Err(RecordFault::Value { kind, length }));
+            };
+            let given = one_part(alloc, number, value)?;
+            Ok(Ok(given))
         }
-        Format::OctetStream => {
-            let value = value_in_bytes(alloc, definition.kind, payload)?;
-            Ok(one_value(value))
-        }
-        Format::Tlv => match records_in(alloc, payload)? {
-            None => Ok(None),
-            Some(nodes) => lone_record(alloc, definition, nodes.as_slice()),
-        },
+        Node::Instance { .. } => Ok(Err(RecordFault::Form)),
+        Node::Multi { .. } => Ok(Err(RecordFault::Form)),
+        Node::Single { .. } => Ok(Err(RecordFault::Form)),
     }
 }
 
@@ -72,23 +138,16 @@ fn lone_part(
     kind: ValueKind,
     number: u16,
     nodes: &[Node],
-) -> Result<Option<Given>, AllocError>
+) -> Result<Result<Given, PayloadFault>, AllocError>
     ensures { IfOk result (λ g. g ≡ lone_part kind number (trees_of nodes.now)) }
 {
     let Some(node) = sole(nodes) else {
-        return Ok(None);
+        let count = count_of(nodes);
+        return Ok(Err(PayloadFault::Records { count }));
     };
-    match node {
-        Node::Part { id, bytes } => {
-            if *id != number {
-                return Ok(None);
-            }
-            let value = value_in_bytes(alloc, kind, bytes.as_slice())?;
-            one_part(alloc, number, value)
-        }
-        Node::Instance { .. } => Ok(None),
-        Node::Multi { .. } => Ok(None),
-        Node::Single { .. } => Ok(None),
+    match part_by(alloc, kind, number, node)? {
+        Ok(given) => Ok(Ok(given)),
+        Err(fault) => Ok(Err(refused(1, number_in(node), fault))),
     }
 }
 
@@ -98,7 +157,7 @@ fn part_record(
     definition: ResourceDef,
     number: u16,
     nodes: &[Node],
-) -> Result<Option<Given>, AllocError>
+) -> Result<Result<Given, PayloadFault>, AllocError>
     ensures { IfOk result (λ g. g ≡ part_record definition number (trees_of nodes.now)) }
 {
     let Some(node) = sole(nodes) else {
@@ -107,7 +166,7 @@ fn part_record(
     match node {
         Node::Multi { id, parts } => {
             if *id != definition.id {
-                return Ok(None);
+                return Ok(Err(refused(1, *id, RecordFault::Number)));
             }
             lone_part(alloc, definition.kind, number, parts)
         }
@@ -117,29 +176,52 @@ fn part_record(
     }
 }
 
+/// The part of this number with a value, where the payload spells one.
+fn whole_part(
+    alloc: Global,
+    kind: ValueKind,
+    part: u16,
+    payload: &[u8],
+    value: Option<Value>,
+) -> Result<Result<Given, PayloadFault>, AllocError>
+    ensures { IfOk result (λ g. g ≡ result_map (one_part part) (whole_value kind payload.now value)) }
+{
+    match value {
+        Some(value) => {
+            let given = one_part(alloc, part, value)?;
+            Ok(Ok(given))
+        }
+        None => {
+            let length = payload.len();
+            Ok(Err(PayloadFault::NotValue { kind, length }))
+        }
+    }
+}
+
 /// What the payload of a Write gives to a part of a multiple resource (OMA LwM2M 1.1 Core, data formats): a valid value
 /// of its kind in plain text or application/octet-stream, or in TLV a Resource Instance of the part's number, alone or
-/// as the one of a Multiple Resource of the resource's number. None where it gives nothing.
+/// as the one of a Multiple Resource of the resource's number. Else why it gives nothing.
 pub fn part_given(
     alloc: Global,
     definition: ResourceDef,
     part: u16,
     format: Format,
     payload: &[u8],
-) -> Result<Option<Given>, AllocError>
+) -> Result<Result<Given, PayloadFault>, AllocError>
     ensures { IfOk result (λ g. g ≡ part_given definition part format payload.now) }
 {
+    let kind = definition.kind;
     match format {
         Format::PlainText => {
-            let value = value_in_text(alloc, definition.kind, payload)?;
-            one_part(alloc, part, value)
+            let value = value_in_text(alloc, kind, payload)?;
+            whole_part(alloc, kind, part, payload, value)
         }
         Format::OctetStream => {
-            let value = value_in_bytes(alloc, definition.kind, payload)?;
-            one_part(alloc, part, value)
+            let value = value_in_bytes(alloc, kind, payload)?;
+            whole_part(alloc, kind, part, payload, value)
         }
         Format::Tlv => match records_in(alloc, payload)? {
-            None => Ok(None),
+            None => Ok(Err(PayloadFault::NotTlv)),
             Some(nodes) => part_record(alloc, definition, part, nodes.as_slice()),
         },
     }

@@ -1,7 +1,6 @@
 ghost use Rattle.std.specs.Prelude.{◌≡◌, IfOk, option_map};
 ghost use Rattle.lwm2m_values.specs.Reading.{value_of_text, value_of_bytes, nodes_of_bytes};
-ghost use Rattle.lwm2m_values.specs.Tree.{tree_of, trees_of};
-ghost use Rattle.lwm2m_payloads.specs.Building.{sole};
+ghost use Rattle.lwm2m_values.specs.Tree.{trees_of};
 
 use lwm2m_values::{Node, TlvFault, Value, ValueFault, ValueKind, read_text, read_tlv, value_of};
 use std::alloc::{AllocError, Global};
@@ -45,16 +44,5 @@ pub(crate) fn records_in(alloc: Global, payload: &[u8]) -> Result<Option<Vec<Nod
         Err(TlvFault::Cut) => Ok(None),
         Err(TlvFault::Nesting) => Ok(None),
         Err(TlvFault::Memory) => Err(AllocError),
-    }
-}
-
-/// The record that stands alone.
-pub fn sole(nodes: &[Node]) -> Option<&Node>
-    ensures { option_map (λ n. tree_of n.now) result ≡ sole (trees_of nodes.now) }
-{
-    if nodes.len() == 1 {
-        Some(&nodes[0])
-    } else {
-        None
     }
 }
