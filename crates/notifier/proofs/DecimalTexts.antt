@@ -14,10 +14,10 @@ use Rattle.lemmas.proofs.Numbers.{nat_le_above}
 use Rattle.object_defs.proofs.Digits.{AreDigits, own}
 use Rattle.notifier.specs.Query.{is_digit, are_digits, digits_of, seconds_of}
 
-digit : (c : ℕ) → IsInRange 48 57 c → is_digit c ≡ true
+pub digit : (c : ℕ) → IsInRange 48 57 c → is_digit c ≡ true
 digit c h = grind (arith, nat_tests)
 
-stray : (c : ℕ) → (IsInRange 48 57 c → ⊥) → is_digit c ≡ false
+pub stray : (c : ℕ) → (IsInRange 48 57 c → ⊥) → is_digit c ≡ false
 stray c h = grind (arith, nat_tests)
 
 all_digits : (s : List ℕ) → AreDigits s → list_all is_digit s ≡ true

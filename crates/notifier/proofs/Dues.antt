@@ -1,6 +1,6 @@
 -- The first second at which one of several observations is due.
 use Rattle.std.proofs.Common.{◌≡◌, ℕ, zero, suc, ◌+◌, ◌∙◌, Bool, true, false, ◌||◌, List, [], ◌∷◌, take, slice_get}
-use Rattle.std.proofs.Common.{Option, None, Some, ap, arith, refl, sym}
+use Rattle.std.proofs.Common.{Some, ap, arith, refl, sym}
 use Rattle.notifier.specs.Due.{acts_at, is_one_due}
 use Rattle.notifier.specs.declared.observation.Observation.{Observation}
 use Rattle.notifier.specs.declared.pending.Outlook.{Outlook}

@@ -1,6 +1,6 @@
 -- What was said of observations stays beside those that stay.
 use Rattle.std.proofs.Common.{◌≡◌, ℕ, zero, suc, ◌<◌, Bool, true, false, cond, not, ◌||◌, List, [], ◌∷◌}
-use Rattle.std.proofs.Common.{if◌then◌else◌, Option, None, Some, filter, length, position, remove, slice_get, slice_set}
+use Rattle.std.proofs.Common.{if◌then◌else◌, None, filter, length, position, remove, slice_set}
 use Rattle.std.proofs.Common.{refl, sym, ap, ◌∙◌, ◌++◌, arith}
 use Rattle.std.specs.List.{list_any}
 use Rattle.std.specs.Option.{is_some}
@@ -8,7 +8,7 @@ use Rattle.notifier.specs.Observed.{is_named}
 use Rattle.notifier.specs.Said.{initial_outlook, said_with, said_without}
 use Rattle.notifier.specs.declared.observation.Observation.{Observation}
 use Rattle.notifier.specs.declared.pending.Outlook.{Outlook}
-use Rattle.notifier.proofs.Places.{IsFirst, any_first, any_place}
+use Rattle.notifier.proofs.Places.{IsFirst, any_place}
 
 -- ---- the first of those that go is taken out
 

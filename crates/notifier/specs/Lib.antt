@@ -7,3 +7,4 @@ pub mod Due
 pub mod Laws
 pub mod Attributes
 pub mod Query
+pub mod NumberEnd

@@ -1,10 +1,9 @@
 -- What was last said of each observation, and how a call changes it.
-use Rattle.std.specs.Prelude.{ℕ, Bool, if◌then◌else◌, List, [], ◌∷◌, Option, None, slice_get, slice_set}
+use Rattle.std.specs.Prelude.{ℕ, Bool, if◌then◌else◌, List, [], ◌∷◌, None, slice_get, slice_set}
 use Rattle.std.specs.Option.{option_map_or}
 use Rattle.notifier.specs.Observed.{is_named}
 use Rattle.notifier.specs.declared.observation.Observation.{Observation}
 use Rattle.notifier.specs.declared.pending.Outlook.{Outlook}
-use Rattle.notifier.specs.declared.pending.Pending.{Pending}
 use Rattle.notifier.specs.declared.pending.Pending.TheVariants.{Idle}
 
 -- what contracts see of observations: the list of them, in the order of registration, and beside it, in the same order,

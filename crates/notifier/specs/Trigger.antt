@@ -1,7 +1,10 @@
 -- When an observation sends: by the change since its last report, and by its age (OMA LwM2M 1.1 Core, attributes; RFC
 -- 7641).
 use Rattle.std.specs.Prelude.{ℕ, ℤ, pos, ◌*ℤ◌, ◌-ℤ◌, ◌*◌, int_lt, int_le, nat_abs, nat_lt, nat_le, Bool, false, not}
-use Rattle.std.specs.Prelude.{◌&&◌, ◌||◌, Option, None, Some, is_some, List, bytes_eq, cond}
+use Rattle.std.specs.Prelude.{◌&&◌, ◌||◌, Option, None, Some, is_some, List, [], ◌∷◌, bytes_eq, cond}
+use Rattle.object_defs.specs.Lines.{first_line}
+use Rattle.notifier.specs.declared.trigger.Trigger.{Trigger}
+use Rattle.notifier.specs.declared.trigger.Trigger.TheVariants as trigger
 
 -- a number in thousandths, the unit of gt, lt and st
 abbrev pub thousandths : ℤ → ℤ
@@ -47,6 +50,23 @@ is_triggered gt lt st (Some old) (Some now) old_payload payload =
     cond (has_condition gt lt st) (number_triggers gt lt st old now) (not (bytes_eq old_payload payload))
 is_triggered gt lt st (Some old) None old_payload payload = not (bytes_eq old_payload payload)
 is_triggered gt lt st None now old_payload payload = not (bytes_eq old_payload payload)
+
+-- which trigger it is: the first of gt, lt and st that holds of two numbers, or the payload
+abbrev pub number_trigger : Option ℤ → Option ℤ → Option ℤ → ℤ → ℤ → Option Trigger
+number_trigger gt lt st old now =
+    first_line ((crosses_gt gt old now, trigger.Gt) ∷ (crosses_lt lt old now, trigger.Lt) ∷ (
+      steps_st st old now,
+      trigger.St,
+    ) ∷ [])
+
+abbrev pub payload_trigger : List ℕ → List ℕ → Option Trigger
+payload_trigger old_payload payload = first_line ((not (bytes_eq old_payload payload), trigger.Payload) ∷ [])
+
+abbrev pub trigger_in : Option ℤ → Option ℤ → Option ℤ → Option ℤ → Option ℤ → List ℕ → List ℕ → Option Trigger
+trigger_in gt lt st (Some old) (Some now) old_payload payload =
+    cond (has_condition gt lt st) (number_trigger gt lt st old now) (payload_trigger old_payload payload)
+trigger_in gt lt st (Some old) None old_payload payload = payload_trigger old_payload payload
+trigger_in gt lt st None now old_payload payload = payload_trigger old_payload payload
 
 -- pmax has effect where it is above 0 and not below pmin, and is over at this age
 abbrev pub is_over : ℕ → ℕ → Option ℕ → Bool

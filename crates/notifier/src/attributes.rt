@@ -222,6 +222,7 @@ fn write_changes(
         ≡ with_changes (numbers_in numbers.old.entries) server path changes.now) }
     ensures may_lack_memory { OnErr result
         (IsTrue (list_any (sets_new (numbers_in numbers.old.entries) server path) changes.now)) }
+    ensures only_with_changes { OnErr result (changes.now ≢ []) }
     ensures err { OnErr result (numbers_in numbers.new.entries ≡ numbers_in numbers.old.entries) }
 {
     let by_name = changes_by_name(numbers, server, path, changes);

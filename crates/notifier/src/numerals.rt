@@ -41,7 +41,7 @@ fn digits_of(text: &[u8], most: usize) -> Option<u64>
 }
 
 /// One more than the most seconds of pmin and pmax.
-const TOO_LONG: u64 = 1 << 31;
+pub(crate) const TOO_LONG: u64 = 1 << 31;
 
 /// The seconds that digits are, leading zeros among them: at most 2,147,483,647.
 fn seconds_of(text: &[u8]) -> Option<i64>
@@ -78,7 +78,7 @@ fn fraction_of(text: &[u8]) -> Option<u64>
 }
 
 /// The thousandths that 1 to 15 digits are, with a point and 1 to 3 digits after them or not.
-fn unsigned_of(text: &[u8]) -> Option<i64>
+pub(crate) fn unsigned_of(text: &[u8]) -> Option<i64>
     ensures { result ≡ option_map pos (unsigned_of text.now) }
 {
     match place_of(text, b'.') {

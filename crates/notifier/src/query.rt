@@ -1,11 +1,15 @@
-ghost use Rattle.std.specs.Prelude.{◌≡◌, ◌≢◌, ◌∷◌, [], map, OnOk, OnErr, IfErr, IfOk, IsErrOf, IsOk, Ok, Err, Some};
+ghost use Rattle.std.specs.Prelude.{◌≡◌, ◌≢◌, ◌∷◌, [], List, map, OnOk, OnErr, IfErr, IfOk, IsErrOf, IsOk, Ok, Err, Some};
 ghost use Rattle.std.specs.Option.{option_copied};
 ghost use Rattle.std.specs.List.{list_any};
 ghost use Rattle.notifier.specs.Query.{name_of, name_part, number_part, attribute_number, target_of, stands_at, is_of};
+ghost use Rattle.notifier.specs.NumberEnd.{IsQueryFault, query_fault_at};
+ghost use Rattle.notifier.specs.declared.attribute.Change.{Change as Made};
+ghost use Rattle.notifier.specs.declared.attribute.Level.{Level as Stands};
 ghost use Rattle.notifier.specs.Query.{change_to, change_of, reading_of, changes_of, is_number_level, BeginsWithChange};
 
 use crate::attribute::{Change, Level, Name};
 use crate::fault::QueryFault;
+use crate::number_end::number_end;
 use crate::numerals::{attribute_number, place_of};
 use std::alloc::Global;
 use std::marker::Model;
@@ -111,6 +115,27 @@ fn reading_of(before: &[Change], level: Level, query: &[u8]) -> Result<Change, Q
         Some(name) => change_of(before, level, name, number_part(query)),
         None => Err(QueryFault::UnknownName),
     }
+}
+
+/// The place in a query with which its number ends.
+fn fault_place(query: &[u8]) -> usize
+    ensures { result ≡ query_fault_at query.now }
+{
+    let before = name_part(query);
+    match (name_of(before), number_part(query)) {
+        (Some(name), Some(number)) => before.len() + 1 + number_end(name, number),
+        _ => query.len(),
+    }
+}
+
+/// The byte of a query, of which `name=` counts, with which no number of its attribute goes on; or the length of the
+/// query, where the number ends too early. That is proved of a query whose fault is `BadNumber`.
+pub fn query_fault_at(query: &[u8]) -> usize
+    ensures place { result ≡ query_fault_at query.now }
+    ensures fault { (before : List Made) (level : Stands)
+        → reading_of before level query.now ≡ Err QueryFault.BadNumber → IsQueryFault query.now result }
+{
+    fault_place(query)
 }
 
 /// Changes of attributes. Contracts see the list of them, in their order.

@@ -1,8 +1,22 @@
-ghost use Rattle.std.specs.Prelude.{◌≡◌};
+ghost use Rattle.std.specs.Prelude.{◌≡◌, is_some};
 ghost use Rattle.notifier.specs.Trigger.{is_above, is_below, crosses_gt, crosses_lt, steps_st, has_condition};
-ghost use Rattle.notifier.specs.Trigger.{number_triggers, is_triggered, is_over, is_due};
+ghost use Rattle.notifier.specs.Trigger.{number_trigger, number_triggers, payload_trigger, trigger_in, is_triggered, is_over};
+ghost use Rattle.notifier.specs.Trigger.{is_due};
 
 use crate::observation::Report;
+
+/// What a notification is triggered by (OMA LwM2M 1.1 Core, attributes).
+#[derive(Clone, Copy)]
+pub enum Trigger {
+    /// One of two numbers is above gt, and the other is not.
+    Gt,
+    /// One of two numbers is below lt, and the other is not.
+    Lt,
+    /// Two numbers are st or more apart.
+    St,
+    /// The payload is another one, where there are no two numbers or no condition on them.
+    Payload,
+}
 
 /// Whether a number is above a bound in thousandths.
 fn is_above(gt: i64, number: i64) -> bool
@@ -55,15 +69,66 @@ fn has_condition(gt: Option<i64>, lt: Option<i64>, st: Option<i64>) -> bool
     gt.is_some() || lt.is_some() || st.is_some()
 }
 
-/// Whether a condition on numbers holds of the last report and the present number.
-fn number_triggers(gt: Option<i64>, lt: Option<i64>, st: Option<i64>, old: i64, now: i64) -> bool
-    ensures { result ≡ number_triggers gt lt st old now }
+/// The first condition on numbers that holds of the last report and the present number.
+fn number_trigger(
+    gt: Option<i64>,
+    lt: Option<i64>,
+    st: Option<i64>,
+    old: i64,
+    now: i64,
+) -> Option<Trigger>
+    ensures first { result ≡ number_trigger gt lt st old now }
+    ensures some { is_some result ≡ number_triggers gt lt st old now }
 {
-    crosses_gt(gt, old, now) || crosses_lt(lt, old, now) || steps_st(st, old, now)
+    if crosses_gt(gt, old, now) {
+        Some(Trigger::Gt)
+    } else if crosses_lt(lt, old, now) {
+        Some(Trigger::Lt)
+    } else if steps_st(st, old, now) {
+        Some(Trigger::St)
+    } else {
+        None
+    }
 }
 
-/// Whether this number and this payload differ from the last report by more than the conditions gt,
-/// lt and st (in thousandths) leave out: a trigger (OMA LwM2M 1.1 Core, attributes).
+/// The payload, if it is another one.
+fn payload_trigger(old: &[u8], payload: &[u8]) -> Option<Trigger>
+    ensures { result ≡ payload_trigger old.now payload.now }
+{
+    if old != payload {
+        Some(Trigger::Payload)
+    } else {
+        None
+    }
+}
+
+/// What triggers, where this number and this payload differ from the last report by more than the conditions gt, lt and
+/// st (in thousandths) leave out: the first of them that holds, or the payload, where there are no two numbers or no
+/// condition. `is_triggered` says when something does.
+pub fn trigger_in(
+    gt: Option<i64>,
+    lt: Option<i64>,
+    st: Option<i64>,
+    old: &Report,
+    number: Option<i64>,
+    payload: &[u8],
+) -> Option<Trigger>
+    ensures first { result ≡ trigger_in gt lt st old.now.number number old.now.payload payload.now }
+    ensures some { is_some result ≡ is_triggered gt lt st old.now.number number old.now.payload payload.now }
+{
+    match (old.number, number) {
+        (Some(before), Some(number)) => {
+            if has_condition(gt, lt, st) {
+                number_trigger(gt, lt, st, before, number)
+            } else {
+                payload_trigger(old.payload.as_slice(), payload)
+            }
+        }
+        _ => payload_trigger(old.payload.as_slice(), payload),
+    }
+}
+
+/// Whether something triggers, as `trigger_in` says.
 pub fn triggers(
     gt: Option<i64>,
     lt: Option<i64>,
@@ -74,16 +139,7 @@ pub fn triggers(
 ) -> bool
     ensures { result ≡ is_triggered gt lt st old.now.number number old.now.payload payload.now }
 {
-    match (old.number, number) {
-        (Some(before), Some(number)) => {
-            if has_condition(gt, lt, st) {
-                number_triggers(gt, lt, st, before, number)
-            } else {
-                old.payload.as_slice() != payload
-            }
-        }
-        _ => old.payload.as_slice() != payload,
-    }
+    trigger_in(gt, lt, st, old, number, payload).is_some()
 }
 
 /// Whether pmax has effect and is over.

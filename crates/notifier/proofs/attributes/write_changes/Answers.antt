@@ -1,4 +1,4 @@
-use Rattle.std.proofs.Common.{◌∙◌, ap, subst, sym}
+use Rattle.std.proofs.Common.{◌∙◌, ap, subst, sym, true≢false}
 use Rattle.std.proofs.lemmas.Result.{on_err_weaker, on_ok_weaker}
 use Rattle.std.specs.List.{list_any}
 use Rattle.notifier.specs.Attributes.{sets_new, with_changes}
@@ -28,4 +28,13 @@ returns-clause-may_lack_memory c =
     on_err_weaker c.apply_changes.result
     (λ h. new_by_name old c.args.server c.args.path c.args.changes.now
     (ap (list_any (sets_new old c.args.server c.args.path)) (sym c.changes_by_name-by_name.ensures) ∙ h))
+    c.apply_changes.ensures.may_lack_memory
+
+pub returns-clause-only_with_changes : goal.returns-clause-only_with_changes
+returns-clause-only_with_changes c =
+    on_err_weaker c.apply_changes.result
+    (λ h none. true≢false (sym (new_by_name (numbers_in c.args.numbers.now.entries) c.args.server c.args.path
+    c.args.changes.now
+    (ap (list_any (sets_new (numbers_in c.args.numbers.now.entries) c.args.server c.args.path))
+    (sym c.changes_by_name-by_name.ensures) ∙ h)) ∙ ap (list_any _) none))
     c.apply_changes.ensures.may_lack_memory
