@@ -7,7 +7,7 @@ use crate::question::Question;
 use crate::stores::put_outcome;
 use access_control::{Rights, may_create, rights};
 use case_sheet::Sheet;
-use device_instances::{create, free_number, has_no_room, number_for};
+use device_instances::{create, free_number, lack_of_room, number_for};
 use instance_store::Store;
 use lwm2m_payloads::{Assignments, Creation, creation_given};
 use lwm2m_values::ValueKind;
@@ -99,8 +99,8 @@ fn ask_by_accounts(question: &mut Question<'_>, out: &mut Sheet, store: &Store, 
 fn room(question: &mut Question<'_>, out: &mut Sheet, store: &Store, accounts: usize) {
     let place = place(question);
     if let Some(assigned) = assigned(question) {
-        let has_none = has_no_room(store, accounts, &RESOURCES, place, &assigned);
-        put_yes_no(out, !has_none);
+        let lack = lack_of_room(store, accounts, &RESOURCES, place, &assigned);
+        put_yes_no(out, lack.is_none());
     }
 }
 
@@ -109,14 +109,14 @@ fn assigned(question: &mut Question<'_>) -> Option<Assignments> {
     let payload = last_bytes(question);
     match creation_given(question.alloc(), &RESOURCES, payload.as_slice()) {
         Ok(
-            Some(
+            Ok(
                 Creation {
                     number: _,
                     assigned,
                 },
             ),
         ) => Some(assigned),
-        Ok(None) => {
+        Ok(Err(_)) => {
             question.refuse("the payload creates nothing");
             None
         }

@@ -6,7 +6,9 @@ use crate::places::path;
 use crate::question::Question;
 use crate::stating::{stated, stated_store};
 use case_sheet::Sheet;
-use lwm2m_payloads::{Given, Mode, part_given, resource_given, set_given, values_tlv};
+use lwm2m_payloads::{
+    Given, Mode, PayloadFault, part_given, resource_given, set_given, values_tlv,
+};
 use lwm2m_values::ValueKind;
 use object_defs::{Ops, Path, ResourceDef, ResourcePath};
 use std::alloc::AllocError;
@@ -58,7 +60,7 @@ fn take(
     mode: Mode,
     object: u16,
     definition: ResourceDef,
-    given: Result<Option<Given>, AllocError>,
+    given: Result<Result<Given, PayloadFault>, AllocError>,
 ) {
     let path = ResourcePath {
         object,
@@ -66,8 +68,8 @@ fn take(
         resource: definition.id,
     };
     match given {
-        Ok(Some(given)) => set(question, out, mode, path, definition, given),
-        Ok(None) => out.put("none"),
+        Ok(Ok(given)) => set(question, out, mode, path, definition, given),
+        Ok(Err(_)) => out.put("none"),
         Err(_) => out.cut(),
     }
 }

@@ -25,7 +25,8 @@ use Rattle.notifier.specs.Attributes.{Numbers}
 use Rattle.device_requests.specs.WriteAttributes.{annotate_unless, attributes_given}
 use Rattle.device_requests.specs.Answer.{content, refused_or}
 use Rattle.object_defs.specs.Lines.{first_line}
-use Rattle.device_requests.specs.Create.{Newborn, create_unless, lacks_room, newborn}
+use Rattle.device_requests.specs.declared.create.Newborn.{Newborn}
+use Rattle.device_requests.specs.Create.{create_unless, lacks_room, newborn}
 use Rattle.device_requests.specs.Targets.{exists}
 use Rattle.device_requests.specs.Delete.{delete_unless}
 use Rattle.device_requests.specs.Execute.{execute_unless}

@@ -4,6 +4,7 @@ mod Growing
 pub mod Answering
 pub mod Depending
 mod Digits
+mod Fitting
 pub mod Keeping
 pub mod Hiding
 mod Linking

@@ -1,8 +1,9 @@
 -- A single resource that was written is read again.
 use Rattle.std.proofs.Common.{◌≡◌, ℕ, Bool, true, false, not, ◌||◌, ◌==◌, List, [], ◌∷◌, Option, None}
-use Rattle.std.proofs.Common.{Some, option_map, is_some, refl, sym, ap, subst, ◌∙◌}
+use Rattle.std.proofs.Common.{Some, Result, Ok, Err, option_map, is_some, refl, sym, ap, subst, ◌∙◌}
 use Rattle.std.specs.Bool.{if◌then◌else◌}
 use Rattle.std.specs.Option.{option_and_then, unwrap_or}
+use Rattle.std.specs.Result.{result_ok}
 use Rattle.std.specs.Cmp.{eq_by_cmp_equiv}
 use Rattle.std.specs.Ordering.{eq_by_cmp}
 use Rattle.std.specs.FinMap as map
@@ -10,7 +11,7 @@ use Rattle.std.proofs.lemmas.Bool.{ne_eqb}
 use Rattle.lemmas.proofs.Options.{some_if_denied}
 use Rattle.lemmas.proofs.Tests.{second_if_denied}
 use Rattle.device_firmware.specs.declared.event.FirmwareEvent.{FirmwareEvent}
-use Rattle.lwm2m_values.specs.Reading.{value_of_text, value_of_bytes, nodes_of_bytes}
+use Rattle.lwm2m_values.specs.Reading.{value_of_text, value_of_bytes}
 use Rattle.lwm2m_values.specs.Tree.{Tree, Trees, instance, multi, part, single, none, more}
 use Rattle.lwm2m_values.specs.declared.value.Value.{Value}
 use Rattle.object_defs.specs.Catalog.{definition_of}
@@ -29,8 +30,12 @@ use Rattle.lwm2m_payloads.specs.declared.given.Given.{Given}
 use Rattle.lwm2m_payloads.specs.declared.given.Given.TheVariants.{Single}
 use Rattle.lwm2m_payloads.specs.declared.given.Mode.TheVariants.{Replace}
 use Rattle.lwm2m_payloads.specs.Formats.{one, many, extent_as, format_for}
-use Rattle.lwm2m_payloads.specs.Given.{given_by, given_if, lone_record, number_in, resource_given, some_parts}
-use Rattle.lwm2m_payloads.specs.Given.{parts_given}
+use Rattle.lwm2m_payloads.specs.Given.{at_record, given_by, lone_record, number_in, records_in, resource_given}
+use Rattle.lwm2m_payloads.specs.Given.{some_parts, value_in, whole_value}
+use Rattle.lwm2m_payloads.specs.Results.{result_and_then, result_map}
+use Rattle.lwm2m_payloads.specs.declared.fault.PayloadFault.{PayloadFault}
+use Rattle.lwm2m_payloads.specs.declared.fault.RecordFault.{RecordFault}
+use Rattle.lwm2m_payloads.specs.declared.fault.RecordFault.TheVariants.{Form, Number}
 use Rattle.lwm2m_payloads.specs.Nodes.{value_payload}
 use Rattle.device_requests.specs.declared.write.NewValues.{NewValues}
 use Rattle.device_requests.specs.declared.write.NewValues.TheVariants.{One}
@@ -53,48 +58,50 @@ use Rattle.device_requests.specs.Laws.{IsReadBack, WrittenIsRead, content_within
 abbrev IsOne : Given → Type 0
 IsOne g = (v : Value) × (g ≡ Single v)
 
-one_value : (value : Option Value) (g : Given) → option_map Single value ≡ Some g → IsOne g
-one_value None g h = cc
-one_value (Some v) g h = (v, cc)
+one_value : {E : Type 0} (value : Result Value E) (g : Given) → result_map Single value ≡ Ok g → IsOne g
+one_value (Err e) g h = cc
+one_value (Ok v) g h = (v, cc)
 
-record_gives_one : (d : ResourceDef) (node : Tree) (g : Given) → d.multiple ≡ false → given_by d node ≡ Some g → IsOne g
+record_gives_one : (d : ResourceDef) (node : Tree) (g : Given) → d.multiple ≡ false → given_by d node ≡ Ok g → IsOne g
 record_gives_one d (instance i inner) g k h = cc
 record_gives_one d (multi q inner) g k h =
-    let e : (if d.multiple then some_parts d.mandatory (parts_given d.kind inner) else None) ≡ Some g = h in
-    let n : None ≡ Some g = rw k at e in
+    let e : (if d.multiple then some_parts d inner else Err Form) ≡ Ok g = h in
+    let n : Err Form ≡ Ok g = rw k at e in
     cc
 record_gives_one d (part n bytes) g k h = cc
 record_gives_one d (single q bytes) g k h =
-    let e : (if d.multiple then None else option_map Single (value_of_bytes d.kind bytes)) ≡ Some g = h in
-    one_value (value_of_bytes d.kind bytes) g (rw k at e)
+    let e : (if d.multiple then Err Form else result_map Single (value_in d.kind bytes)) ≡ Ok g = h in
+    one_value (value_in d.kind bytes) g (rw k at e)
 
-where_given : (b : Bool) (given : Option Given) (g : Given) → given_if b given ≡ Some g → given ≡ Some g
-where_given true given g h = h
-where_given false given g h = cc
+where_given : (b : Bool) (given : Result Given RecordFault) (place number : ℕ) (g : Given)
+    → at_record place number (if b then given else Err Number) ≡ Ok g → given ≡ Ok g
+where_given true (Ok x) place number g h = cc
+where_given true (Err e) place number g h = cc
+where_given false given place number g h = cc
 
-records_give_one : (d : ResourceDef) (nodes : Trees) (g : Given) → d.multiple ≡ false → lone_record d nodes ≡ Some g
+records_give_one : (d : ResourceDef) (nodes : Trees) (g : Given) → d.multiple ≡ false → lone_record d nodes ≡ Ok g
     → IsOne g
 records_give_one d none g k h = cc
 records_give_one d (more node none) g k h =
-    record_gives_one d node g k (where_given (number_in node == d.id) (given_by d node) g h)
+    record_gives_one d node g k (where_given (number_in node == d.id) (given_by d node) 1 (number_in node) g h)
 records_give_one d (more node (more next nodes)) g k h = cc
 
-nodes_give_one : (d : ResourceDef) (nodes : Option Trees) (g : Given) → d.multiple ≡ false
-    → option_and_then (lone_record d) nodes ≡ Some g → IsOne g
-nodes_give_one d None g k h = cc
-nodes_give_one d (Some nodes) g k h = records_give_one d nodes g k h
+nodes_give_one : (d : ResourceDef) (nodes : Result Trees PayloadFault) (g : Given) → d.multiple ≡ false
+    → result_and_then (lone_record d) nodes ≡ Ok g → IsOne g
+nodes_give_one d (Err e) g k h = cc
+nodes_give_one d (Ok nodes) g k h = records_give_one d nodes g k h
 
 -- what a payload gives to a single resource is one value
 gives_one : (d : ResourceDef) (format : Format) (payload : List ℕ) (g : Given) → d.multiple ≡ false
-    → resource_given d format payload ≡ Some g → IsOne g
-gives_one d PlainText payload g k h = one_value (value_of_text d.kind payload) g h
-gives_one d OctetStream payload g k h = one_value (value_of_bytes d.kind payload) g h
-gives_one d Tlv payload g k h = nodes_give_one d (nodes_of_bytes payload) g k h
+    → resource_given d format payload ≡ Ok g → IsOne g
+gives_one d PlainText payload g k h = one_value (whole_value d.kind payload (value_of_text d.kind payload)) g h
+gives_one d OctetStream payload g k h = one_value (whole_value d.kind payload (value_of_bytes d.kind payload)) g h
+gives_one d Tlv payload g k h = nodes_give_one d (records_in payload) g k h
 
-of_one : (given : Option Given) (values : NewValues) → option_map One given ≡ Some values → (g : Given)
-    × (given ≡ Some g) × (values ≡ One g)
-of_one None values h = cc
-of_one (Some g) values h = (g, refl, cc)
+of_one : (given : Result Given PayloadFault) (values : NewValues) → result_ok (result_map One given) ≡ Some values
+    → (g : Given) × (given ≡ Ok g) × (values ≡ One g)
+of_one (Err e) values h = cc
+of_one (Ok g) values h = (g, refl, cc)
 
 -- no rule of a Write holds, and it is done
 record Passes (a b format values : Bool) (done : Outcome) (stored : Stored) : Type 0 where
@@ -210,9 +217,9 @@ behind client o i r d number payload stored defined alone readable object target
     let p = resource_place o i r in
     let format = some_if_denied (format_at client.catalog path number) served in
     let values = some_if_denied (new_values client path number payload) good in
-    let given : option_map One (resource_given d format.0 payload) ≡ Some values.0 =
+    let given : result_ok (result_map One (resource_given d format.0 payload)) ≡ Some values.0 =
     sym (ap (λ f. option_and_then (values_given client.catalog path payload) f) format.1
-    ∙ ap (λ e. option_map One (given_to_resource e format.0 payload)) defined) ∙ values.1 in
+    ∙ ap (λ e. result_ok (result_map One (given_to_resource e format.0 payload))) defined) ∙ values.1 in
     let g = of_one (resource_given d format.0 payload) values.0 given in
     let v = gives_one d format.0 payload g.0 alone g.1 in
     let stored_is : stored ≡ with_value client.store (single_of p) v.0 =
@@ -223,7 +230,7 @@ behind client o i r d number payload stored defined alone readable object target
       format = format.0;
       served = sym (format_same client o i r d number defined alone) ∙ format.1;
       value = v.0;
-      given = g.1 ∙ ap Some v.1;
+      given = g.1 ∙ ap Ok v.1;
       read = λ server accept wanted m k. read_shown (with_stored client stored) server o i r d v.0 accept wanted
           (record {
             object = object;

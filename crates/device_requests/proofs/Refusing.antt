@@ -21,7 +21,8 @@ use Rattle.lwm2m_payloads.specs.declared.format.Format.{Format}
 use Rattle.lwm2m_payloads.specs.declared.given.Mode.{Mode}
 use Rattle.lwm2m_payloads.specs.declared.given.Mode.TheVariants.{Replace, Update}
 use Rattle.object_defs.specs.Path.{object_in}
-use Rattle.device_requests.specs.Create.{Newborn, create_unless, newborn}
+use Rattle.device_requests.specs.declared.create.Newborn.{Newborn}
+use Rattle.device_requests.specs.Create.{create_unless, newborn}
 use Rattle.device_requests.specs.Delete.{delete_unless}
 use Rattle.device_requests.specs.Execute.{execute_unless}
 use Rattle.device_requests.specs.Operation.{operation_of}

@@ -1,5 +1,5 @@
 -- What follows from the tables, in the words of the standard.
-use Rattle.std.specs.Prelude.{◌≡◌, ◌≢◌, ℕ, ◌==◌, nat_le, Bool, true, false, List, [], ◌∷◌, Option, None, Some}
+use Rattle.std.specs.Prelude.{◌≡◌, ◌≢◌, ℕ, ◌==◌, nat_le, Bool, true, false, List, [], ◌∷◌, Option, None, Some, Ok}
 use Rattle.std.specs.Prelude.{◌*◌, ◌&&◌, ◌⊎◌, ◌↔◌, if◌then◌else◌}
 use Rattle.coap_codec.specs.Message.{Message}
 use Rattle.lwm2m_values.specs.Tree.{single}
@@ -106,7 +106,7 @@ pub record IsReadBack (client : Client) (o i r : ℕ) (d : ResourceDef) (number 
   pub format : Format
   pub served : format_for (one d.kind) number ≡ Some format
   pub value : Value
-  pub given : resource_given d format payload ≡ Some (Single value)
+  pub given : resource_given d format payload ≡ Ok (Single value)
   pub read : (server : ℕ) (accept : Option ℕ) (wanted : Format)
       → may_read (with_stored client stored) server (Resource o i r) ≡ true
       → format_for (one d.kind) accept ≡ Some wanted

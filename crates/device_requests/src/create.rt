@@ -1,14 +1,18 @@
 //! A Create: its rules, and the instance that it makes.
 
-ghost use Rattle.std.specs.Prelude.{◌≡◌, ◌≢◌, ◌∷◌, [], true, false, length, not, IfOk, OnErr, OnOk, Some};
+ghost use Rattle.std.specs.Prelude.{◌≡◌, ◌≢◌, ◌∷◌, [], true, false, length, not, ok_or, IfOk, OnErr, OnOk, Some};
 ghost use Rattle.std.specs.Option.{is_some};
+ghost use Rattle.std.specs.Result.{result_err};
 ghost use Rattle.device_requests.specs.Answer.{Leaves, takes_memory};
-ghost use Rattle.device_requests.specs.Create.{create_unless, lacks_room, newborn};
+ghost use Rattle.device_requests.specs.Create.{create_unless, creation_lack, lacks_room, newborn, newborn_from};
+ghost use Rattle.device_requests.specs.Create.{newborn_judged, number_fault};
 ghost use Rattle.device_requests.specs.Outcomes.{create_outcome};
 ghost use Rattle.device_requests.specs.Client.{with_stored};
 ghost use Rattle.device_requests.specs.Refusals.{is_fixed, is_tlv};
 ghost use Rattle.device_requests.specs.Targets.{place_of, resources_defined};
 ghost use Rattle.device_instances.specs.Creations.{with_created};
+ghost use Rattle.device_instances.specs.Numbers.{number_for};
+ghost use Rattle.lwm2m_payloads.specs.Given.{creation_given};
 ghost use Rattle.instance_store.specs.Stored.{has_instance};
 ghost use Rattle.object_defs.specs.Numbers.{access_control_object};
 ghost use Rattle.object_defs.specs.Lines.{first_line};
@@ -17,12 +21,35 @@ ghost use Rattle.object_defs.specs.Path.{object_in};
 use crate::answer::{Answer, Code};
 use crate::client::Client;
 use crate::targets::{defined, exists, is_fixed};
-use device_instances::{has_no_room, number_for};
-use instance_store::StoreFault;
-use lwm2m_payloads::{Assignments, Format, creation_given};
+use device_instances::{NoRoom, lack_of_room, number_for};
+use instance_store::{Store, StoreFault};
+use lwm2m_payloads::{Assignments, Format, PayloadFault, creation_given};
 use object_defs::object_number::SECURITY;
-use object_defs::{InstancePath, Path};
-use std::alloc::AllocError;
+use object_defs::{Catalog, InstancePath, Path};
+use std::alloc::{AllocError, Global};
+
+/// Why a Create makes nothing of a payload.
+#[derive(Clone, Copy)]
+pub enum CreationFault {
+    /// The payload is at fault.
+    Payload(PayloadFault),
+    /// An instance has the number that is named, or it is 65535.
+    Taken {
+        /// The number.
+        number: u16,
+    },
+    /// No number is named, and none is free.
+    NoNumber,
+}
+
+/// A new instance.
+#[derive(Drop)]
+pub struct Newborn {
+    /// Its number.
+    pub number: u16,
+    /// What its resources are given.
+    pub given: Assignments,
+}
 
 /// Whether a Content-Format is TLV, or there is none.
 fn is_tlv(number: Option<u16>) -> bool
@@ -34,14 +61,85 @@ fn is_tlv(number: Option<u16>) -> bool
     }
 }
 
+/// The number of a new instance, or why none is free.
+#[tactic(auto, using(crate::proofs::Present::number_free))]
+fn free_number(store: &Store, object: u16, named: Option<u16>) -> Result<u16, CreationFault>
+    ensures number { result ≡ ok_or (number_for store.now object named) (number_fault named) }
+    ensures free { IfOk result (λ n. has_instance store.now (place_of object n) ≡ false) }
+{
+    match number_for(store, object, named) {
+        Some(number) => Ok(number),
+        None => match named {
+            Some(number) => Err(CreationFault::Taken { number }),
+            None => Err(CreationFault::NoNumber),
+        },
+    }
+}
+
+/// What a payload makes of an object, or why it makes nothing.
+fn newborn_judged(
+    alloc: Global,
+    catalog: &Catalog,
+    store: &Store,
+    object: u16,
+    payload: &[u8],
+) -> Result<Result<Newborn, CreationFault>, AllocError>
+    ensures newborn { IfOk result (λ b. b ≡
+        newborn_from store.now object (creation_given (resources_defined catalog.now object) payload.now)) }
+    ensures free { IfOk result (λ r. IfOk r (λ b. has_instance store.now (place_of object b.number) ≡ false)) }
+{
+    match creation_given(alloc, defined(catalog, object), payload)? {
+        Err(fault) => Ok(Err(CreationFault::Payload(fault))),
+        Ok(creation) => match free_number(store, object, creation.number) {
+            Err(fault) => Ok(Err(fault)),
+            Ok(number) => Ok(Ok(Newborn {
+                number,
+                given: creation.assigned,
+            })),
+        },
+    }
+}
+
+/// Why a Create makes nothing of a payload, if it makes nothing: what of the payload is at fault, or else that no
+/// number is free. A Create is refused by this very judgement.
+pub fn creation_fault(
+    alloc: Global,
+    client: &Client,
+    object: u16,
+    payload: &[u8],
+) -> Result<Option<CreationFault>, AllocError>
+    ensures { IfOk result (λ f. f ≡ result_err (newborn_judged client.now object payload.now)) }
+{
+    let judged = newborn_judged(alloc, client.catalog(), client.store(), object, payload)?;
+    Ok(judged.err())
+}
+
+/// For what there is no room after a Create, if its payload makes something.
+pub fn creation_lack(
+    alloc: Global,
+    client: &Client,
+    object: u16,
+    payload: &[u8],
+) -> Result<Option<NoRoom>, AllocError>
+    ensures { IfOk result (λ l. l ≡ creation_lack client.now object (newborn client.now object payload.now)) }
+{
+    match newborn_judged(alloc, client.catalog(), client.store(), object, payload)? {
+        Err(_) => Ok(None),
+        Ok(new) => {
+            let instance = new.number;
+            Ok(client.lack_of_room(InstancePath { object, instance }, &new.given))
+        }
+    }
+}
+
 impl Client {
-    /// Whether there is no room for an instance with what it is given.
-    fn lacks_room(&self, place: InstancePath, given: &Assignments) -> bool
-        ensures { result ≡ lacks_room self.now place.object
+    /// For what there is no room, if an instance is given this.
+    fn lack_of_room(&self, place: InstancePath, given: &Assignments) -> Option<NoRoom>
+        ensures { result ≡ creation_lack self.now place.object
             (Some (record { number = place.instance; given = given.now })) }
     {
         let resources = defined(&self.catalog, place.object);
-        has_no_room(&self.store, self.account_count(), resources, place, given)
+        lack_of_room(&self.store, self.account_count(), resources, place, given)
     }
 
     /// Makes an instance that is not there, and for which there is room, with what it is given.
@@ -84,7 +182,7 @@ impl Client {
         ensures room { OnErr result (lacks_room self.old place.object
             (Some (record { number = place.instance; given = given })) ≡ false) }
     {
-        if self.lacks_room(place, &given) {
+        if self.lack_of_room(place, &given).is_some() {
             return Ok(Answer::bare(self.alloc, Code::InternalServerError));
         }
         self.make(server, place, given)?;
@@ -92,21 +190,18 @@ impl Client {
     }
 
     /// Makes an instance of what a payload gives, where that is good.
-    #[tactic(auto, using(crate::proofs::Present::number_free))]
     fn create_in(&mut self, server: u16, object: u16, payload: &[u8]) -> Result<Answer, AllocError>
         requires { object ≢ access_control_object }
         ensures { IfOk result (λ a. let new = newborn self.old object payload.now in
             Leaves a self.new (create_unless (first_line ((not (is_some new), Code.BadRequest)
             ∷ (lacks_room self.old object new, Code.InternalServerError) ∷ [])) self.old server object new)) }
     {
-        let Some(creation) = creation_given(self.alloc, defined(&self.catalog, object), payload)?
-        else {
+        let judged = newborn_judged(self.alloc, &self.catalog, &self.store, object, payload)?;
+        let Ok(new) = judged else {
             return Ok(Answer::bare(self.alloc, Code::BadRequest));
         };
-        let Some(instance) = number_for(&self.store, object, creation.number) else {
-            return Ok(Answer::bare(self.alloc, Code::BadRequest));
-        };
-        self.place(server, InstancePath { object, instance }, creation.assigned)
+        let instance = new.number;
+        self.place(server, InstancePath { object, instance }, new.given)
     }
 
     /// Makes an instance of an object, where no rule refuses it.

@@ -21,6 +21,7 @@ mod write_attributes;
 
 pub use answer::{Act, Answer, Code};
 pub use client::Client;
+pub use create::{CreationFault, Newborn, creation_fault, creation_lack};
 pub use discover::thousandths_text;
 pub use execute::is_executable;
 pub use laws::{
@@ -30,9 +31,9 @@ pub use laws::{
 };
 pub use observe::Interest;
 pub use operation::Operation;
-pub use options::{has_known_form, observe_of, path_of, repeats};
+pub use options::{has_known_form, has_unrecognized_critical, observe_of, path_of};
 pub use plain::{PlainRead, plain_read};
 pub use request::{Request, RequestResult};
 pub use targets::{defined, definition_at, is_fixed, is_readable};
-pub use write::{given_to_part, given_to_resource, is_writable, mode_at};
+pub use write::{is_writable, mode_at, payload_fault, write_excess};
 pub use write_attributes::level_at;

@@ -35,7 +35,7 @@ fn is_critical(option: &Opt) -> bool
 }
 
 /// Whether the option of this number stands there twice or more.
-pub fn repeats(number: u16, options: &[Opt]) -> bool
+fn repeats(number: u16, options: &[Opt]) -> bool
     ensures { result ≡ repeats number options.now }
 {
     options.iter().filter(|o| o.number == number).count() > 1
@@ -50,7 +50,7 @@ fn has_unknown_critical(options: &[Opt]) -> bool
 
 /// Whether a critical option is not recognized: one that is unknown, one of a wrong length, or a
 /// second Uri-Host, Uri-Port or Accept.
-fn has_unrecognized_critical(options: &[Opt]) -> bool
+pub fn has_unrecognized_critical(options: &[Opt]) -> bool
     ensures { result ≡ has_unrecognized_critical options.now }
 {
     has_unknown_critical(options)

@@ -2,6 +2,7 @@
 
 ghost use Rattle.std.specs.Prelude.{◌≡◌, ◌==◌, ◌∷◌, [], true, false, not, IfOk, OnErr, OnOk, Some, None};
 ghost use Rattle.std.specs.Option.{is_some, unwrap_or};
+ghost use Rattle.std.specs.Result.{result_err};
 ghost use Rattle.device_firmware.specs.Firmware.{firmware_after, is_ready};
 ghost use Rattle.instance_store.specs.Stored.{has_instance, instance_of};
 ghost use Rattle.lwm2m_payloads.specs.Changes.{has_too_many, instance_written, is_kept_as};
@@ -12,9 +13,9 @@ ghost use Rattle.device_requests.specs.Inside.{give, has_place, value_rules};
 ghost use Rattle.device_requests.specs.Outcomes.{write_outcome};
 ghost use Rattle.device_requests.specs.Refusals.{can_be_written, is_target, is_writable};
 ghost use Rattle.device_requests.specs.Write.{event_of, given_to_part, given_to_resource};
-ghost use Rattle.device_requests.specs.Write.{mode_at, new_values, package_in, resource_exceeds};
-ghost use Rattle.device_requests.specs.Write.{resource_written, uri_in, values_exceed, values_given, values_written};
-ghost use Rattle.device_requests.specs.Write.{write_unless};
+ghost use Rattle.device_requests.specs.Write.{mode_at, new_values, package_in, resource_excess};
+ghost use Rattle.device_requests.specs.Write.{resource_written, uri_in, values_exceed, values_excess, values_given};
+ghost use Rattle.device_requests.specs.Write.{values_judged, values_written, write_excess, write_unless};
 
 use crate::answer::{Answer, Code};
 use crate::client::Client;
@@ -24,8 +25,8 @@ use crate::targets::{
 use device_firmware::{FirmwareEvent, take};
 use instance_store::{Store, StoreFault};
 use lwm2m_payloads::{
-    Assignments, Format, Given, Mode, format_for, has_too_many, instance_given, is_too_many,
-    part_given, resource_given, set_given, write_instance,
+    Assignments, Excess, Format, Given, Mode, PayloadFault, excess_of, first_excess, format_for,
+    instance_given, part_given, resource_given, set_given, write_instance,
 };
 use lwm2m_values::Value;
 use object_defs::object_number::{FIRMWARE_UPDATE, SECURITY};
@@ -136,52 +137,53 @@ fn event_of(path: Path, values: &NewValues) -> Result<Option<FirmwareEvent>, All
     Ok(None)
 }
 
-/// What a payload gives to the resource of this definition.
-pub fn given_to_resource(
+/// What a payload gives to the resource of this definition, or what of it is at fault. Where there is no definition,
+/// there is no target, and nobody is told the fault.
+fn given_to_resource(
     alloc: Global,
     definition: Option<ResourceDef>,
     format: Format,
     payload: &[u8],
-) -> Result<Option<Given>, AllocError>
+) -> Result<Result<Given, PayloadFault>, AllocError>
     ensures given { IfOk result (λ g. g ≡ given_to_resource definition format payload.now) }
     ensures defined { OnErr result (is_some definition ≡ true) }
 {
     match definition {
-        None => Ok(None),
+        None => Ok(Err(PayloadFault::NotTlv)),
         Some(definition) => resource_given(alloc, definition, format, payload),
     }
 }
 
-/// What a payload gives to a part of the resource of this definition.
-pub fn given_to_part(
+/// The same for a part of the resource of this definition.
+fn given_to_part(
     alloc: Global,
     definition: Option<ResourceDef>,
     part: u16,
     format: Format,
     payload: &[u8],
-) -> Result<Option<Given>, AllocError>
+) -> Result<Result<Given, PayloadFault>, AllocError>
     ensures given { IfOk result (λ g. g ≡ given_to_part definition part format payload.now) }
     ensures defined { OnErr result (is_some definition ≡ true) }
 {
     match definition {
-        None => Ok(None),
+        None => Ok(Err(PayloadFault::NotTlv)),
         Some(definition) => part_given(alloc, definition, part, format, payload),
     }
 }
 
-/// What a payload gives at a path, or none where it is not good.
-fn values_given(
+/// What a payload gives at a path, or what of it is at fault.
+fn values_judged(
     alloc: Global,
     catalog: &Catalog,
     path: Path,
     payload: &[u8],
     format: Format,
-) -> Result<Option<NewValues>, AllocError>
-    ensures { IfOk result (λ g. g ≡ values_given catalog.now path payload.now format) }
+) -> Result<Result<NewValues, PayloadFault>, AllocError>
+    ensures { IfOk result (λ g. g ≡ values_judged catalog.now path payload.now format) }
 {
     let definition = definition_at(catalog, path);
     match path {
-        Path::Object(_) => Ok(None),
+        Path::Object(_) => Ok(Err(PayloadFault::NotTlv)),
         Path::Instance(object, instance) => {
             let given = instance_given(alloc, defined(catalog, object), instance, payload)?;
             Ok(given.map(NewValues::Several))
@@ -197,6 +199,21 @@ fn values_given(
     }
 }
 
+/// What of a payload of this format is at fault in a Write at a path, if something is. A Write is refused by this very
+/// judgement.
+pub fn payload_fault(
+    alloc: Global,
+    catalog: &Catalog,
+    path: Path,
+    payload: &[u8],
+    format: Format,
+) -> Result<Option<PayloadFault>, AllocError>
+    ensures { IfOk result (λ f. f ≡ result_err (values_judged catalog.now path payload.now format)) }
+{
+    let judged = values_judged(alloc, catalog, path, payload, format)?;
+    Ok(judged.err())
+}
+
 /// How a Write at the path treats the parts that it does not name.
 pub fn mode_at(mode: Mode, path: Path) -> Mode
     ensures { result ≡ mode_at mode path }
@@ -207,55 +224,84 @@ pub fn mode_at(mode: Mode, path: Path) -> Mode
     }
 }
 
-/// Whether a resource that keeps its values would have more parts than it may.
-fn resource_exceeds(
+/// How many parts a resource that keeps its values would have, where these are more than it may have.
+fn resource_excess(
     mode: Mode,
     definition: Option<ResourceDef>,
     store: &Store,
     place: ResourcePath,
     given: &Given,
-) -> Result<bool, AllocError>
-    ensures exceeds { IfOk result (λ b. b ≡ resource_exceeds mode definition store.now place given.now) }
+) -> Result<Option<Excess>, AllocError>
+    ensures excess { IfOk result (λ e. e ≡ resource_excess mode definition store.now place given.now) }
     ensures kept { OnErr result (is_kept_as definition ≡ true) }
 {
     if !is_readable(definition) {
-        return Ok(false);
+        return Ok(None);
     }
-    is_too_many(mode, store, place, given)
+    let Some(count) = excess_of(mode, store, place, given)? else {
+        return Ok(None);
+    };
+    Ok(Some(Excess {
+        resource: place.resource,
+        count,
+    }))
 }
 
-/// Whether a resource would have more parts than it may.
-fn exceeds(
+/// The first resource that would have more parts than it may.
+fn values_excess(
     mode: Mode,
     catalog: &Catalog,
     store: &Store,
     path: Path,
     values: &NewValues,
-) -> Result<bool, AllocError>
-    ensures { IfOk result (λ b. b ≡ values_exceed mode catalog.now store.now path values.now) }
+) -> Result<Option<Excess>, AllocError>
+    ensures { IfOk result (λ e. e ≡ values_excess mode catalog.now store.now path values.now) }
 {
     let definition = definition_at(catalog, path);
     match values {
         NewValues::Several(given) => match path {
             Path::Instance(object, instance) => {
                 let place = InstancePath { object, instance };
-                has_too_many(mode, defined(catalog, object), store, place, given)
+                first_excess(mode, defined(catalog, object), store, place, given)
             }
-            Path::Object(_) | Path::Resource(_, _, _) | Path::Part(_, _, _, _) => Ok(false),
+            Path::Object(_) | Path::Resource(_, _, _) | Path::Part(_, _, _, _) => Ok(None),
         },
         NewValues::One(given) => match path {
             Path::Resource(object, instance, resource)
             | Path::Part(object, instance, resource, _) => {
                 let place = resource_place(object, instance, resource);
-                resource_exceeds(mode, definition, store, place, given)
+                resource_excess(mode, definition, store, place, given)
             }
-            Path::Object(_) | Path::Instance(_, _) => Ok(false),
+            Path::Object(_) | Path::Instance(_, _) => Ok(None),
         },
     }
 }
 
-/// Sets what is given to a resource of an instance that is there, where it keeps its values and has
-/// no more parts then than it may.
+/// The first resource that would have more parts than it may after a Write with the Content-Format of this number, if
+/// that gives something.
+pub fn write_excess(
+    alloc: Global,
+    client: &Client,
+    mode: Mode,
+    path: Path,
+    number: Option<u16>,
+    payload: &[u8],
+) -> Result<Option<Excess>, AllocError>
+    ensures { IfOk result (λ e. e ≡ write_excess client.now mode path number payload.now) }
+{
+    let catalog = client.catalog();
+    let Some(format) = format_for(path, definition_at(catalog, path), number) else {
+        return Ok(None);
+    };
+    let Ok(values) = values_judged(alloc, catalog, path, payload, format)? else {
+        return Ok(None);
+    };
+    values_excess(mode_at(mode, path), catalog, client.store(), path, &values)
+}
+
+/// Sets what is given to a resource of an instance that is there, where it keeps its values and has no more parts then
+/// than it may.
+#[tactic(auto, using(crate::proofs::Fitting::fits))]
 fn write_resource(
     mode: Mode,
     definition: Option<ResourceDef>,
@@ -264,7 +310,7 @@ fn write_resource(
     given: Given,
 ) -> Result<(), AllocError>
     requires there { has_instance store.old (instance_of place) ≡ true }
-    requires room { resource_exceeds mode definition store.old place given ≡ false }
+    requires room { is_some (resource_excess mode definition store.old place given) ≡ false }
     ensures written { OnOk result (store.new ≡ resource_written mode definition store.old place given) }
     ensures kept { OnErr result (is_kept_as definition ≡ true) }
 {
@@ -341,7 +387,7 @@ impl Client {
             ((values_exceed mode self.old.catalog self.old.store path values, Code.InternalServerError) ∷ []))
             self.old (values_written mode self.old.catalog self.old.store path values))) }
     {
-        if exceeds(mode, &self.catalog, &self.store, path, &values)? {
+        if values_excess(mode, &self.catalog, &self.store, path, &values)?.is_some() {
             return Ok(Answer::bare(self.alloc, Code::InternalServerError));
         }
         write_at(mode, &self.catalog, &mut self.store, path, values)?;
@@ -377,7 +423,7 @@ impl Client {
         ensures { IfOk result (λ a. let values = values_given self.old.catalog path payload.now format in
             Leaves a self.new (give (value_rules self.old mode path values) self.old mode path values)) }
     {
-        let Some(values) = values_given(self.alloc, &self.catalog, path, payload, format)? else {
+        let Ok(values) = values_judged(self.alloc, &self.catalog, path, payload, format)? else {
             return Ok(Answer::bare(self.alloc, Code::BadRequest));
         };
         match event_of(path, &values)? {

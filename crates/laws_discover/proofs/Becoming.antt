@@ -14,7 +14,8 @@ use Rattle.device_requests.specs.declared.operation.Operation.TheVariants.{Creat
 use Rattle.device_requests.specs.declared.operation.Operation.TheVariants.{WriteAttributes, WritePartial, WriteReplace}
 use Rattle.device_requests.specs.declared.request.Request.{Request}
 use Rattle.device_requests.specs.Client.{Client}
-use Rattle.device_requests.specs.Create.{create_unless, newborn, Newborn}
+use Rattle.device_requests.specs.declared.create.Newborn.{Newborn}
+use Rattle.device_requests.specs.Create.{create_unless, newborn}
 use Rattle.device_requests.specs.Delete.{attributes_after_delete, delete_unless}
 use Rattle.device_requests.specs.Execute.{execute_unless}
 use Rattle.device_requests.specs.Operation.{operation_of}

@@ -1,6 +1,6 @@
 -- What is among the elements of a list, among the entries of a map, and among the instances of an object.
 use Rattle.std.proofs.Common.{◌≡◌, ◌↔◌, inl, inr, ℕ, Bool, true, false, cond, List, [], ◌∷◌}
-use Rattle.std.proofs.Common.{Some, refl, sym, ap, subst, ◌∙◌}
+use Rattle.std.proofs.Common.{None, Some, refl, sym, ap, subst, ◌∙◌}
 use Rattle.std.proofs.Math.Dec.{T}
 use Rattle.std.specs.Cmp.{eq_by_cmp_equiv}
 use Rattle.std.specs.FinMap as finite
@@ -31,6 +31,22 @@ found p x (z ∷ xs) h =
       | true ↦ λ e k. let i : z ≡ x = cc in (inl i, rw (← i) e)
       | false ↦ λ e k. let r = found p x xs k in (inr r.0, r.1)
     ] refl h
+
+pub none_found : {X : Type 0} (p : X → Bool) (xs : List X) → lists.find p xs ≡ None → (x : X) → IsAmong x xs
+    → p x ≡ false
+none_found p [] h x among = absurd among
+none_found p (z ∷ xs) h x among =
+    elim (p z) as (λ b. p z ≡ b → cond b (Some z) (lists.find p xs) ≡ None → p x ≡ false) [
+      | true ↦ λ e k. cc
+      | false ↦ λ e k. elim among [ inl is ↦ sym (ap p is) ∙ e | inr others ↦ none_found p xs k x others ]
+    ] refl h
+
+pub not_found : {X : Type 0} (p : X → Bool) (xs : List X) → ((x : X) → IsAmong x xs → p x ≡ false)
+    → lists.find p xs ≡ None
+not_found p [] h = refl
+not_found p (z ∷ xs) h =
+    ap (λ (b : Bool). cond b (Some z) (lists.find p xs)) (h z (inl refl))
+    ∙ not_found p xs (λ x among. h x (inr among))
 
 -- ---- the entries of a map
 

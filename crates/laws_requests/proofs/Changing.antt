@@ -1,5 +1,6 @@
 -- What kinds of thing an operation changes.
-use Rattle.std.proofs.Common.{◌≡◌, ℕ, Bool, true, false, List, Option, None, Some, refl, sym, ap, subst, ◌∙◌}
+use Rattle.std.proofs.Common.{◌≡◌, ℕ, Bool, true, false, List, Option, None, Some, Result, Ok, Err, refl, sym, ap}
+use Rattle.std.proofs.Common.{subst, ◌∙◌}
 use Rattle.std.specs.Bool.{if◌then◌else◌}
 use Rattle.std.specs.Option.{option_and_then, unwrap_or}
 use Rattle.coap_codec.specs.Message.{Message}
@@ -16,6 +17,7 @@ use Rattle.device_firmware.specs.declared.event.FirmwareEvent.TheVariants as eve
 use Rattle.device_firmware.proofs.AfterEvent.{same_instances, taken}
 use Rattle.lwm2m_payloads.specs.Changes.{is_kept_as, with_given}
 use Rattle.lwm2m_payloads.specs.Given.{instance_given}
+use Rattle.lwm2m_payloads.specs.declared.fault.PayloadFault.{PayloadFault}
 use Rattle.lwm2m_payloads.specs.declared.format.Format.{Format}
 use Rattle.lwm2m_payloads.specs.declared.given.Assignment.{Assignment}
 use Rattle.lwm2m_payloads.specs.declared.given.Given.{Given}
@@ -29,7 +31,8 @@ use Rattle.device_requests.specs.declared.operation.Operation.TheVariants.{Write
 use Rattle.device_requests.specs.declared.operation.Operation.TheVariants.{Delete}
 use Rattle.device_requests.specs.Answer.{Outcome}
 use Rattle.device_requests.specs.Client.{Client}
-use Rattle.device_requests.specs.Create.{Newborn, create_unless, newborn}
+use Rattle.device_requests.specs.declared.create.Newborn.{Newborn}
+use Rattle.device_requests.specs.Create.{create_unless, newborn}
 use Rattle.device_requests.specs.Execute.{execute_unless, with_no_error}
 use Rattle.device_requests.specs.Options.{content_format_of, queries_of}
 use Rattle.device_requests.specs.Outcomes.{write_outcome}
@@ -63,25 +66,26 @@ writes client mode path payload format =
     (option_and_then (values_given client.catalog path payload) format)
 
 instance_instances : (client : Client) (mode : Mode) (o i : ℕ) (payload : List ℕ) (f : Format)
-    (given : Option (List Assignment)) → instance_given (resources_defined client.catalog o) i payload ≡ given
+    (given : Result (List Assignment) PayloadFault)
+    → instance_given (resources_defined client.catalog o) i payload ≡ given
     → (writes client mode (Instance o i) payload (Some f)).instances ≡ client.store.instances
-instance_instances client mode o i payload f None h = rw h refl
-instance_instances client mode o i payload f (Some given) h =
+instance_instances client mode o i payload f (Err e) h = rw h refl
+instance_instances client mode o i payload f (Ok given) h =
     rw h (written_instances mode (resources_defined client.catalog o) client.store (place_of o i) given)
 
 resource_instances : (client : Client) (mode : Mode) (o i r : ℕ) (payload : List ℕ) (f : Format)
-    (given : Option Given) → given_to_resource (definition_of client.catalog o r) f payload ≡ given
+    (given : Result Given PayloadFault) → given_to_resource (definition_of client.catalog o r) f payload ≡ given
     → (writes client mode (Resource o i r) payload (Some f)).instances ≡ client.store.instances
-resource_instances client mode o i r payload f None h = rw h refl
-resource_instances client mode o i r payload f (Some given) h =
+resource_instances client mode o i r payload f (Err e) h = rw h refl
+resource_instances client mode o i r payload f (Ok given) h =
     rw h
     (kept_instances (is_kept_as (definition_of client.catalog o r)) mode client.store (resource_place o i r) given)
 
 part_instances : (client : Client) (mode : Mode) (o i r n : ℕ) (payload : List ℕ) (f : Format)
-    (given : Option Given) → given_to_part (definition_of client.catalog o r) n f payload ≡ given
+    (given : Result Given PayloadFault) → given_to_part (definition_of client.catalog o r) n f payload ≡ given
     → (writes client mode (Part o i r n) payload (Some f)).instances ≡ client.store.instances
-part_instances client mode o i r n payload f None h = rw h refl
-part_instances client mode o i r n payload f (Some given) h =
+part_instances client mode o i r n payload f (Err e) h = rw h refl
+part_instances client mode o i r n payload f (Ok given) h =
     rw h
     (kept_instances (is_kept_as (definition_of client.catalog o r)) mode client.store (resource_place o i r) given)
 

@@ -1,9 +1,10 @@
 -- What a Create adds.
 use Rattle.std.proofs.Common.{◌≡◌, ◌≢◌, ℕ, Bool, true, false, cond, not, List, Option, None, Some, length, nat_le, pos}
-use Rattle.std.proofs.Common.{refl, sym, ap, subst, ◌∙◌}
+use Rattle.std.proofs.Common.{Result, Ok, Err, ok_or, refl, sym, ap, subst, ◌∙◌}
 use Rattle.std.specs.Bool.{if◌then◌else◌}
 use Rattle.std.specs.FinMap as map
-use Rattle.std.specs.Option.{is_some, option_map}
+use Rattle.std.specs.Option.{is_some}
+use Rattle.std.specs.Result.{result_ok}
 use Rattle.std.proofs.lemmas.Bool.{false≢true}
 use Rattle.lemmas.proofs.Options.{some_if_denied}
 use Rattle.object_defs.specs.Path.{part_of, single_of}
@@ -17,7 +18,9 @@ use Rattle.instance_store.proofs.SetValues.{value_elsewhere}
 use Rattle.lwm2m_values.specs.declared.value.Value.{Value}
 use Rattle.lwm2m_values.specs.declared.value.Value.TheVariants.{Whole}
 use Rattle.lwm2m_payloads.specs.Given.{creation_given}
+use Rattle.lwm2m_payloads.specs.Results.{result_map}
 use Rattle.lwm2m_payloads.specs.Written.{EachOnce, value_behind}
+use Rattle.lwm2m_payloads.specs.declared.fault.PayloadFault.{PayloadFault}
 use Rattle.lwm2m_payloads.specs.declared.given.Assignment.{Assignment}
 use Rattle.lwm2m_payloads.specs.declared.given.Creation.{Creation}
 use Rattle.lwm2m_payloads.specs.declared.given.Mode.TheVariants.{Replace}
@@ -33,7 +36,8 @@ use Rattle.device_instances.proofs.Within.{kept, written_within}
 use Rattle.device_requests.specs.declared.answer.Code.{Code}
 use Rattle.device_requests.specs.Answer.{Outcome}
 use Rattle.device_requests.specs.Client.{Client}
-use Rattle.device_requests.specs.Create.{Newborn, create_unless, newborn, newborn_of}
+use Rattle.device_requests.specs.declared.create.Newborn.{Newborn}
+use Rattle.device_requests.specs.Create.{create_unless, newborn, newborn_from, number_fault}
 use Rattle.device_requests.specs.Laws.{is_refusal}
 use Rattle.device_requests.specs.Refusals.{is_fixed, refusals_of, to_create}
 use Rattle.device_requests.specs.Targets.{place_of, resource_place, resources_defined}
@@ -151,19 +155,17 @@ module _ (s : Stored) (accounts server : ℕ) (resources : List ResourceDef) (pl
 
 -- ---- the request
 
-one_newborn : (a b : Newborn) → Some a ≡ Some b → a ≡ b
-one_newborn a b h = cc
+born_at : (s : Stored) (o : ℕ) (x : Creation) (r : Option ℕ) (b : Newborn)
+    → result_ok (result_map (λ (n : ℕ). record { number = n; given = x.assigned }) (ok_or r (number_fault x.number)))
+    ≡ Some b → x.assigned ≡ b.given
+born_at s o x None b h = cc
+born_at s o x (Some n) b h =
+    let one : record { number = n; given = x.assigned } ≡ b = cc in ap (λ (y : Newborn). y.given) one
 
-given_once : (r : Option ℕ) (given : List Assignment) (b : Newborn) → EachOnce given
-    → option_map (λ (n : ℕ). record { number = n; given = given }) r ≡ Some b → EachOnce b.given
-given_once None given b once h = cc
-given_once (Some n) given b once h =
-    subst EachOnce (ap (λ (x : Newborn). x.given) (one_newborn (record { number = n; given = given }) b h)) once
-
-born_once : (s : Stored) (o : ℕ) (c : Option Creation) (b : Newborn)
-    → ((x : Creation) → c ≡ Some x → EachOnce x.assigned) → newborn_of s o c ≡ Some b → EachOnce b.given
-born_once s o None b once h = cc
-born_once s o (Some x) b once h = given_once (number_for s o x.number) x.assigned b (once x refl) h
+born_once : (s : Stored) (o : ℕ) (c : Result Creation PayloadFault) (b : Newborn)
+    → ((x : Creation) → c ≡ Ok x → EachOnce x.assigned) → result_ok (newborn_from s o c) ≡ Some b → EachOnce b.given
+born_once s o (Err e) b once h = cc
+born_once s o (Ok x) b once h = subst EachOnce (born_at s o x (number_for s o x.number) b h) (once x refl)
 
 made : (client : Client) (server o : ℕ) (payload : List ℕ) (b : Newborn) → newborn client o payload ≡ Some b
     → is_fixed o ≡ false → IsCreated client server o payload (create_unless None client server o (Some b))

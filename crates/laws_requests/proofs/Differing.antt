@@ -5,8 +5,9 @@ use Rattle.std.proofs.Common.{[], ◌∷◌, length, Option, None, Some, option_
 use Rattle.std.specs.FinMap as finite
 use Rattle.std.specs.FinMap.{find, is_sorted}
 use Rattle.std.specs.FinMap.Entries.{below_all, same_entries}
+use Rattle.std.specs.List as lists
 use Rattle.std.specs.List.{cons_option, filter, filter_map, list_any}
-use Rattle.std.specs.Option.{is_some}
+use Rattle.std.specs.Option.{is_some, option_and_then}
 use Rattle.std.specs.Ordering.{eq_by_cmp}
 use Rattle.std.proofs.Math.Dec.{T}
 use Rattle.std.proofs.lemmas.Bool.{eqb-true, and_parts}
@@ -30,7 +31,8 @@ use Rattle.access_control.specs.Rights.{creation, every_right, owns}
 use Rattle.access_control.specs.Rights.{read_alone, read_and_write}
 use Rattle.access_control.specs.Rights.{right_of, right_on_control}
 use Rattle.access_control.specs.declared.letters.Rights.{Rights}
-use Rattle.lwm2m_payloads.specs.Changes.{has_too_many, is_kept, is_other, is_too_many, resource_of}
+use Rattle.lwm2m_payloads.specs.Changes.{above_limit, excess_by, excess_of, first_excess, is_kept, is_other, resource_of}
+use Rattle.lwm2m_payloads.specs.declared.counts.Excess.{Excess}
 use Rattle.lwm2m_payloads.specs.Nodes.{Pairs}
 use Rattle.lwm2m_payloads.specs.declared.given.Assignment.{Assignment}
 use Rattle.lwm2m_payloads.specs.declared.given.Given.{Given}
@@ -190,18 +192,22 @@ same_reads client stored server o i h = ap (λ (r : Rights). r.read) (same_right
 -- ---- counts
 
 pub same_excess : (mode : Mode) (s t : Stored) (p : ResourcePath) (given : Given) → HaveSamePlaces s t
-    → is_too_many mode s p given ≡ is_too_many mode t p given
+    → excess_of mode s p given ≡ excess_of mode t p given
 same_excess mode s t p (Single v) h = refl
 same_excess Replace s t p (Parts parts) h = refl
 same_excess Update s t p (Parts parts) h =
-    ap (λ (f : ResourcePath → List ℕ). nat_lt 32 (length parts + length (filter (is_other parts) (f p))))
+    ap (λ (f : ResourcePath → List ℕ). above_limit (length parts + length (filter (is_other parts) (f p))))
     (same_parts s t h)
 
 pub same_excesses : (mode : Mode) (resources : List ResourceDef) (s t : Stored) (place : InstancePath)
     (given : List Assignment) → HaveSamePlaces s t
-    → has_too_many mode resources s place given ≡ has_too_many mode resources t place given
+    → first_excess mode resources s place given ≡ first_excess mode resources t place given
 same_excesses mode resources s t place given h =
-    λ j. list_any (λ a. is_kept resources a && same_excess mode s t (resource_of place a.resource) a.given h j) given
+    let same : excess_by mode resources s place ≡ excess_by mode resources t place =
+    λ j a. if is_kept resources a
+    then option_map (λ n. record { resource = a.resource; count = n })
+    (same_excess mode s t (resource_of place a.resource) a.given h j) else None in
+    ap (λ (f : Assignment → Option Excess). option_and_then f (lists.find (λ a. is_some (f a)) given)) same
 
 -- ---- values that may be read
 

@@ -1,6 +1,6 @@
 -- What a request that is done changes.
 use Rattle.std.proofs.Common.{◌≡◌, ◌≢◌, ℕ, Bool, true, false, not, ◌==◌, ◌&&◌, List, Option, None, Some}
-use Rattle.std.proofs.Common.{refl, sym, ap, subst, ◌∙◌}
+use Rattle.std.proofs.Common.{Ok, refl, sym, ap, subst, ◌∙◌}
 use Rattle.std.specs.Bool.{if◌then◌else◌}
 use Rattle.std.specs.Option.{is_some, option_and_then, unwrap_or}
 use Rattle.std.proofs.lemmas.Bool.{eqb-true}
@@ -32,7 +32,8 @@ use Rattle.device_requests.specs.declared.operation.Operation.TheVariants.{Write
 use Rattle.device_requests.specs.declared.operation.Operation.TheVariants.{Delete}
 use Rattle.device_requests.specs.Answer.{Outcome}
 use Rattle.device_requests.specs.Client.{Client, with_attributes, with_stored}
-use Rattle.device_requests.specs.Create.{Newborn, create_unless, newborn}
+use Rattle.device_requests.specs.declared.create.Newborn.{Newborn}
+use Rattle.device_requests.specs.Create.{create_unless, newborn}
 use Rattle.device_requests.specs.Delete.{delete_unless}
 use Rattle.device_requests.specs.Execute.{execute_unless}
 use Rattle.device_requests.specs.Options.{content_format_of, queries_of}
@@ -66,7 +67,7 @@ use Rattle.laws_requests.proofs.Writing.{unrefused}
 -- ---- a Write of a resource that the firmware does not take
 
 is_written : (client : Client) (mode : Mode) (o i r : ℕ) (payload : List ℕ) (f : Format) (d : ResourceDef)
-    (given : Given) → given_to_resource (definition_of client.catalog o r) f payload ≡ Some given
+    (given : Given) → given_to_resource (definition_of client.catalog o r) f payload ≡ Ok given
     → definition_of client.catalog o r ≡ Some d
     → after_write mode client.catalog client.store (Resource o i r)
     (values_given client.catalog (Resource o i r) payload f)
@@ -74,7 +75,7 @@ is_written : (client : Client) (mode : Mode) (o i r : ℕ) (payload : List ℕ) 
 is_written client mode o i r payload f d given h k = rw (h, k) refl
 
 untaken : (client : Client) (mode : Mode) (o i r : ℕ) (payload : List ℕ) (f : Format) (d : ResourceDef)
-    (given : Given) → given_to_resource (definition_of client.catalog o r) f payload ≡ Some given
+    (given : Given) → given_to_resource (definition_of client.catalog o r) f payload ≡ Ok given
     → definition_of client.catalog o r ≡ Some d
     → event_of (Resource o i r) (values_given client.catalog (Resource o i r) payload f) ≡ None
     → leaves client mode (Resource o i r) payload (Some f)

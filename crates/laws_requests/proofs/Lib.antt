@@ -22,6 +22,7 @@ mod PartGiving
 mod PartReading
 mod PartWriting
 mod Records
+mod Results
 mod Serving
 pub mod Taking
 mod Targeting

@@ -1,13 +1,12 @@
 -- A multiple resource that was written is read again.
 use Rattle.std.proofs.Common.{◌≡◌, ℕ, Bool, true, false, ◌==◌, List, [], ◌∷◌, Option, None, Some, refl}
-use Rattle.std.proofs.Common.{sym, ap, subst, ◌∙◌}
+use Rattle.std.proofs.Common.{Ok, sym, ap, subst, ◌∙◌}
 use Rattle.std.specs.Bool.{if◌then◌else◌}
 use Rattle.std.specs.FinMap as finite
-use Rattle.std.specs.Option.{is_some, option_and_then, option_map, option_or}
-use Rattle.std.proofs.lemmas.Bool.{eqb-false}
+use Rattle.std.specs.Option.{is_some, option_or}
+use Rattle.std.proofs.lemmas.Bool.{both_ways, eqb-false}
 use Rattle.lemmas.proofs.Tests.{second_if_denied}
-use Rattle.lwm2m_values.specs.Reading.{nodes_of_bytes, value_of_bytes}
-use Rattle.lwm2m_values.specs.Tree.{Tree, Trees, instance, multi, part, single, none, more}
+use Rattle.lwm2m_values.specs.Tree.{Tree}
 use Rattle.lwm2m_values.specs.declared.value.Value.{Value}
 use Rattle.object_defs.specs.Catalog.{definition_of}
 use Rattle.object_defs.specs.Operations.{can_read}
@@ -18,14 +17,13 @@ use Rattle.object_defs.specs.declared.path.ResourcePath.{ResourcePath}
 use Rattle.instance_store.specs.Stored.{Stored, has_instance, value_at}
 use Rattle.lwm2m_payloads.specs.Changes.{with_given}
 use Rattle.lwm2m_payloads.specs.Formats.{extent_as, format_for, many, one}
-use Rattle.lwm2m_payloads.specs.Given.{given_by, lone_record, number_in, parts_given, resource_given}
-use Rattle.lwm2m_payloads.specs.Given.{some_parts}
+use Rattle.lwm2m_payloads.specs.Given.{resource_given}
 use Rattle.lwm2m_payloads.specs.PartList.{PartList}
 use Rattle.lwm2m_payloads.specs.Written.{GivenOnce, PartsOnce, part_value}
 use Rattle.lwm2m_payloads.specs.declared.format.Format.{Format}
 use Rattle.lwm2m_payloads.specs.declared.format.Format.TheVariants.{Tlv}
 use Rattle.lwm2m_payloads.specs.declared.given.Given.{Given}
-use Rattle.lwm2m_payloads.specs.declared.given.Given.TheVariants.{Single, Parts}
+use Rattle.lwm2m_payloads.specs.declared.given.Given.TheVariants.{Parts}
 use Rattle.lwm2m_payloads.specs.declared.given.Mode.{Mode}
 use Rattle.lwm2m_payloads.specs.declared.given.Mode.TheVariants.{Replace}
 use Rattle.lwm2m_payloads.proofs.EachOnce.{resource_once}
@@ -41,7 +39,8 @@ use Rattle.laws_requests.specs.Multiples.{ArePartsReadBack, HoldsParts, Multiple
 use Rattle.laws_requests.proofs.Asking.{fails}
 use Rattle.laws_requests.proofs.Holding.{holds, multiple_read, lies_here}
 use Rattle.laws_requests.proofs.Writing.{comes, leaves, resource_good, unrefused}
-use Rattle.laws_requests.proofs.Giving.{given_some}
+use Rattle.laws_requests.specs.Payloads.{GivesResource, GivesTo, by_bytes, by_record, by_text, gives_parts, gives_value}
+use Rattle.laws_requests.proofs.Giving.{resources_given}
 
 -- ---- what the payload gives
 
@@ -49,36 +48,20 @@ use Rattle.laws_requests.proofs.Giving.{given_some}
 abbrev AreSomeParts : Given → Type 0
 AreSomeParts g = (parts : PartList) × (g ≡ Parts parts)
 
-some_are : (mandatory : Bool) (parts : Option PartList) (g : Given) → some_parts mandatory parts ≡ Some g
-    → AreSomeParts g
-some_are mandatory None g h = cc
-some_are true (Some []) g h = cc
-some_are false (Some []) g h = ([], cc)
-some_are mandatory (Some (e ∷ parts)) g h = (e ∷ parts, cc)
+-- a multiple resource is given parts by TLV
+gives_some_parts : (d : ResourceDef) (payload : List ℕ) (g : Given) → d.multiple ≡ true
+    → resource_given d Tlv payload ≡ Ok g → AreSomeParts g
+gives_some_parts d payload g several h = by_tlv d Tlv payload g several refl ((resources_given d Tlv payload g).0 h)
+  where
+    to_parts : (d : ResourceDef) (node : Tree) (g : Given) → d.multiple ≡ true → GivesTo d node g → AreSomeParts g
+    to_parts d node g several (gives_value bytes v alone is) = absurd (both_ways d.multiple alone several)
+    to_parts d node g several (gives_parts inner ps is_many are some) = (ps, refl)
 
-record_gives_parts : (d : ResourceDef) (node : Tree) (g : Given) → d.multiple ≡ true → given_by d node ≡ Some g
-    → AreSomeParts g
-record_gives_parts d (instance i inner) g k h = cc
-record_gives_parts d (multi q inner) g k h =
-    let e : (if d.multiple then some_parts d.mandatory (parts_given d.kind inner) else None) ≡ Some g = h in
-    some_are d.mandatory (parts_given d.kind inner) g (rw k at e)
-record_gives_parts d (part n bytes) g k h = cc
-record_gives_parts d (single q bytes) g k h =
-    let e : (if d.multiple then None else option_map Single (value_of_bytes d.kind bytes)) ≡ Some g = h in
-    let n : None ≡ Some g = rw k at e in
-    cc
-
-records_give_parts : (d : ResourceDef) (nodes : Trees) (g : Given) → d.multiple ≡ true → lone_record d nodes ≡ Some g
-    → AreSomeParts g
-records_give_parts d none g k h = cc
-records_give_parts d (more node none) g k h =
-    record_gives_parts d node g k (given_some (number_in node == d.id) (given_by d node) g h).1
-records_give_parts d (more node (more next nodes)) g k h = cc
-
-nodes_give_parts : (d : ResourceDef) (nodes : Option Trees) (g : Given) → d.multiple ≡ true
-    → option_and_then (lone_record d) nodes ≡ Some g → AreSomeParts g
-nodes_give_parts d None g k h = cc
-nodes_give_parts d (Some nodes) g k h = records_give_parts d nodes g k h
+    by_tlv : (d : ResourceDef) (f : Format) (payload : List ℕ) (g : Given) → d.multiple ≡ true → f ≡ Tlv
+        → GivesResource d f payload g → AreSomeParts g
+    by_tlv d f payload g several tlv (by_text _ v is) = cc
+    by_tlv d f payload g several tlv (by_bytes _ v is) = cc
+    by_tlv d f payload g several tlv (by_record _ node _ records gives) = to_parts d node g several gives
 
 only_tlv : (number : Option ℕ) (f : Format) → format_for many number ≡ Some f → f ≡ Tlv
 only_tlv None f h = cc
@@ -107,7 +90,7 @@ is_only_tlv client o i r d number f defined_as several h =
 -- the firmware takes single values alone
 parts_leave : (client : Client) (mode : Mode) (o i r : ℕ) (payload : List ℕ) (f : Format) (d : ResourceDef)
     (parts : PartList)
-    → given_to_resource (definition_of client.catalog o r) f payload ≡ Some (Parts parts)
+    → given_to_resource (definition_of client.catalog o r) f payload ≡ Ok (Parts parts)
     → definition_of client.catalog o r ≡ Some d → can_read d.ops ≡ true
     → leaves client mode (Resource o i r) payload (Some f)
     ≡ with_given mode client.store (resource_place o i r) (Parts parts)
@@ -140,7 +123,7 @@ replaced stored p parts once =
     ∙ or_none (part_value parts (Some n)))
 
 is_given : (d : Option ResourceDef) (f : Format) (payload : List ℕ) (e : ResourceDef) (g : Given) → d ≡ Some e
-    → given_to_resource d f payload ≡ Some g → resource_given e f payload ≡ Some g
+    → given_to_resource d f payload ≡ Ok g → resource_given e f payload ≡ Ok g
 is_given d f payload e g is h = sym (ap (λ (x : Option ResourceDef). given_to_resource x f payload) is) ∙ h
 
 pub multiple_back : MultipleIsReadBack
@@ -153,11 +136,11 @@ multiple_back client server o i r d number payload defined_as several readable h
     let tlv = is_only_tlv client o i r d number c.format defined_as several c.served in
     let g = resource_good client o i r payload c.format
     (given_to_resource (definition_of client.catalog o r) c.format payload) refl c.good in
-    let gives : resource_given d Tlv payload ≡ Some g.0 =
-    subst (λ (f : Format). resource_given d f payload ≡ Some g.0) tlv
+    let gives : resource_given d Tlv payload ≡ Ok g.0 =
+    subst (λ (f : Format). resource_given d f payload ≡ Ok g.0) tlv
     (is_given (definition_of client.catalog o r) c.format payload d g.0 defined_as g.1) in
-    let parts = nodes_give_parts d (nodes_of_bytes payload) g.0 several gives in
-    let are = ap (λ (x : Given). Some x) parts.1 in
+    let parts = gives_some_parts d payload g.0 several gives in
+    let are = ap (λ (x : Given). Ok x) parts.1 in
     let once : PartsOnce parts.0 = subst GivenOnce parts.1 (resource_once d Tlv payload g.0 gives) in
     let stored = with_given Replace client.store p (Parts parts.0) in
     let new : (write_outcome client server Replace path number payload).client ≡ with_stored client stored =

@@ -1,11 +1,9 @@
 -- A part that was written is read again.
 use Rattle.std.proofs.Common.{◌≡◌, ℕ, Bool, true, false, cond, not, ◌&&◌, ◌==◌, List, [], ◌∷◌, Option, None}
-use Rattle.std.proofs.Common.{Some, refl, sym, ap, subst, ◌∙◌}
+use Rattle.std.proofs.Common.{Some, Result, Ok, Err, refl, sym, ap, subst, ◌∙◌}
 use Rattle.std.specs.Cmp.{eq_by_cmp_equiv}
 use Rattle.std.specs.Option.{is_some, option_and_then, option_map, unwrap_or}
-use Rattle.lwm2m_values.specs.Reading.{nodes_of_bytes, value_of_bytes, value_of_text}
-use Rattle.lwm2m_values.specs.Tree.{Trees, multi, part, none, more}
-use Rattle.lwm2m_values.specs.declared.kind.ValueKind.{ValueKind}
+use Rattle.lwm2m_values.specs.Tree.{part}
 use Rattle.lwm2m_values.specs.declared.value.Value.{Value}
 use Rattle.object_defs.specs.Catalog.{definition_of}
 use Rattle.object_defs.specs.Operations.{can_read}
@@ -15,10 +13,10 @@ use Rattle.object_defs.specs.declared.path.Path.TheVariants.{Part}
 use Rattle.object_defs.proofs.PathOrder.{path_total}
 use Rattle.instance_store.specs.Stored.{Stored, has_instance, value_at, with_value}
 use Rattle.instance_store.proofs.SetValues.{value_after}
-use Rattle.lwm2m_payloads.specs.Given.{lone_part, one_part, part_given, part_record}
+use Rattle.lwm2m_payloads.specs.Given.{part_given}
 use Rattle.lwm2m_payloads.specs.Nodes.{value_payload}
+use Rattle.lwm2m_payloads.specs.declared.fault.PayloadFault.{PayloadFault}
 use Rattle.lwm2m_payloads.specs.declared.format.Format.{Format}
-use Rattle.lwm2m_payloads.specs.declared.format.Format.TheVariants.{PlainText, OctetStream, Tlv}
 use Rattle.lwm2m_payloads.specs.declared.given.Given.{Given}
 use Rattle.lwm2m_payloads.specs.declared.given.Given.TheVariants.{Parts}
 use Rattle.lwm2m_payloads.specs.declared.given.Mode.{Mode}
@@ -36,36 +34,15 @@ use Rattle.device_requests.proofs.ReadBack.{shown}
 use Rattle.laws_requests.specs.Readings.{IsPartReadBack, PartIsRead}
 use Rattle.laws_requests.proofs.Asking.{fails}
 use Rattle.laws_requests.proofs.Writing.{comes, leaves, unrefused}
-use Rattle.laws_requests.proofs.Giving.{given_some}
+use Rattle.laws_requests.proofs.PartGiving.{parts_given_by}
 
 -- one value is given to the part
 abbrev IsOnePart : ℕ → Given → Type 0
 IsOnePart n g = (v : Value) × (g ≡ Parts ((n, v) ∷ []))
 
-one_is : (n : ℕ) (value : Option Value) (g : Given) → one_part n value ≡ Some g → IsOnePart n g
-one_is n None g h = cc
-one_is n (Some v) g h = (v, cc)
-
-lone_is : (kind : ValueKind) (n : ℕ) (nodes : Trees) (g : Given) → lone_part kind n nodes ≡ Some g → IsOnePart n g
-lone_is kind n (more (part m bytes) none) g h =
-    one_is n (value_of_bytes kind bytes) g (given_some (m == n) (one_part n (value_of_bytes kind bytes)) g h).1
-lone_is kind n nodes g h = cc
-
-record_is : (d : ResourceDef) (n : ℕ) (nodes : Trees) (g : Given) → part_record d n nodes ≡ Some g → IsOnePart n g
-record_is d n (more (multi r inner) none) g h =
-    lone_is d.kind n inner g (given_some (r == d.id) (lone_part d.kind n inner) g h).1
-record_is d n nodes g h = lone_is d.kind n nodes g h
-
-nodes_are : (d : ResourceDef) (n : ℕ) (nodes : Option Trees) (g : Given)
-    → option_and_then (part_record d n) nodes ≡ Some g → IsOnePart n g
-nodes_are d n None g h = cc
-nodes_are d n (Some nodes) g h = record_is d n nodes g h
-
 pub gives_part : (d : ResourceDef) (n : ℕ) (format : Format) (payload : List ℕ) (g : Given)
-    → part_given d n format payload ≡ Some g → IsOnePart n g
-gives_part d n PlainText payload g h = one_is n (value_of_text d.kind payload) g h
-gives_part d n OctetStream payload g h = one_is n (value_of_bytes d.kind payload) g h
-gives_part d n Tlv payload g h = nodes_are d n (nodes_of_bytes payload) g h
+    → part_given d n format payload ≡ Ok g → IsOnePart n g
+gives_part d n format payload g h = let v = (parts_given_by d n format payload g).0 h in (v.0, v.1)
 
 pub both_are : (a b : Bool) → not (a && b) ≡ false → (a ≡ true) × (b ≡ true)
 both_are true true h = (refl, refl)
@@ -115,16 +92,17 @@ value_there s o i r n v =
     let p = part_of (resource_place o i r) n in
     value_after s p p v ∙ ap (λ (b : Bool). cond b (Some v) (value_at s p)) ((eq_by_cmp_equiv path_total).refl p)
 
-pub part_good : (client : Client) (o i r n : ℕ) (payload : List ℕ) (f : Format) (given : Option Given)
+pub part_good : (client : Client) (o i r n : ℕ) (payload : List ℕ) (f : Format)
+    (given : Result Given PayloadFault)
     → given_to_part (definition_of client.catalog o r) n f payload ≡ given
     → not (is_some (values_given client.catalog (Part o i r n) payload f)) ≡ false
-    → (g : Given) × (given ≡ Some g)
-part_good client o i r n payload f None h good = let l : true ≡ false = rw h at good in cc
-part_good client o i r n payload f (Some g) h good = (g, refl)
+    → (g : Given) × (given ≡ Ok g)
+part_good client o i r n payload f (Err e) h good = let l : true ≡ false = rw h at good in cc
+part_good client o i r n payload f (Ok g) h good = (g, refl)
 
 part_leaves : (client : Client) (mode : Mode) (o i r n : ℕ) (payload : List ℕ) (f : Format) (d : ResourceDef)
     (value : Value)
-    → given_to_part (definition_of client.catalog o r) n f payload ≡ Some (Parts ((n, value) ∷ []))
+    → given_to_part (definition_of client.catalog o r) n f payload ≡ Ok (Parts ((n, value) ∷ []))
     → definition_of client.catalog o r ≡ Some d → can_read d.ops ≡ true
     → leaves client mode (Part o i r n) payload (Some f)
     ≡ with_value client.store (part_of (resource_place o i r) n) value
@@ -139,10 +117,10 @@ part_read client server mode o i r n d number payload defined readable h =
     let c = comes client server mode path number payload h in
     let g = part_good client o i r n payload c.format
     (given_to_part (definition_of client.catalog o r) n c.format payload) refl c.good in
-    let gives : part_given d n c.format payload ≡ Some g.0 =
+    let gives : part_given d n c.format payload ≡ Ok g.0 =
     sym (ap (λ (e : Option ResourceDef). given_to_part e n c.format payload) defined) ∙ g.1 in
     let v = gives_part d n c.format payload g.0 gives in
-    let one = ap (λ (x : Given). Some x) v.1 in
+    let one = ap (λ (x : Given). Ok x) v.1 in
     let target = both_are (is_multiple (definition_of client.catalog o r)) (has_instance client.store (place_of o i))
     all.1.0 in
     let new : (write_outcome client server mode path number payload).client

@@ -1,5 +1,5 @@
 -- A part that was written is read among the others of its resource.
-use Rattle.std.proofs.Common.{◌≡◌, ◌≢◌, ℕ, Bool, true, [], ◌∷◌, Some, inl, inr, refl, sym, ap, subst, ◌∙◌}
+use Rattle.std.proofs.Common.{◌≡◌, ◌≢◌, ℕ, Bool, true, [], ◌∷◌, Some, Ok, inl, inr, refl, sym, ap, subst, ◌∙◌}
 use Rattle.std.specs.Bool.{if◌then◌else◌}
 use Rattle.std.specs.FinMap as finite
 use Rattle.std.proofs.lemmas.Option.{same_Some}
@@ -81,7 +81,7 @@ part_read_among client server mode o i r n d number payload defined_as readable 
       format = w.format;
       served = w.served;
       value = w.value;
-      gives = subst (λ (e : ResourceDef). part_given e n w.format payload ≡ Some (Parts given)) same w.gives;
+      gives = subst (λ (e : ResourceDef). part_given e n w.format payload ≡ Ok (Parts given)) same w.gives;
       shown = back.0;
       read = back.1;
       parts = λ m v.

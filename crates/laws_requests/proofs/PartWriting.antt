@@ -1,5 +1,5 @@
 -- What a Write of a part changes.
-use Rattle.std.proofs.Common.{◌≡◌, ◌≢◌, ℕ, Bool, true, false, cond, List, [], ◌∷◌, Option, None, Some, refl, ap, ◌∙◌}
+use Rattle.std.proofs.Common.{◌≡◌, ◌≢◌, ℕ, Bool, true, false, cond, List, [], ◌∷◌, Option, None, Some, Ok, refl, ap, ◌∙◌}
 use Rattle.std.specs.Bool.{if◌then◌else◌}
 use Rattle.std.specs.Cmp.{eq_by_cmp_equiv}
 use Rattle.lwm2m_values.specs.declared.value.Value.{Value}
@@ -25,14 +25,14 @@ use Rattle.laws_requests.proofs.PartBack.{gives_part, part_good}
 use Rattle.laws_requests.proofs.Writing.{comes, leaves}
 
 is_defined : (d : Option ResourceDef) (n : ℕ) (f : Format) (payload : List ℕ) (g : Given)
-    → given_to_part d n f payload ≡ Some g
-    → (x : ResourceDef) × (d ≡ Some x) × (part_given x n f payload ≡ Some g)
+    → given_to_part d n f payload ≡ Ok g
+    → (x : ResourceDef) × (d ≡ Some x) × (part_given x n f payload ≡ Ok g)
 is_defined None n f payload g h = cc
 is_defined (Some d) n f payload g h = (d, refl, h)
 
 part_leaves : (client : Client) (mode : Mode) (o i r n : ℕ) (payload : List ℕ) (f : Format) (d : ResourceDef)
     (value : Value)
-    → given_to_part (definition_of client.catalog o r) n f payload ≡ Some (Parts ((n, value) ∷ []))
+    → given_to_part (definition_of client.catalog o r) n f payload ≡ Ok (Parts ((n, value) ∷ []))
     → definition_of client.catalog o r ≡ Some d
     → leaves client mode (Part o i r n) payload (Some f)
     ≡ (if can_read d.ops then with_value client.store (part_of (resource_place o i r) n) value else client.store)
@@ -57,7 +57,7 @@ parts_written client server mode o i r n number payload h =
     (given_to_part (definition_of client.catalog o r) n c.format payload) refl c.good in
     let d = is_defined (definition_of client.catalog o r) n c.format payload g.0 g.1 in
     let v = gives_part d.0 n c.format payload g.0 d.2 in
-    let one = ap (λ (x : Given). Some x) v.1 in
+    let one = ap (λ (x : Given). Ok x) v.1 in
     let is = c.is ∙ part_leaves client mode o i r n payload c.format d.0 v.0 (g.1 ∙ one) d.1 in
     record {
       definition = d.0;

@@ -1,9 +1,11 @@
 -- What a server may not read shows in no answer to it.
 use Rattle.std.proofs.Common.{◌≡◌, ◌⊎◌, inl, inr, ℕ, Bool, true, false, not, ◌&&◌, ◌||◌, ◌==◌, nat_le, List, []}
-use Rattle.std.proofs.Common.{◌∷◌, ◌++◌, find, map, length, Option, None, Some, Result, Ok, Err, refl, sym, ap, ◌∙◌}
+use Rattle.std.proofs.Common.{◌∷◌, ◌++◌, find, map, length, Option, None, Some, Result, Ok, Err, ok_or, refl, sym, ap}
+use Rattle.std.proofs.Common.{◌∙◌}
 use Rattle.std.specs.Bool.{if◌then◌else◌}
 use Rattle.std.specs.List.{filter, flat_map, list_any}
-use Rattle.std.specs.Option.{is_some, option_and_then, option_map, unwrap_or}
+use Rattle.std.specs.Option.{is_some, option_and_then, option_map, option_or, unwrap_or}
+use Rattle.std.specs.Result.{result_ok}
 use Rattle.coap_codec.specs.Message.{Message}
 use Rattle.lwm2m_values.specs.Tlv.{shortest_tlv}
 use Rattle.lwm2m_values.specs.Tree.{Tree, instance, part, single, trees_of_list}
@@ -23,6 +25,12 @@ use Rattle.device_firmware.specs.declared.event.FirmwareEvent.TheVariants as eve
 use Rattle.device_instances.specs.Numbers.{instance_at, is_free, number_for, numbers_below}
 use Rattle.lwm2m_payloads.specs.Nodes.{Pairs, instance_node, is_shown, nodes_of}
 use Rattle.lwm2m_payloads.specs.Given.{creation_given, instance_given}
+use Rattle.lwm2m_payloads.specs.Results.{result_map}
+use Rattle.lwm2m_payloads.specs.declared.counts.Excess.{Excess}
+use Rattle.lwm2m_payloads.specs.declared.fault.PayloadFault.{PayloadFault}
+use Rattle.device_instances.specs.Creations.{full_count}
+use Rattle.device_instances.specs.declared.room.NoRoom.{NoRoom}
+use Rattle.device_instances.specs.declared.room.NoRoom.TheVariants as no_room
 use Rattle.lwm2m_payloads.specs.declared.format.Format.{Format}
 use Rattle.lwm2m_payloads.specs.declared.given.Assignment.{Assignment}
 use Rattle.lwm2m_payloads.specs.declared.given.Creation.{Creation}
@@ -43,7 +51,8 @@ use Rattle.device_requests.specs.declared.request.Request.{Request}
 use Rattle.device_requests.specs.Access.{may_read, reads, rights_at, shown_instances}
 use Rattle.device_requests.specs.Answer.{bare, content, created_answer, done_answer, refused_or}
 use Rattle.device_requests.specs.Client.{Client, with_stored}
-use Rattle.device_requests.specs.Create.{Newborn, create_unless, lacks_room, newborn, newborn_of}
+use Rattle.device_requests.specs.declared.create.Newborn.{Newborn}
+use Rattle.device_requests.specs.Create.{create_unless, lacks_room, newborn, newborn_from, number_fault}
 use Rattle.device_requests.specs.Delete.{delete_unless}
 use Rattle.device_requests.specs.Discover.{attributes_text, dimension, dimension_text}
 use Rattle.device_requests.specs.Discover.{discover_payload}
@@ -64,7 +73,7 @@ use Rattle.device_requests.specs.Request.{outcome_by, outcome_for, request_of}
 use Rattle.device_requests.specs.Targets.{definition_at, exists, is_multiple, is_resource, place_of, resource_place}
 use Rattle.device_requests.specs.Targets.{resources_defined}
 use Rattle.device_requests.specs.Write.{after_write_with_event, event_of, exceeds, given_to_part, given_to_resource}
-use Rattle.device_requests.specs.Write.{mode_at, new_values, resource_exceeds, values_given, write_unless}
+use Rattle.device_requests.specs.Write.{mode_at, new_values, resource_excess, values_given, write_unless}
 use Rattle.device_requests.specs.WriteAttributes.{annotate_unless, attributes_given}
 use Rattle.device_requests.proofs.Reading.{said}
 use Rattle.laws_requests.specs.Unread.{AnswersHideUnread, DiffersUnread, asks_firmware, is_package}
@@ -230,12 +239,13 @@ neither false true x y h = cc
 neither true b x y h = cc
 
 -- what a Write gives at a resource, to the firmware
-event_at_resource : (client : Client) (o i r : ℕ) (payload : List ℕ) (f : Format) (given : Option Given)
+event_at_resource : (client : Client) (o i r : ℕ) (payload : List ℕ) (f : Format)
+    (given : Result Given PayloadFault)
     → given_to_resource (definition_of client.catalog o r) f payload ≡ given
     → is_package (Resource o i r) ≡ false
     → event_of (Resource o i r) (values_given client.catalog (Resource o i r) payload f) ≡ None
-event_at_resource client o i r payload f None is h = rw is refl
-event_at_resource client o i r payload f (Some given) is h =
+event_at_resource client o i r payload f (Err e) is h = rw is refl
+event_at_resource client o i r payload f (Ok given) is h =
     rw is (neither (o == 5 && r == 0) (o == 5 && r == 1) _ _ h)
 
 event_by : (client : Client) (o i r : ℕ) (payload : List ℕ) (format : Option Format)
@@ -287,38 +297,41 @@ exceeds_by client stored mode path payload format =
     exceeds mode client.catalog stored path (option_and_then (values_given client.catalog path payload) format)
 
 exceeds_instance : (client : Client) (stored : Stored) (server : ℕ) (mode : Mode) (o i : ℕ) (payload : List ℕ)
-    (f : Format) (given : Option (List Assignment)) → DiffersUnread client stored server
+    (f : Format) (given : Result (List Assignment) PayloadFault) → DiffersUnread client stored server
     → instance_given (resources_defined client.catalog o) i payload ≡ given
     → exceeds_by client stored mode (Instance o i) payload (Some f)
     ≡ exceeds_by client client.store mode (Instance o i) payload (Some f)
-exceeds_instance client stored server mode o i payload f None h is = rw is refl
-exceeds_instance client stored server mode o i payload f (Some given) h is =
-    rw is (same_excesses mode (resources_defined client.catalog o) stored client.store (place_of o i) given h.places)
+exceeds_instance client stored server mode o i payload f (Err e) h is = rw is refl
+exceeds_instance client stored server mode o i payload f (Ok given) h is =
+    rw is (ap is_some
+    (same_excesses mode (resources_defined client.catalog o) stored client.store (place_of o i) given h.places))
 
 same_exceeding_at : (client : Client) (stored : Stored) (server : ℕ) (mode : Mode) (o i r : ℕ) (given : Given)
     → DiffersUnread client stored server
-    → resource_exceeds mode (definition_of client.catalog o r) stored (resource_place o i r) given
-    ≡ resource_exceeds mode (definition_of client.catalog o r) client.store (resource_place o i r) given
+    → is_some (resource_excess mode (definition_of client.catalog o r) stored (resource_place o i r) given)
+    ≡ is_some (resource_excess mode (definition_of client.catalog o r) client.store (resource_place o i r) given)
 same_exceeding_at client stored server mode o i r given h =
-    ap (λ (b : Bool). is_kept_as (definition_of client.catalog o r) && b)
+    let excess : ℕ → Excess = λ n. record { resource = r; count = n } in
+    ap (λ (count : Option ℕ). is_some (if is_kept_as (definition_of client.catalog o r) then option_map excess count
+    else None))
     (same_excess mode stored client.store (resource_place o i r) given h.places)
 
 exceeds_resource : (client : Client) (stored : Stored) (server : ℕ) (mode : Mode) (o i r : ℕ) (payload : List ℕ)
-    (f : Format) (given : Option Given) → DiffersUnread client stored server
+    (f : Format) (given : Result Given PayloadFault) → DiffersUnread client stored server
     → given_to_resource (definition_of client.catalog o r) f payload ≡ given
     → exceeds_by client stored mode (Resource o i r) payload (Some f)
     ≡ exceeds_by client client.store mode (Resource o i r) payload (Some f)
-exceeds_resource client stored server mode o i r payload f None h is = rw is refl
-exceeds_resource client stored server mode o i r payload f (Some given) h is =
+exceeds_resource client stored server mode o i r payload f (Err e) h is = rw is refl
+exceeds_resource client stored server mode o i r payload f (Ok given) h is =
     rw is (same_exceeding_at client stored server mode o i r given h)
 
 exceeds_part : (client : Client) (stored : Stored) (server : ℕ) (mode : Mode) (o i r n : ℕ) (payload : List ℕ)
-    (f : Format) (given : Option Given) → DiffersUnread client stored server
+    (f : Format) (given : Result Given PayloadFault) → DiffersUnread client stored server
     → given_to_part (definition_of client.catalog o r) n f payload ≡ given
     → exceeds_by client stored mode (Part o i r n) payload (Some f)
     ≡ exceeds_by client client.store mode (Part o i r n) payload (Some f)
-exceeds_part client stored server mode o i r n payload f None h is = rw is refl
-exceeds_part client stored server mode o i r n payload f (Some given) h is =
+exceeds_part client stored server mode o i r n payload f (Err e) h is = rw is refl
+exceeds_part client stored server mode o i r n payload f (Ok given) h is =
     rw is (same_exceeding_at client stored server mode o i r given h)
 
 same_exceeding : (client : Client) (stored : Stored) (server : ℕ) (mode : Mode) (path : Path) (payload : List ℕ)
@@ -398,11 +411,22 @@ same_number_for s t o None h = ap (λ (f : ℕ → Bool). find f (numbers_below 
 same_number_for s t o (Some n) h =
     ap (λ (b : Bool). if n == 65535 || b then None else Some n) (same_instance s t (instance_at o n) h)
 
-same_numbered : (s t : Stored) (o : ℕ) (c : Option Creation) → s.instances ≡ t.instances
-    → newborn_of s o c ≡ newborn_of t o c
-same_numbered s t o None h = refl
-same_numbered s t o (Some c) h =
-    ap (option_map (λ n. record { number = n; given = c.assigned })) (same_number_for s t o c.number h)
+same_numbered : (s t : Stored) (o : ℕ) (c : Result Creation PayloadFault) → s.instances ≡ t.instances
+    → result_ok (newborn_from s o c) ≡ result_ok (newborn_from t o c)
+same_numbered s t o (Err e) h = refl
+same_numbered s t o (Ok c) h =
+    ap (λ (r : Option ℕ). result_ok (result_map (λ n. record { number = n; given = c.assigned })
+    (ok_or r (number_fault c.number)))) (same_number_for s t o c.number h)
+
+same_full : (s t : Stored) (o : ℕ) → s.instances ≡ t.instances → full_count s o ≡ full_count t o
+same_full s t o h =
+    ap (λ (ns : List ℕ). if nat_le 64 (length ns) then Some (length ns) else None) (same_list s t o h)
+
+abbrev lack_by : ℕ → Option ℕ → Option Excess → Option ℕ → Option NoRoom
+lack_by accounts full excess controls =
+    option_or (option_map (λ n. no_room.Instances n) full)
+    (option_or (option_map (λ e. no_room.Parts e.resource e.count) excess)
+    (if nat_le 2 accounts then option_map (λ n. no_room.Controls n) controls else None))
 
 same_room : (client : Client) (stored : Stored) (server o : ℕ) (new : Option Newborn)
     → DiffersUnread client stored server
@@ -412,9 +436,8 @@ same_room client stored server o (Some b) h =
     let excess = same_excesses Replace (resources_defined client.catalog o) stored client.store
     (place_of o b.number) b.given
     h.places in
-    λ j. nat_le 64 (length (same_list stored client.store o h.instances j))
-    || ((nat_le 2 (length client.accounts)
-    && nat_le 64 (length (same_list stored client.store 2 h.instances j))) || excess j)
+    λ j. is_some (lack_by (length client.accounts) (same_full stored client.store o h.instances j) (excess j)
+    (same_full stored client.store 2 h.instances j))
 
 abbrev says_created : ℕ → Option Newborn → Option Code → Answer
 says_created o new (Some code) = bare code

@@ -1,6 +1,6 @@
 -- What a Write changes.
 use Rattle.std.proofs.Common.{◌≡◌, ◌≢◌, ℕ, Bool, true, false, not, ◌==◌, List, Option, None, Some}
-use Rattle.std.proofs.Common.{refl, sym, ap, ◌∙◌}
+use Rattle.std.proofs.Common.{Result, Ok, Err, refl, sym, ap, ◌∙◌}
 use Rattle.std.specs.Bool.{if◌then◌else◌}
 use Rattle.std.specs.Option.{is_some, option_and_then}
 use Rattle.std.proofs.lemmas.Bool.{ne_eqb}
@@ -16,6 +16,7 @@ use Rattle.instance_store.specs.Stored.{Stored, lies_in, resource_path, value_at
 use Rattle.lwm2m_payloads.specs.Changes.{instance_written, with_given}
 use Rattle.lwm2m_payloads.specs.Given.{instance_given, resource_given}
 use Rattle.lwm2m_payloads.specs.Written.{GivenOnce, value_behind, value_with}
+use Rattle.lwm2m_payloads.specs.declared.fault.PayloadFault.{PayloadFault}
 use Rattle.lwm2m_payloads.specs.declared.format.Format.{Format}
 use Rattle.lwm2m_payloads.specs.declared.given.Assignment.{Assignment}
 use Rattle.lwm2m_payloads.specs.declared.given.Given.{Given}
@@ -93,15 +94,16 @@ is_stored client server mode path number payload h =
 
 -- ---- an instance
 
-instance_good : (client : Client) (o i : ℕ) (payload : List ℕ) (f : Format) (given : Option (List Assignment))
+instance_good : (client : Client) (o i : ℕ) (payload : List ℕ) (f : Format)
+    (given : Result (List Assignment) PayloadFault)
     → instance_given (resources_defined client.catalog o) i payload ≡ given
     → not (is_some (values_given client.catalog (Instance o i) payload f)) ≡ false
-    → (list : List Assignment) × (given ≡ Some list)
-instance_good client o i payload f None h good = let l : true ≡ false = rw h at good in cc
-instance_good client o i payload f (Some given) h good = (given, refl)
+    → (list : List Assignment) × (given ≡ Ok list)
+instance_good client o i payload f (Err e) h good = let l : true ≡ false = rw h at good in cc
+instance_good client o i payload f (Ok given) h good = (given, refl)
 
 instance_leaves : (client : Client) (mode : Mode) (o i : ℕ) (payload : List ℕ) (f : Format) (given : List Assignment)
-    → instance_given (resources_defined client.catalog o) i payload ≡ Some given
+    → instance_given (resources_defined client.catalog o) i payload ≡ Ok given
     → leaves client mode (Instance o i) payload (Some f)
     ≡ instance_written mode (resources_defined client.catalog o) client.store (place_of o i) given
 instance_leaves client mode o i payload f given h = rw h refl
@@ -126,21 +128,22 @@ instances_written client server mode o i number payload h =
 
 -- ---- a resource
 
-pub resource_good : (client : Client) (o i r : ℕ) (payload : List ℕ) (f : Format) (given : Option Given)
+pub resource_good : (client : Client) (o i r : ℕ) (payload : List ℕ) (f : Format)
+    (given : Result Given PayloadFault)
     → given_to_resource (definition_of client.catalog o r) f payload ≡ given
     → not (is_some (values_given client.catalog (Resource o i r) payload f)) ≡ false
-    → (g : Given) × (given ≡ Some g)
-resource_good client o i r payload f None h good = let l : true ≡ false = rw h at good in cc
-resource_good client o i r payload f (Some g) h good = (g, refl)
+    → (g : Given) × (given ≡ Ok g)
+resource_good client o i r payload f (Err e) h good = let l : true ≡ false = rw h at good in cc
+resource_good client o i r payload f (Ok g) h good = (g, refl)
 
 pub is_defined : (d : Option ResourceDef) (f : Format) (payload : List ℕ) (g : Given)
-    → given_to_resource d f payload ≡ Some g
-    → (x : ResourceDef) × (d ≡ Some x) × (resource_given x f payload ≡ Some g)
+    → given_to_resource d f payload ≡ Ok g
+    → (x : ResourceDef) × (d ≡ Some x) × (resource_given x f payload ≡ Ok g)
 is_defined None f payload g h = cc
 is_defined (Some d) f payload g h = (d, refl, h)
 
 resource_leaves : (client : Client) (mode : Mode) (o i r : ℕ) (payload : List ℕ) (f : Format) (d : ResourceDef)
-    (given : Given) → o ≢ 5 → given_to_resource (definition_of client.catalog o r) f payload ≡ Some given
+    (given : Given) → o ≢ 5 → given_to_resource (definition_of client.catalog o r) f payload ≡ Ok given
     → definition_of client.catalog o r ≡ Some d
     → leaves client mode (Resource o i r) payload (Some f)
     ≡ (if can_read d.ops then with_given mode client.store (resource_place o i r) given else client.store)

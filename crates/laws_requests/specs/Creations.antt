@@ -13,7 +13,8 @@ use Rattle.device_instances.specs.Numbers.{smallest_free}
 use Rattle.device_requests.specs.declared.answer.Code.TheVariants.{Created}
 use Rattle.device_requests.specs.Answer.{Outcome}
 use Rattle.device_requests.specs.Client.{Client}
-use Rattle.device_requests.specs.Create.{Newborn, newborn}
+use Rattle.device_requests.specs.declared.create.Newborn.{Newborn}
+use Rattle.device_requests.specs.Create.{newborn}
 use Rattle.device_requests.specs.Outcomes.{create_outcome}
 use Rattle.device_requests.specs.Targets.{place_of, resource_place, resources_defined}
 

@@ -1,5 +1,5 @@
 -- What an instance holds after a Write (OMA LwM2M 1.1 Core, Write: Replace and Partial Update).
-use Rattle.std.specs.Prelude.{◌≡◌, ◌⊎◌, ◌↔◌, ℕ, true, false, List, Option, None, Some}
+use Rattle.std.specs.Prelude.{◌≡◌, ◌⊎◌, ◌↔◌, ℕ, true, false, List, Option, None, Some, Ok}
 use Rattle.lwm2m_values.specs.Tree.{single}
 use Rattle.lwm2m_values.specs.declared.value.Value.{Value}
 use Rattle.object_defs.specs.Catalog.{definition_of}
@@ -50,7 +50,7 @@ left_by Update before = before
 -- as it was
 pub record HoldsGiven (client : Client) (mode : Mode) (o i : ℕ) (payload : List ℕ) (new : Stored) : Type 0 where
   pub given : List Assignment
-  pub gives : instance_given (resources_defined client.catalog o) i payload ≡ Some given
+  pub gives : instance_given (resources_defined client.catalog o) i payload ≡ Ok given
   pub value : (r : ℕ) (v : Value) → IsGivenTo given r (Single v)
       → is_readable (definition_of client.catalog o r) ≡ true
       → value_at new (single_of (resource_place o i r)) ≡ Some v
@@ -89,7 +89,7 @@ InstancesHoldGiven =
 -- resource that is given parts answers these, and with Partial Update the others that it held, by ascending number
 pub record IsInstanceReadBack (client : Client) (mode : Mode) (o i : ℕ) (payload : List ℕ) (new : Client) : Type 0 where
   pub given : List Assignment
-  pub gives : instance_given (resources_defined client.catalog o) i payload ≡ Some given
+  pub gives : instance_given (resources_defined client.catalog o) i payload ≡ Ok given
   pub value : (r : ℕ) (d : ResourceDef) (v : Value) → definition_of client.catalog o r ≡ Some d
       → d.multiple ≡ false → can_read d.ops ≡ true → IsGivenTo given r (Single v)
       → (server : ℕ) (accept : Option ℕ) (wanted : Format) → may_read new server (Resource o i r) ≡ true

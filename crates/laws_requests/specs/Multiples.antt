@@ -1,6 +1,6 @@
 -- A multiple resource is read as the parts that it holds, and holds what was written (OMA LwM2M 1.1 Core, Write and
 -- Read).
-use Rattle.std.specs.Prelude.{◌≡◌, ◌≢◌, ◌↔◌, ◌⊎◌, ℕ, true, List, [], ◌∷◌, map, Option, Some}
+use Rattle.std.specs.Prelude.{◌≡◌, ◌≢◌, ◌↔◌, ◌⊎◌, ℕ, true, List, [], ◌∷◌, map, Option, Some, Ok}
 use Rattle.std.specs.List.Sorted.{IsStrictlySortedBy}
 use Rattle.std.specs.Ordering.{nat_cmp}
 use Rattle.lwm2m_values.specs.Tlv.{shortest_tlv}
@@ -65,7 +65,7 @@ MultipleIsRead =
 -- the payload gives these parts, in any order, and a Read of the resource then answers them, and no other
 pub record ArePartsReadBack (o i r : ℕ) (d : ResourceDef) (payload : List ℕ) (new : Client) : Type 0 where
   pub given : PartList
-  pub gives : resource_given d Tlv payload ≡ Some (Parts given)
+  pub gives : resource_given d Tlv payload ≡ Ok (Parts given)
   pub shown : PartList
   pub same : (e : ℕ × Value) → IsAmong e shown ↔ IsAmong e given
   pub read : IsReadInParts new o i r shown
@@ -94,7 +94,7 @@ pub record IsPartReadAmong (client : Client) (o i r n : ℕ) (d : ResourceDef) (
   pub format : Format
   pub served : format_at client.catalog (Part o i r n) number ≡ Some format
   pub value : Value
-  pub gives : part_given d n format payload ≡ Some (Parts ((n, value) ∷ []))
+  pub gives : part_given d n format payload ≡ Ok (Parts ((n, value) ∷ []))
   pub shown : PartList
   pub read : IsReadInParts new o i r shown
   pub parts : (m : ℕ) (v : Value) → IsAmong (m, v) shown

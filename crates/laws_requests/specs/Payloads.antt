@@ -1,6 +1,6 @@
 -- What the payload of a Write or a Create gives, as a grammar of its records (OMA LwM2M 1.1 Core, data formats, Write
 -- and Create).
-use Rattle.std.specs.Prelude.{◌≡◌, ◌≢◌, ◌⊎◌, ◌↔◌, ℕ, true, false, List, [], ◌∷◌, None, Some}
+use Rattle.std.specs.Prelude.{◌≡◌, ◌≢◌, ◌⊎◌, ◌↔◌, ℕ, true, false, List, [], ◌∷◌, None, Some, Err, Ok}
 use Rattle.lwm2m_values.specs.Tlv.{IsTlv}
 use Rattle.lwm2m_values.specs.Tree.{Tree, Trees, instance, multi, part, single, none, more}
 use Rattle.lwm2m_values.specs.Value.{IsBytesOf, IsGood, IsText, kind_of}
@@ -13,6 +13,8 @@ use Rattle.object_defs.specs.declared.definition.Ops.TheVariants.{W, RW, E}
 use Rattle.object_defs.specs.declared.definition.ResourceDef.{ResourceDef}
 use Rattle.lwm2m_payloads.specs.Given.{creation_given, instance_given, part_given, resource_given}
 use Rattle.lwm2m_payloads.specs.PartList.{PartList}
+use Rattle.lwm2m_payloads.specs.declared.fault.PayloadFault.TheVariants.{Record}
+use Rattle.lwm2m_payloads.specs.declared.fault.RecordFault.TheVariants.{Number}
 use Rattle.lwm2m_payloads.specs.declared.format.Format.{Format}
 use Rattle.lwm2m_payloads.specs.declared.format.Format.TheVariants.{PlainText, OctetStream, Tlv}
 use Rattle.lwm2m_payloads.specs.declared.given.Assignment.{Assignment}
@@ -72,13 +74,14 @@ pub data GivesInstance (resources : List ResourceDef) (i : ℕ) (payload : List 
 abbrev pub InstancesAreGiven : Type 0
 InstancesAreGiven =
     (resources : List ResourceDef) (i : ℕ) (payload : List ℕ) (given : List Assignment)
-    → (instance_given resources i payload ≡ Some given) ↔ GivesInstance resources i payload given
+    → (instance_given resources i payload ≡ Ok given) ↔ GivesInstance resources i payload given
 
--- one Object Instance of another number gives nothing
+-- one Object Instance of another number gives nothing, for its number
 abbrev pub OtherInstanceGivesNothing : Type 0
 OtherInstanceGivesNothing =
     (resources : List ResourceDef) (i j : ℕ) (inner : Trees) (payload : List ℕ) → j ≢ i
-    → IsTlv (more (instance j inner) none) payload → instance_given resources i payload ≡ None
+    → IsTlv (more (instance j inner) none) payload
+    → instance_given resources i payload ≡ Err (Record 1 j Number)
 
 -- a Write of a resource: its value as plain text or as bytes, or one record of it, alone
 pub data GivesResource (d : ResourceDef) : Format → List ℕ → Given → Type 0 where
@@ -91,7 +94,7 @@ pub data GivesResource (d : ResourceDef) : Format → List ℕ → Given → Typ
 abbrev pub ResourcesAreGiven : Type 0
 ResourcesAreGiven =
     (d : ResourceDef) (format : Format) (payload : List ℕ) (g : Given)
-    → (resource_given d format payload ≡ Some g) ↔ GivesResource d format payload g
+    → (resource_given d format payload ≡ Ok g) ↔ GivesResource d format payload g
 
 -- a Write of a part: its value as plain text or as bytes, or one Resource Instance of its number, alone or in one
 -- Multiple Resource of the resource's number
@@ -107,7 +110,7 @@ pub data GivesPart (d : ResourceDef) (n : ℕ) : Format → List ℕ → Value �
 abbrev pub PartsAreGiven : Type 0
 PartsAreGiven =
     (d : ResourceDef) (n : ℕ) (format : Format) (payload : List ℕ) (g : Given)
-    → (part_given d n format payload ≡ Some g)
+    → (part_given d n format payload ≡ Ok g)
     ↔ ((v : Value) × (g ≡ Parts ((n, v) ∷ [])) × GivesPart d n format payload v)
 
 -- each mandatory resource that can be read is given
@@ -127,4 +130,4 @@ pub data GivesCreation (resources : List ResourceDef) (payload : List ℕ) : Cre
 abbrev pub CreationsAreGiven : Type 0
 CreationsAreGiven =
     (resources : List ResourceDef) (payload : List ℕ) (creation : Creation)
-    → (creation_given resources payload ≡ Some creation) ↔ GivesCreation resources payload creation
+    → (creation_given resources payload ≡ Ok creation) ↔ GivesCreation resources payload creation

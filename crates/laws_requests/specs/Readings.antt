@@ -1,5 +1,5 @@
 -- A resource instance that was written is read (OMA LwM2M 1.1 Core, Write and Read).
-use Rattle.std.specs.Prelude.{◌≡◌, ℕ, true, List, [], ◌∷◌, Option, Some}
+use Rattle.std.specs.Prelude.{◌≡◌, ℕ, true, List, [], ◌∷◌, Option, Some, Ok}
 use Rattle.lwm2m_values.specs.Tree.{part}
 use Rattle.lwm2m_values.specs.declared.value.Value.{Value}
 use Rattle.object_defs.specs.Catalog.{definition_of}
@@ -25,7 +25,7 @@ pub record IsPartReadBack (client : Client) (o i r n : ℕ) (d : ResourceDef) (n
   pub format : Format
   pub served : format_at client.catalog (Part o i r n) number ≡ Some format
   pub value : Value
-  pub given : part_given d n format payload ≡ Some (Parts ((n, value) ∷ []))
+  pub given : part_given d n format payload ≡ Ok (Parts ((n, value) ∷ []))
   pub read : (server : ℕ) (accept : Option ℕ) (wanted : Format)
       → may_read new server (Part o i r n) ≡ true
       → format_at new.catalog (Part o i r n) accept ≡ Some wanted

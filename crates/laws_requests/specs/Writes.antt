@@ -1,5 +1,5 @@
 -- What a Write changes (OMA LwM2M 1.1 Core, Write: Replace and Partial Update).
-use Rattle.std.specs.Prelude.{◌≡◌, ◌≢◌, ℕ, true, false, List, [], ◌∷◌, Option, Some, if◌then◌else◌}
+use Rattle.std.specs.Prelude.{◌≡◌, ◌≢◌, ℕ, true, false, List, [], ◌∷◌, Option, Some, if◌then◌else◌, Ok}
 use Rattle.lwm2m_values.specs.declared.value.Value.{Value}
 use Rattle.object_defs.specs.Catalog.{definition_of}
 use Rattle.object_defs.specs.Operations.{can_read}
@@ -25,7 +25,7 @@ use Rattle.device_requests.specs.Targets.{resource_place, resources_defined}
 -- Replace takes it away, else what was there; all other values are as they were
 pub record IsInstanceWritten (client : Client) (mode : Mode) (o i : ℕ) (payload : List ℕ) (new : Stored) : Type 0 where
   pub given : List Assignment
-  pub gives : instance_given (resources_defined client.catalog o) i payload ≡ Some given
+  pub gives : instance_given (resources_defined client.catalog o) i payload ≡ Ok given
   pub inside : (q : FullPath) → lies_in (Instance o i) q ≡ true
       → value_at new q ≡ value_behind mode (resources_defined client.catalog o) given q (value_at client.store q)
   pub outside : (q : FullPath) → lies_in (Instance o i) q ≡ false → value_at new q ≡ value_at client.store q
@@ -47,7 +47,7 @@ pub record IsResourceWritten (client : Client) (mode : Mode) (o i r : ℕ) (numb
   pub format : Format
   pub served : format_at client.catalog (Resource o i r) number ≡ Some format
   pub given : Given
-  pub gives : resource_given definition format payload ≡ Some given
+  pub gives : resource_given definition format payload ≡ Ok given
   pub inside : (q : FullPath) → lies_in (Resource o i r) q ≡ true
       → value_at new q
       ≡ (if can_read definition.ops then value_with mode given q.part (value_at client.store q)
@@ -71,7 +71,7 @@ pub record IsPartWritten (client : Client) (o i r n : ℕ) (number : Option ℕ)
   pub format : Format
   pub served : format_at client.catalog (Part o i r n) number ≡ Some format
   pub value : Value
-  pub gives : part_given definition n format payload ≡ Some (Parts ((n, value) ∷ []))
+  pub gives : part_given definition n format payload ≡ Ok (Parts ((n, value) ∷ []))
   pub part : value_at new (part_of (resource_place o i r) n)
       ≡ (if can_read definition.ops then Some value
       else value_at client.store (part_of (resource_place o i r) n))
