@@ -1,13 +1,14 @@
 -- Each line of the table of firmware updates, State by State.
-use Rattle.std.proofs.Common.{◌≡◌, ◌≢◌, ℕ, zero, suc, ◌<◌, pos, ◌==◌, not, ◌&&◌, Bool, true, false, cond, List, []}
-use Rattle.std.proofs.Common.{◌∷◌, Option, None, Some, refl, ap, subst, ◌∙◌, arith, ne_eqb}
+use Rattle.std.proofs.Common.{◌≡◌, ◌≢◌, ℕ, zero, suc, ◌<◌, pos, ◌==◌, not, ◌&&◌, Bool, true, false, List, []}
+use Rattle.std.proofs.Common.{◌∷◌, Option, None, Some, refl, sym, ap, subst, ◌∙◌, arith}
+use Rattle.std.proofs.Common.{ne_eqb}
 use Rattle.std.proofs.lemmas.Bool.{cond-false, lt-leb}
 use Rattle.std.specs.Prelude.{if◌then◌else◌, nat_le, option_map, MatchBool}
 use Rattle.std.specs.List.{AllByRecursion, list_any}
-use Rattle.std.specs.Option.{option_or}
+use Rattle.std.specs.Option.{option_or, unwrap_or}
 use Rattle.lwm2m_values.specs.declared.value.Value.{Value}
 use Rattle.lwm2m_values.specs.declared.value.Value.TheVariants as value
-use Rattle.instance_store.specs.Stored.{Stored, value_at, with_value}
+use Rattle.instance_store.specs.Stored.{Stored, has_instance, value_at, with_value}
 use Rattle.instance_store.proofs.SetValues.{value_after}
 use Rattle.device_firmware.specs.declared.event.FirmwareEvent.{FirmwareEvent}
 use Rattle.device_firmware.specs.declared.event.FirmwareEvent.TheVariants.{Cleared, Package, Uri, Update, Ended}
@@ -19,7 +20,7 @@ use Rattle.device_firmware.specs.Laws.{uri_after}
 use Rattle.device_firmware.proofs.AfterEvent.{code-outcome, other-outcome, other-uri, same_instances, uri-outcome}
 use Rattle.device_firmware.proofs.AfterEvent.{uri-uri}
 use Rattle.laws_tables.specs.Firmware.{line_of_failure, firmware_path, Holds, IsAfter, IsInState, Line, line, lines}
-use Rattle.laws_tables.specs.Firmware.{WritesAreEvents}
+use Rattle.laws_tables.specs.Firmware.{StartsAsCleared, WritesAreEvents}
 
 -- ---- a store after an outcome
 
@@ -240,3 +241,28 @@ events = record {
     by_text : (text : List ℕ) → text ≢ [] → event_of_uri text ≡ Uri text
     by_text [] some = absurd (some refl)
     by_text (c ∷ text) some = refl
+
+-- ---- the start
+
+-- what holds of none, and of each of some
+either : {A B : Type 0} (f : Option A → B) (b : B) → f None ≡ b → ((a : A) → f (Some a) ≡ b) → (o : Option A) → f o ≡ b
+either f b none some None = none
+either f b none some (Some a) = some a
+
+pub starts : StartsAsCleared
+starts s =
+    by_instance (λ outcome. unwrap_or (option_map (with_outcome (with_uri s (Some []))) outcome) s)
+    (has_instance s (record { object = 5; instance = 0 }))
+    (next_from Cleared (state_as (value_at s (firmware_path 3)))) (next_from Cleared None) refl refl
+    (either (λ state. next_from Cleared state) (next_from Cleared None) refl (λ state. refl)
+    (state_as (value_at s (firmware_path 3))))
+  where
+    idle : Stored
+    idle =
+        with_value (with_value (with_value s (firmware_path 1) (value.Text [])) (firmware_path 3) (value.Whole (pos 0)))
+        (firmware_path 5) (value.Whole (pos 0))
+
+    by_instance : {A : Type 0} (after : Option A → Stored) (b : Bool) (outcome cleared : Option A) → after None ≡ s
+        → after cleared ≡ idle → outcome ≡ cleared → (if b then idle else s) ≡ after (if b then outcome else None)
+    by_instance after false outcome cleared none is_idle e = sym none
+    by_instance after true outcome cleared none is_idle e = sym is_idle ∙ ap after (sym e)

@@ -4,13 +4,14 @@
 use Rattle.std.specs.Prelude.{◌≡◌, ◌≢◌, ℕ, ◌<◌, pos, ◌==◌, true, List, [], ◌∷◌, ◌++◌, map, Option, None, Some}
 use Rattle.std.specs.Prelude.{option_map, MatchBool}
 use Rattle.std.specs.List.{AllByRecursion, list_any}
-use Rattle.std.specs.Option.{option_or}
+use Rattle.std.specs.Option.{option_or, unwrap_or}
 use Rattle.lwm2m_values.specs.declared.value.Value.TheVariants as value
 use Rattle.object_defs.specs.declared.path.FullPath.{FullPath}
 use Rattle.instance_store.specs.Stored.{Stored, has_instance, value_at}
 use Rattle.device_firmware.specs.declared.event.FirmwareEvent.{FirmwareEvent}
 use Rattle.device_firmware.specs.declared.event.FirmwareEvent.TheVariants.{Cleared, Package, Uri, Update, Ended}
 use Rattle.device_firmware.specs.Firmware.{event_of_package, event_of_uri, firmware_after}
+use Rattle.device_template.specs.Template.{with_idle_firmware}
 
 abbrev pub firmware_path : ℕ → FullPath
 firmware_path resource = record { object = 5; instance = 0; resource = resource; part = None }
@@ -91,3 +92,9 @@ pub record WritesAreEvents : Type 0 where
   pub other_package : (bytes : List ℕ) → bytes ≢ [] → bytes ≢ 0 ∷ [] → event_of_package bytes ≡ Package
   pub empty_uri : event_of_uri [] ≡ Cleared
   pub other_uri : (text : List ℕ) → text ≢ [] → event_of_uri text ≡ Uri text
+
+-- ---- the start
+
+-- a device starts as one whose firmware was cleared; without Firmware Update it starts with the values of its class
+abbrev pub StartsAsCleared : Type 0
+StartsAsCleared = (stored : Stored) → with_idle_firmware stored ≡ unwrap_or (firmware_after stored Cleared) stored
