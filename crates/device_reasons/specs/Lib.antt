@@ -1,3 +1,4 @@
 pub mod Laws
 pub mod Reasons
+pub mod Rules
 pub mod Text

@@ -5,10 +5,12 @@
 mod arrival;
 mod deciding;
 mod laws;
+mod rule;
 mod text;
 
 pub use arrival::ArrivalReason;
 pub use deciding::arrival_reason;
 pub use laws::reasons_decide;
 pub use request_reasons::Reason;
+pub use rule::arrival_rule;
 pub use text::{arrival_reason_text, reason_line};

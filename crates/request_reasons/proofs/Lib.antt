@@ -1,11 +1,8 @@
 mod Codes
-mod Exceeding
 mod Grants
+mod Judged
 mod Lines
-mod Nodes
 mod Recognized
-mod Recorded
-mod Refused
 mod Said
 mod Segments
 mod Spelled

@@ -4,20 +4,19 @@ use Rattle.std.proofs.Common.{ap, ◌⊎◌, inl, inr}
 use Rattle.coap_codec.specs.Message.{Message}
 use Rattle.object_defs.specs.declared.definition.ObjectDef.{ObjectDef}
 use Rattle.object_defs.specs.declared.path.Path.{Path}
+use Rattle.lwm2m_payloads.specs.declared.given.Mode.{Mode}
 use Rattle.lwm2m_payloads.specs.declared.given.Mode.TheVariants.{Replace, Update}
 use Rattle.device_requests.specs.declared.operation.Operation.{Operation}
 use Rattle.device_requests.specs.declared.operation.Operation.TheVariants.{Read, WriteReplace, WritePartial, Create}
-use Rattle.device_requests.specs.declared.operation.Operation.TheVariants.{Execute}
+use Rattle.device_requests.specs.declared.operation.Operation.TheVariants.{Delete, Discover, Execute, WriteAttributes}
 use Rattle.device_requests.specs.declared.request.Request.{Request}
-use Rattle.device_requests.specs.Options.{accept_of, content_format_of}
-use Rattle.device_requests.specs.Refusals.{Purpose, lacks_format, to_delete, to_create, to_execute}
-use Rattle.device_requests.specs.Refusals.{to_read, to_write}
+use Rattle.device_requests.specs.Options.{accept_of, content_format_of, queries_of}
+use Rattle.device_requests.specs.Refusals.{Purpose, is_invalid, lacks_format, to_delete, to_create, to_execute}
+use Rattle.device_requests.specs.Refusals.{to_read, to_write, to_write_attributes}
+use Rattle.device_requests.specs.Client.{Client}
 use Rattle.device_requests.specs.Request.{purpose_of, request_of}
 use Rattle.device_requests.proofs.Reading.{said}
-use Rattle.device_requests.specs.Client.{Client}
-use Rattle.device_requests.specs.Read.{format_at}
 use Rattle.request_reasons.specs.Formats.{format_named}
-use Rattle.request_reasons.specs.Payloads.{payload_fault, write_fault_in}
 
 pub accept_said : (m : Message) (r : Request) → request_of m ≡ Ok r → r.accept ≡ accept_of m.options
 accept_said m r e = sym ((said m r).0 e).accept
@@ -77,6 +76,13 @@ pub updating : (m : Message) (r : Request) (payload : List ℕ) → request_of m
     → r.operation ≡ WritePartial → purpose_of m r.operation ≡ to_write Update r.content_format payload
 updating m r payload e h is = purpose_given m r WritePartial payload e h is refl
 
+-- in either mode
+pub writing : (m : Message) (r : Request) (payload : List ℕ) → request_of m ≡ Ok r → payload ≡ m.payload
+    → (r.operation ≡ WriteReplace) ⊎ (r.operation ≡ WritePartial)
+    → (mode : Mode) × (purpose_of m r.operation ≡ to_write mode r.content_format payload)
+writing m r payload e h (inl is) = (Replace, replacing m r payload e h is)
+writing m r payload e h (inr is) = (Update, updating m r payload e h is)
+
 pub creating : (m : Message) (r : Request) (payload : List ℕ) → request_of m ≡ Ok r → payload ≡ m.payload
     → r.operation ≡ Create → purpose_of m r.operation ≡ to_create r.content_format payload
 creating m r payload e h is = purpose_given m r Create payload e h is refl
@@ -85,12 +91,17 @@ pub executing : (m : Message) (r : Request) (payload : List ℕ) → request_of 
     → r.operation ≡ Execute → purpose_of m r.operation ≡ to_execute r.content_format payload
 executing m r payload e h is = purpose_given m r Execute payload e h is refl
 
--- what is at fault in a Write is that of its payload, in either mode
-pub write_said : (client : Client) (m : Message) (r : Request) (payload : List ℕ) → request_of m ≡ Ok r
-    → payload ≡ m.payload → (r.operation ≡ WriteReplace) ⊎ (r.operation ≡ WritePartial)
-    → write_fault_in client.catalog r.path payload (format_at client.catalog r.path r.content_format)
-    ≡ payload_fault client r.path (purpose_of m r.operation)
-write_said client m r payload e h (inl is) =
-    ap (payload_fault client r.path) (sym (replacing m r payload e h is))
-write_said client m r payload e h (inr is) =
-    ap (payload_fault client r.path) (sym (updating m r payload e h is))
+pub annotating : (m : Message) (operation : Operation) → operation ≡ WriteAttributes
+    → purpose_of m operation ≡ to_write_attributes (queries_of m.options)
+annotating m operation is = ap (purpose_of m) is
+
+-- the other operations give nothing
+pub never_invalid : (client : Client) (server : ℕ) (path : Path) (m : Message) (operation : Operation)
+    → (operation ≡ Read) ⊎ ((operation ≡ Discover) ⊎ (operation ≡ Delete))
+    → is_invalid client server path (purpose_of m operation) ≡ true → ⊥
+never_invalid client server path m operation (inl is) h =
+    let none = ap (λ o. is_invalid client server path (purpose_of m o)) (sym is) ∙ h in cc
+never_invalid client server path m operation (inr (inl is)) h =
+    let none = ap (λ o. is_invalid client server path (purpose_of m o)) (sym is) ∙ h in cc
+never_invalid client server path m operation (inr (inr is)) h =
+    let none = ap (λ o. is_invalid client server path (purpose_of m o)) (sym is) ∙ h in cc

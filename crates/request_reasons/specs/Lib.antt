@@ -1,11 +1,14 @@
 pub mod Formats
 pub mod Inside
+pub mod LengthWords
 pub mod Limits
 pub mod Missing
 pub mod Options
 pub mod PayloadWords
-pub mod Payloads
 pub mod Reasons
 pub mod Rights
 pub mod Segments
+pub mod Rules
+pub mod TlvWords
+pub mod Unfit
 pub mod Words

@@ -25,9 +25,9 @@ use Rattle.request_reasons.specs.Formats.{IsUnserved}
 use Rattle.request_reasons.specs.Limits.{IsLimit, firmware_state_in}
 use Rattle.request_reasons.specs.Missing.{missing_lines}
 use Rattle.request_reasons.specs.Options.{IsUnrecognized}
-use Rattle.request_reasons.specs.Payloads.{payload_fault}
 use Rattle.request_reasons.specs.Rights.{IsDenied, IsDeniedAll}
 use Rattle.request_reasons.specs.Segments.{IsNoPath}
+use Rattle.request_reasons.specs.Unfit.{IsUnfit}
 use Rattle.request_reasons.specs.declared.reasons.Reason.{Reason}
 use Rattle.request_reasons.specs.declared.reasons.Reason.TheVariants.{Unrecognized, NoPath, NoOperation, Refused, Done}
 use Rattle.request_reasons.specs.declared.reasons.Rule.{Rule}
@@ -42,7 +42,7 @@ line_at (rule.Right server letter instance grant) = 3
 line_at (rule.RightOnAll server count instance grant) = 3
 line_at (rule.Operation operations) = 4
 line_at (rule.Format number served) = 5
-line_at (rule.Payload fault) = 6
+line_at (rule.Payload unfit) = 6
 line_at (rule.State state) = 7
 line_at (rule.Limit limit) = 8
 
@@ -72,7 +72,7 @@ code_at operation (rule.Right server letter instance grant) = Unauthorized
 code_at operation (rule.RightOnAll server count instance grant) = Unauthorized
 code_at operation (rule.Operation operations) = MethodNotAllowed
 code_at operation (rule.Format number served) = format_code operation
-code_at operation (rule.Payload fault) = BadRequest
+code_at operation (rule.Payload unfit) = BadRequest
 code_at operation (rule.State state) = MethodNotAllowed
 code_at operation (rule.Limit limit) = InternalServerError
 
@@ -114,7 +114,7 @@ IsWhy client server path operation purpose (rule.Operation operations) =
     option_map (λ d. d.ops) (definition_at client.catalog path) ≡ operations
 IsWhy client server path operation purpose (rule.Format number served) =
     IsUnserved client.catalog path purpose number served
-IsWhy client server path operation purpose (rule.Payload fault) = payload_fault client path purpose ≡ Some fault
+IsWhy client server path operation purpose (rule.Payload unfit) = IsUnfit client server path purpose unfit
 IsWhy client server path operation purpose (rule.State state) = firmware_state_in client.store ≡ state
 IsWhy client server path operation purpose (rule.Limit limit) = IsLimit client server path purpose limit
 

@@ -8,19 +8,22 @@ use Rattle.object_defs.specs.declared.definition.Ops.{Ops}
 use Rattle.object_defs.specs.declared.path.Path.{Path}
 use Rattle.object_defs.specs.declared.path.Path.TheVariants.{Object, Instance, Resource, Part}
 use Rattle.access_control.specs.declared.letters.Rights.{Rights}
+use Rattle.device_instances.specs.declared.room.NoRoom.{NoRoom}
+use Rattle.device_instances.specs.declared.room.NoRoom.TheVariants.{Instances, Controls}
+use Rattle.device_instances.specs.declared.room.NoRoom.TheVariants as no_room
 use Rattle.device_requests.specs.declared.operation.Operation.{Operation}
 use Rattle.device_requests.specs.declared.operation.Operation.TheVariants.{Read, Discover, WriteAttributes}
 use Rattle.device_requests.specs.declared.operation.Operation.TheVariants.{WriteReplace, WritePartial, Create, Execute}
 use Rattle.device_requests.specs.declared.operation.Operation.TheVariants.{Delete}
 use Rattle.device_requests.specs.Targets.{is_resource}
 use Rattle.message_words.specs.Names.{formats, name_in}
-use Rattle.request_reasons.specs.PayloadWords.{bytes_text, ops_text, payload_words}
+use Rattle.request_reasons.specs.PayloadWords.{bytes_text, ops_text, unfit_words}
 use Rattle.request_reasons.specs.declared.format.Served.{Served}
 use Rattle.request_reasons.specs.declared.format.Served.TheVariants.{TlvAlone, PlainTextAlone, PlainTextAndTlv, All}
 use Rattle.request_reasons.specs.declared.limit.FirmwareState.{FirmwareState}
 use Rattle.request_reasons.specs.declared.limit.FirmwareState.TheVariants as state
 use Rattle.request_reasons.specs.declared.limit.Limit.{Limit}
-use Rattle.request_reasons.specs.declared.limit.Limit.TheVariants.{Size, Parts, Instances, Controls}
+use Rattle.request_reasons.specs.declared.limit.Limit.TheVariants.{Size, Parts, Room}
 use Rattle.request_reasons.specs.declared.options.OptionFault.{OptionFault}
 use Rattle.request_reasons.specs.declared.options.OptionFault.TheVariants.{Unknown, Length, Repeated}
 use Rattle.request_reasons.specs.declared.reasons.Reason.{Reason}
@@ -260,13 +263,21 @@ event_text path =
 abbrev pub state_words : Path → FirmwareState → List ℕ
 state_words path state = state_text state ++ (codes ", where " ++ (event_text path ++ codes " is not taken"))
 
+abbrev pub parts_text : ℕ → ℕ → List ℕ
+parts_text resource count =
+    codes "resource " ++ (decimal resource ++ (codes " would have " ++ (decimal count ++ codes " parts, over 32")))
+
+-- a new instance for which there is no room
+abbrev pub room_text : Path → NoRoom → List ℕ
+room_text path (Instances count) =
+    codes "object " ++ (decimal (object_in path) ++ (codes " has " ++ (decimal count ++ codes " instances already")))
+room_text path (no_room.Parts resource count) = parts_text resource count
+room_text path (Controls count) = codes "Access Control has " ++ (decimal count ++ codes " instances already")
+
 abbrev pub limit_text : Path → Limit → List ℕ
 limit_text path Size = codes "the payload would have more than 1,024 bytes"
-limit_text path (Parts resource count) =
-    codes "resource " ++ (decimal resource ++ (codes " would have " ++ (decimal count ++ codes " parts, over 32")))
-limit_text path (Instances count) =
-    codes "object " ++ (decimal (object_in path) ++ (codes " has " ++ (decimal count ++ codes " instances already")))
-limit_text path (Controls count) = codes "Access Control has " ++ (decimal count ++ codes " instances already")
+limit_text path (Parts excess) = parts_text excess.resource excess.count
+limit_text path (Room lack) = room_text path lack
 
 -- ---- all rules
 
@@ -277,7 +288,7 @@ rule_number (rule.Right server letter instance grant) = 8
 rule_number (rule.RightOnAll server count instance grant) = 8
 rule_number (rule.Operation operations) = 9
 rule_number (rule.Format number served) = 10
-rule_number (rule.Payload fault) = 11
+rule_number (rule.Payload unfit) = 11
 rule_number (rule.State state) = 12
 rule_number (rule.Limit limit) = 12
 
@@ -290,7 +301,7 @@ rule_words operation path (rule.RightOnAll server count instance grant) =
     on_all_words server path count (Instance (object_in path) instance) grant
 rule_words operation path (rule.Operation operations) = operations_text operation path operations
 rule_words operation path (rule.Format number served) = unserved_words path number served
-rule_words operation path (rule.Payload fault) = payload_words path fault
+rule_words operation path (rule.Payload unfit) = unfit_words path unfit
 rule_words operation path (rule.State state) = state_words path state
 rule_words operation path (rule.Limit limit) = limit_text path limit
 

@@ -12,7 +12,7 @@ ghost use Rattle.request_reasons.specs.Reasons.{IsTold, IsWhy, code_at, code_of,
 ghost use Rattle.request_reasons.specs.Rights.{is_read_of_object};
 
 use crate::format::unserved;
-use crate::invalid::payload_fault_of;
+use crate::invalid::unfit_of;
 use crate::limit::{firmware_state_in, limit_of};
 use crate::options::unrecognized;
 use crate::reasons::{Reason, Rule};
@@ -183,7 +183,7 @@ fn rule_at(
             Ok(Some(Rule::Format { number, served }))
         }
         Ruling::Payload => Ok(Some(Rule::Payload {
-            fault: payload_fault_of(alloc, client, server, message, request)?,
+            unfit: unfit_of(alloc, client, server, message, request)?,
         })),
         Ruling::State => Ok(Some(Rule::State {
             state: firmware_state_in(client.store()),

@@ -1,16 +1,14 @@
 //! Rule 3: the option that must be understood and is not.
 
-ghost use Rattle.std.specs.Prelude.{◌≡◌, true, find, Some};
-ghost use Rattle.std.specs.Option.{option_copied};
-ghost use Rattle.object_defs.specs.Lines.{first_line};
+ghost use Rattle.std.specs.Prelude.{◌≡◌, true};
 ghost use Rattle.device_requests.specs.Options.{has_unrecognized_critical};
-ghost use Rattle.request_reasons.specs.Options.{IsUnrecognized, is_known, is_unrecognized, repeated_lines};
+ghost use Rattle.request_reasons.specs.Options.{IsFaultOf, IsUnrecognized, is_known};
 
 use coap_codec::Opt;
 use coap_codec::option_number::{
     ACCEPT, CONTENT_FORMAT, OBSERVE, URI_HOST, URI_PATH, URI_PORT, URI_QUERY,
 };
-use device_requests::{has_known_form, repeats};
+use device_requests::{has_known_form, has_unrecognized_critical};
 
 /// Why an option that must be understood is not recognized.
 #[derive(Clone, Copy)]
@@ -26,13 +24,6 @@ pub enum OptionFault {
     Repeated,
 }
 
-/// Whether the option must be understood, and is unknown or of a wrong length.
-fn is_unrecognized(option: &Opt) -> bool
-    ensures { result ≡ is_unrecognized option.now }
-{
-    option.number % 2 == 1 && !has_known_form(option)
-}
-
 /// Whether an option of this number is recognized where its length is right.
 fn is_known(number: u16) -> bool
     ensures { result ≡ is_known number }
@@ -43,43 +34,30 @@ fn is_known(number: u16) -> bool
     }
 }
 
-/// The number of an option of which there is a second one that is not recognized, if there is one.
-fn repeated(options: &[Opt]) -> Option<u16>
-    ensures { result ≡ first_line (repeated_lines options.now) }
+/// Why an option is not recognized that must be understood.
+fn fault_of(option: &Opt) -> OptionFault
+    ensures { IsFaultOf option.now result }
 {
-    if repeats(URI_HOST, options) {
-        return Some(URI_HOST);
+    if !is_known(option.number) {
+        return OptionFault::Unknown;
     }
-    if repeats(URI_PORT, options) {
-        return Some(URI_PORT);
+    if has_known_form(option) {
+        return OptionFault::Repeated;
     }
-    if repeats(ACCEPT, options) {
-        return Some(ACCEPT);
+    OptionFault::Length {
+        length: option.value.len(),
     }
-    None
 }
 
-/// The first option that must be understood, and is unknown or of a wrong length.
-fn first_unrecognized(options: &[Opt]) -> Option<&Opt>
-    ensures { option_copied result ≡ find is_unrecognized options.now }
-{
-    options.iter().find(|o| is_unrecognized(o))
-}
-
-/// The number of an option that must be understood and is not, and why.
+/// The number of the first option that must be understood and is not, and why.
 pub(crate) fn unrecognized(options: &[Opt]) -> (u16, OptionFault)
     requires { has_unrecognized_critical options.now ≡ true }
     ensures { IsUnrecognized options.now result.0 result.1 }
 {
-    if let Some(option) = first_unrecognized(options) {
-        if is_known(option.number) {
-            let length = option.value.len();
-            return (option.number, OptionFault::Length { length });
+    for (i, option) in options.iter().enumerate() {
+        if has_unrecognized_critical(&options[..i + 1]) {
+            return (option.number, fault_of(option));
         }
-        return (option.number, OptionFault::Unknown);
     }
-    match repeated(options) {
-        Some(number) => (number, OptionFault::Repeated),
-        None => unreachable!(),
-    }
+    unreachable!()
 }

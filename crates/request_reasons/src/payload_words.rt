@@ -1,12 +1,17 @@
 //! What of a payload, of queries or of arguments is not valid, in words.
 
-ghost use Rattle.std.specs.Prelude.{◌≡◌, true, false, IfOk, MatchOption};
+ghost use Rattle.std.specs.Prelude.{◌≡◌, true, false, length, ◌<◌, IfOk, MatchOption};
 ghost use Rattle.std.specs.Str.{is_utf8};
 ghost use Rattle.std.specs.String.{string_bytes};
-ghost use Rattle.request_reasons.specs.PayloadWords.{bytes_text, ops_text, payload_words, query_text, query_words};
-ghost use Rattle.request_reasons.specs.PayloadWords.{record_text, record_words, taken_words};
+ghost use Rattle.request_reasons.specs.PayloadWords.{bytes_text, end_words, ops_text, query_text, query_words};
+ghost use Rattle.request_reasons.specs.PayloadWords.{argument_words, fault_words, record_text, record_words};
+ghost use Rattle.request_reasons.specs.PayloadWords.{disagreement_words, standing_words, taken_words, unfit_words};
 
-use crate::payload::{PayloadFault, RecordFault};
+use crate::length_words::length_words;
+use crate::tlv_words::tlv_words;
+use crate::unfit::{Standing, Unfit};
+use device_requests::thousandths_text;
+use lwm2m_payloads::{Format, PayloadFault, RecordFault};
 use notifier::QueryFault;
 use object_defs::{Ops, Path, path_text};
 use scenario_words::{hex_word, kind_word, quoted_word};
@@ -54,18 +59,66 @@ fn query_text(why: QueryFault) -> &'static str
     }
 }
 
+/// The byte at which the number of a query of this length stops being one.
+fn end_words(alloc: Global, length: usize, at: Option<usize>) -> Result<String, AllocError>
+    ensures { IfOk result (λ text. string_bytes text ≡ end_words length at) }
+{
+    match at {
+        None => Ok(String::new(alloc)),
+        Some(at) => {
+            if at < length {
+                return format!(in alloc; ": at byte {at}");
+            }
+            String::from_str(alloc, ": it ends too early")
+        }
+    }
+}
+
 /// A query that is no valid change.
 fn query_words(
     alloc: Global,
     place: usize,
     bytes: &[u8],
     why: QueryFault,
+    at: Option<usize>,
 ) -> Result<String, AllocError>
-    ensures { IfOk result (λ text. string_bytes text ≡ query_words place bytes.now why) }
+    ensures { IfOk result (λ text. string_bytes text ≡ query_words place bytes.now why at) }
 {
     let query = bytes_text(alloc, bytes)?;
+    let end = end_words(alloc, bytes.len(), at)?;
     let why = query_text(why);
-    format!(in alloc; "query {place} is {query}, and {why}")
+    format!(in alloc; "query {place} is {query}, and {why}{end}")
+}
+
+/// A number that gt, lt or st would have.
+fn standing_words(alloc: Global, name: &str, standing: Standing) -> Result<String, AllocError>
+    ensures { IfOk result (λ text. string_bytes text ≡ standing_words name.now standing) }
+{
+    let number = thousandths_text(alloc, standing.number)?;
+    if standing.is_given {
+        return format!(in alloc; "{name} {number} is given");
+    }
+    format!(in alloc; "{name} {number} stood before")
+}
+
+/// Numbers that would not agree.
+fn disagreement_words(
+    alloc: Global,
+    gt: Standing,
+    lt: Standing,
+    st: Option<Standing>,
+) -> Result<String, AllocError>
+    ensures { IfOk result (λ text. string_bytes text ≡ disagreement_words gt lt st) }
+{
+    let upper = standing_words(alloc, "gt", gt)?;
+    let lower = standing_words(alloc, "lt", lt)?;
+    match st {
+        None => format!(in alloc; "gt, lt and st would not agree: {upper}, {lower}"),
+        Some(st) => {
+            let step = standing_words(alloc, "st", st)?;
+            format!(in alloc; "gt, lt and st would not agree: {upper}, {lower}, {step}")
+        }
+    }
 }
 
 /// Why a record is refused.
@@ -80,12 +133,14 @@ fn record_text(alloc: Global, why: RecordFault) -> Result<String, AllocError>
             format!(in alloc; "is of a resource with the operations {operations}")
         }
         RecordFault::Form => String::from_str(alloc, "is not of the type that is needed there"),
-        RecordFault::Value { kind } => {
+        RecordFault::Value { kind, length } => {
+            let more = length_words(alloc, Format::Tlv, kind, length)?;
             let kind = kind_word(kind);
-            format!(in alloc; "is not a value of the kind {kind}")
+            format!(in alloc; "is not a value of the kind {kind}{more}")
         }
-        RecordFault::Part { part } => {
-            format!(in alloc; "has a part {part} that is not of its kind")
+        RecordFault::Part { part, kind, length } => {
+            let more = length_words(alloc, Format::Tlv, kind, length)?;
+            format!(in alloc; "has a part {part} that is not of its kind{more}")
         }
         RecordFault::PartTwice { part } => format!(in alloc; "has part {part} twice"),
         RecordFault::Empty => {
@@ -108,6 +163,29 @@ fn record_words(
     format!(in alloc; "record {place}, of number {number}, {why}")
 }
 
+/// Why a payload gives nothing, in the format in which it is read.
+fn fault_words(alloc: Global, format: Format, fault: PayloadFault) -> Result<String, AllocError>
+    ensures { IfOk result (λ text. string_bytes text ≡ fault_words format fault) }
+{
+    match fault {
+        PayloadFault::NotValue { kind, length } => {
+            let more = length_words(alloc, format, kind, length)?;
+            let kind = kind_word(kind);
+            format!(in alloc; "the payload is not a value of the kind {kind}{more}")
+        }
+        PayloadFault::NotTlv => String::from_str(alloc, "the payload is not TLV"),
+        PayloadFault::Records { count } => format!(in alloc; "there are {count} records, not 1"),
+        PayloadFault::Record {
+            place,
+            number,
+            fault,
+        } => record_words(alloc, place, number, fault),
+        PayloadFault::Mandatory { resource } => {
+            format!(in alloc; "resource {resource} is mandatory, and not given")
+        }
+    }
+}
+
 /// A number that a new instance does not get.
 fn taken_words(alloc: Global, path: Path, number: u16) -> Result<String, AllocError>
     ensures { IfOk result (λ text. string_bytes text ≡ taken_words path number) }
@@ -119,39 +197,39 @@ fn taken_words(alloc: Global, path: Path, number: u16) -> Result<String, AllocEr
     format!(in alloc; "there is an instance {instance} already")
 }
 
-/// What of a payload, of queries or of arguments is not valid.
-pub(crate) fn payload_words(
-    alloc: Global,
-    path: Path,
-    fault: &PayloadFault,
-) -> Result<String, AllocError>
-    ensures { IfOk result (λ text. string_bytes text ≡ payload_words path fault.now) }
+/// Where a payload stops being arguments: at this byte, or at its end.
+fn argument_words(alloc: Global, at: usize, byte: Option<u8>) -> Result<String, AllocError>
+    ensures { IfOk result (λ text. string_bytes text ≡ argument_words at byte) }
 {
-    match fault {
-        PayloadFault::NotArguments => {
-            String::from_str(alloc, "the payload is not a list of arguments")
+    match byte {
+        Some(byte) => {
+            let digits = hex_word(alloc, &[byte])?;
+            format!(in alloc; "the payload is not a list of arguments: byte {at} is 0x{digits}")
         }
-        PayloadFault::Query {
+        None => {
+            format!(in alloc;
+                "the payload is not a list of arguments: it ends too early, after {at} bytes"
+            )
+        }
+    }
+}
+
+/// What of a payload, of queries or of arguments is not valid.
+pub(crate) fn unfit_words(alloc: Global, path: Path, unfit: &Unfit) -> Result<String, AllocError>
+    ensures { IfOk result (λ text. string_bytes text ≡ unfit_words path unfit.now) }
+{
+    match unfit {
+        Unfit::NotArguments { at, byte } => argument_words(alloc, *at, *byte),
+        Unfit::Query {
             place,
             bytes,
             fault,
-        } => query_words(alloc, *place, bytes.as_slice(), *fault),
-        PayloadFault::Inconsistent => String::from_str(alloc, "gt, lt and st would not agree"),
-        PayloadFault::NotValue { kind } => {
-            let kind = kind_word(*kind);
-            format!(in alloc; "the payload is not a value of the kind {kind}")
-        }
-        PayloadFault::NotTlv => String::from_str(alloc, "the payload is not TLV"),
-        PayloadFault::Records { count } => format!(in alloc; "there are {count} records, not 1"),
-        PayloadFault::Record {
-            place,
-            number,
-            fault,
-        } => record_words(alloc, *place, *number, *fault),
-        PayloadFault::Mandatory { resource } => {
-            format!(in alloc; "resource {resource} is mandatory, and not given")
-        }
-        PayloadFault::Taken { number } => taken_words(alloc, path, *number),
-        PayloadFault::NoNumber => String::from_str(alloc, "no number of an instance is free"),
+            at,
+        } => query_words(alloc, *place, bytes.as_slice(), *fault, *at),
+        Unfit::Inconsistent { gt, lt, st } => disagreement_words(alloc, *gt, *lt, *st),
+        Unfit::NotTlv { place } => tlv_words(alloc, *place),
+        Unfit::Payload { format, fault } => fault_words(alloc, *format, *fault),
+        Unfit::Taken { number } => taken_words(alloc, path, *number),
+        Unfit::NoNumber => String::from_str(alloc, "no number of an instance is free"),
     }
 }

@@ -3,9 +3,9 @@
 use crate::format::Served;
 use crate::limit::{FirmwareState, Limit};
 use crate::options::OptionFault;
-use crate::payload::PayloadFault;
 use crate::right::{Grant, Letter};
 use crate::target::Missing;
+use crate::unfit::Unfit;
 use crate::uri_path::PathFault;
 use device_requests::Operation;
 use object_defs::{Ops, Path};
@@ -98,7 +98,7 @@ pub enum Rule {
     /// Rule 11: the payload, the queries or the arguments are not valid.
     Payload {
         /// What of them is not.
-        fault: PayloadFault,
+        unfit: Unfit,
     },
     /// Rule 12: the firmware does not take it now.
     State {

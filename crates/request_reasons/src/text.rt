@@ -2,13 +2,13 @@
 
 ghost use Rattle.std.specs.Prelude.{◌≡◌, IfOk};
 ghost use Rattle.std.specs.String.{string_bytes};
-ghost use Rattle.request_reasons.specs.Words.{event_text, limit_text, state_text, state_words};
+ghost use Rattle.request_reasons.specs.Words.{event_text, limit_text, parts_text, room_text, state_text, state_words};
 ghost use Rattle.request_reasons.specs.Words.{on_all_words, reason_text, rule_number, rule_words, target_text};
 ghost use Rattle.request_reasons.specs.Words.{target_words, unserved_words};
 
 use crate::format::Served;
 use crate::limit::{FirmwareState, Limit};
-use crate::payload_words::payload_words;
+use crate::payload_words::unfit_words;
 use crate::reasons::{Reason, Rule};
 use crate::right::{Grant, Letter};
 use crate::target::Missing;
@@ -16,6 +16,7 @@ use crate::words::{
     format_words, kind_text, method_text, missing_text, operation_name, operations_text,
     option_text, path_fault_text, right_words, served_text,
 };
+use device_instances::NoRoom;
 use device_requests::Operation;
 use object_defs::object_number::FIRMWARE_UPDATE;
 use object_defs::resource_number::{PACKAGE, PACKAGE_URI};
@@ -23,7 +24,7 @@ use object_defs::{Path, path_text};
 use std::alloc::{AllocError, Global};
 
 /// The number of a rule.
-fn rule_number(rule: &Rule) -> u8
+pub(crate) fn rule_number(rule: &Rule) -> u8
     ensures { result ≡ rule_number rule.now }
 {
     match rule {
@@ -111,22 +112,37 @@ fn state_words(alloc: Global, path: Path, state: FirmwareState) -> Result<String
     format!(in alloc; "{state}, where {event} is not taken")
 }
 
+/// A resource that would have too many parts.
+fn parts_text(alloc: Global, resource: u16, count: usize) -> Result<String, AllocError>
+    ensures { IfOk result (λ text. string_bytes text ≡ parts_text resource count) }
+{
+    format!(in alloc; "resource {resource} would have {count} parts, over 32")
+}
+
+/// A new instance for which there is no room.
+fn room_text(alloc: Global, path: Path, lack: NoRoom) -> Result<String, AllocError>
+    ensures { IfOk result (λ text. string_bytes text ≡ room_text path lack) }
+{
+    let object = path.object();
+    match lack {
+        NoRoom::Instances { count } => {
+            format!(in alloc; "object {object} has {count} instances already")
+        }
+        NoRoom::Parts { resource, count } => parts_text(alloc, resource, count),
+        NoRoom::Controls { count } => {
+            format!(in alloc; "Access Control has {count} instances already")
+        }
+    }
+}
+
 /// Rule 12 of the limits.
 fn limit_text(alloc: Global, path: Path, limit: Limit) -> Result<String, AllocError>
     ensures { IfOk result (λ text. string_bytes text ≡ limit_text path limit) }
 {
-    let object = path.object();
     match limit {
         Limit::Size => String::from_str(alloc, "the payload would have more than 1,024 bytes"),
-        Limit::Parts { resource, count } => {
-            format!(in alloc; "resource {resource} would have {count} parts, over 32")
-        }
-        Limit::Instances { count } => {
-            format!(in alloc; "object {object} has {count} instances already")
-        }
-        Limit::Controls { count } => {
-            format!(in alloc; "Access Control has {count} instances already")
-        }
+        Limit::Parts { excess } => parts_text(alloc, excess.resource, excess.count),
+        Limit::Room { lack } => room_text(alloc, path, lack),
     }
 }
 
@@ -163,7 +179,7 @@ fn rule_words(
         }
         Rule::Operation { operations } => operations_text(alloc, operation, path, *operations),
         Rule::Format { number, served } => unserved_words(alloc, path, *number, *served),
-        Rule::Payload { fault } => payload_words(alloc, path, fault),
+        Rule::Payload { unfit } => unfit_words(alloc, path, unfit),
         Rule::State { state } => state_words(alloc, path, *state),
         Rule::Limit { limit } => limit_text(alloc, path, *limit),
     }

@@ -39,22 +39,15 @@ limit_of-requires-clause-exceeded c =
     (tested c.args.client.now c.args.server c.args.message.now r.path r.operation 8
     (asks c.args.message.now r c.requires.read) at).1
 
-pub payload_fault_of-requires-clause-target : goal.payload_fault_of-requires-clause-target
-payload_fault_of-requires-clause-target c =
-    let r = c.args.request in
-    let at = c.requires.first ∙ ap (λ ruling. Some (place_at ruling)) c.in-Payload.is in
-    (tested c.args.client.now c.args.server c.args.message.now r.path r.operation 6
-    (asks c.args.message.now r c.requires.read) at).2 2 (omega arith)
-
-pub payload_fault_of-requires-clause-format : goal.payload_fault_of-requires-clause-format
-payload_fault_of-requires-clause-format c =
+pub unfit_of-requires-clause-format : goal.unfit_of-requires-clause-format
+unfit_of-requires-clause-format c =
     let r = c.args.request in
     let at = c.requires.first ∙ ap (λ ruling. Some (place_at ruling)) c.in-Payload.is in
     (tested c.args.client.now c.args.server c.args.message.now r.path r.operation 6
     (asks c.args.message.now r c.requires.read) at).2 5 (omega arith)
 
-pub payload_fault_of-requires-clause-invalid : goal.payload_fault_of-requires-clause-invalid
-payload_fault_of-requires-clause-invalid c =
+pub unfit_of-requires-clause-invalid : goal.unfit_of-requires-clause-invalid
+unfit_of-requires-clause-invalid c =
     let r = c.args.request in
     let at = c.requires.first ∙ ap (λ ruling. Some (place_at ruling)) c.in-Payload.is in
     (tested c.args.client.now c.args.server c.args.message.now r.path r.operation 6

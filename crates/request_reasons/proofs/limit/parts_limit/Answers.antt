@@ -1,8 +1,9 @@
 use Rattle.std.proofs.Common.{sym, ◌∙◌}
-use Rattle.request_reasons.proofs.Exceeding.{write_exceeds}
+use Rattle.device_requests.specs.Write.{write_excess}
+use Rattle.request_reasons.proofs.Judged.{never_none}
 use Rattle.request_reasons.proofs.limit.parts_limit.Goals as goal
 
 pub unreachable-requires : goal.unreachable-requires
 unreachable-requires c =
-    write_exceeds c.args.client.now 0 c.args.mode c.args.path c.args.number c.args.payload.now c.requires
-    (sym c.in_ok-resource.ensures ∙ c.in-None.is)
+    never_none (write_excess c.args.client.now c.args.mode c.args.path c.args.number c.args.payload.now)
+    (sym c.in-None.is ∙ c.in_ok-excess.ensures) c.requires

@@ -1,10 +1,9 @@
-use Rattle.std.proofs.Common.{sym, ap, ◌∙◌}
-use Rattle.std.specs.Option.{option_copied}
-use Rattle.request_reasons.proofs.Recognized.{all_recognized}
+use Rattle.std.proofs.Common.{sym, ◌∙◌}
+use Rattle.request_reasons.proofs.Recognized.{first_at}
 use Rattle.request_reasons.proofs.options.unrecognized.Goals as goal
 
-pub unreachable-requires : goal.unreachable-requires
-unreachable-requires c =
-    all_recognized c.args.options.now
-    (sym c.first_unrecognized.ensures ∙ ap (λ o. option_copied o) c.in_default.is)
-    (sym c.repeated.ensures ∙ c.in-None.is) c.requires
+pub returns-then-has_unrecognized_critical : goal.returns-then-has_unrecognized_critical
+returns-then-has_unrecognized_critical c =
+    first_at c.args.options.now c.loop-i.i c.index-options-i.result c.fault_of.result c.loop-i-test.true
+    c.index-options-i.is c.loop-i.invariant
+    (sym c.has_unrecognized_critical.ensures ∙ c.if-has_unrecognized_critical.true) c.fault_of.ensures
