@@ -118,13 +118,14 @@ LacksLint rows =
 abbrev pub LacksOne : List Row → Type 0
 LacksOne rows = (first_of (codes "HEX") rows ≡ None) ⊎ WantsTwoForms rows
 
--- `play` has no file
+-- `play` has no file, or words that exclude each other
 abbrev pub LacksPlay : List Row → Type 0
-LacksPlay rows = first_of (codes "FILE") rows ≡ None
+LacksPlay rows = (first_of (codes "FILE") rows ≡ None) ⊎ WantsTwoForms rows
 
--- `show` has no image, or no trace
+-- `show` has no file, or words that exclude each other
 abbrev pub LacksShow : List Row → Type 0
-LacksShow rows = (first_of (codes "IMAGE") rows ≡ None) ⊎ (first_of (codes "TRACE") rows ≡ None)
+LacksShow rows =
+    (first_of (codes "IMAGE") rows ≡ None) ⊎ ((first_of (codes "TRACE") rows ≡ None) ⊎ WantsTwoForms rows)
 
 -- what words that were taken ask for, by the subcommand that was found; a text where they ask for nothing
 abbrev pub IsTakenAs : Option (Word × List Row) → Asked → Type 0

@@ -7,6 +7,4 @@ pub enum TraceForm {
     Reasons,
     /// As an object in JSON for each.
     JsonLines,
-    /// As an object in JSON for each, with the reasons.
-    ReasonedLines,
 }

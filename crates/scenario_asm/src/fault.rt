@@ -1,4 +1,3 @@
-use crate::limit::ScenarioLimit;
 use scenario_words::Cause;
 use thiserror::Error;
 
@@ -10,15 +9,4 @@ pub struct AsmFault {
     pub line: usize,
     /// Why it is refused.
     pub cause: Cause,
-}
-
-/// The first line of a text that is refused, and why; of a limit also which one.
-#[derive(Clone, Copy)]
-pub struct TextFault {
-    /// The line, counted from 1.
-    pub line: usize,
-    /// Why it is refused.
-    pub cause: Cause,
-    /// The limit that it passes, where it is refused for one.
-    pub limit: Option<ScenarioLimit>,
 }

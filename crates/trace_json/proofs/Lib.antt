@@ -5,4 +5,3 @@ pub mod Gathered
 pub mod Back
 pub mod Again
 pub mod Faults
-pub mod Reasoned

@@ -6,4 +6,3 @@ pub mod Lines
 pub mod Members
 pub mod Notes
 pub mod Answers
-pub mod Reasons

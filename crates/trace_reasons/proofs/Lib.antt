@@ -1,4 +1,3 @@
 pub mod Cutting
 pub mod Following
-pub mod Saying
 pub mod Selecting

@@ -1,3 +1,2 @@
 pub mod Beside
-pub mod Objects
 pub mod Text
