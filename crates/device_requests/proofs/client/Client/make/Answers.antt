@@ -1,4 +1,4 @@
--- There is room for the instance, and it is not there: no fault but want of memory is left.
+-- There is room for the instance, and it is not there: only an allocation can fail.
 use Rattle.std.proofs.Common.{◌≡◌, false, length, rules, ap, ◌∙◌}
 use Rattle.device_instances.specs.Creations.{has_no_room}
 use Rattle.device_requests.specs.Targets.{resources_defined}
