@@ -9,6 +9,8 @@ use Rattle.command_line.specs.declared.words.Asked.TheVariants as asked
 use Rattle.command_line.specs.declared.words.Job.{Job}
 use Rattle.command_line.specs.declared.words.Job.TheVariants as jobs
 use Rattle.command_line.specs.declared.words.Live.{Live}
+use Rattle.command_line.specs.declared.words.EntriesForm.{EntriesForm}
+use Rattle.command_line.specs.declared.words.EntriesForm.TheVariants as entries_forms
 use Rattle.command_line.specs.declared.words.TraceForm.{TraceForm as AskedForm}
 use Rattle.command_line.specs.declared.words.TraceForm.TheVariants as asked_forms
 use Rattle.command_line.specs.declared.words.CaseForm.{CaseForm}
@@ -60,16 +62,18 @@ use Rattle.command_files.specs.declared.status.Status.TheVariants as ends
 -- ---- what words are answered with
 
 -- the form of a trace that is asked for
-abbrev pub form_of : AskedForm → TraceForm
-form_of asked_forms.Text = forms.Text
-form_of asked_forms.Reasons = forms.Reasons
-form_of asked_forms.JsonLines = forms.JsonLines
+abbrev pub form_of : EntriesForm → TraceForm
+form_of entries_forms.Text = forms.Text
+form_of entries_forms.Reasons = forms.Reasons
+form_of entries_forms.JsonLines = forms.JsonLines
+form_of entries_forms.ReasonedLines = forms.ReasonedLines
 
 -- the same of the entries of a run, of cases, and of what is found
-abbrev pub play_form : AskedForm → PlayForm
-play_form asked_forms.Text = play_forms.Text
-play_form asked_forms.Reasons = play_forms.Reasons
-play_form asked_forms.JsonLines = play_forms.JsonLines
+abbrev pub play_form : EntriesForm → PlayForm
+play_form entries_forms.Text = play_forms.Text
+play_form entries_forms.Reasons = play_forms.Reasons
+play_form entries_forms.JsonLines = play_forms.JsonLines
+play_form entries_forms.ReasonedLines = play_forms.ReasonedLines
 
 abbrev pub report_form : CaseForm → ReportForm
 report_form case_forms.Text = report_forms.Text
@@ -367,6 +371,12 @@ is_json asked_forms.Text = false
 is_json asked_forms.Reasons = false
 is_json asked_forms.JsonLines = true
 
+abbrev pub are_json : EntriesForm → Bool
+are_json entries_forms.Text = false
+are_json entries_forms.Reasons = false
+are_json entries_forms.JsonLines = true
+are_json entries_forms.ReasonedLines = true
+
 abbrev pub is_case_json : CaseForm → Bool
 is_case_json case_forms.Text = false
 is_case_json case_forms.Tap = false
@@ -375,10 +385,10 @@ is_case_json case_forms.JsonLines = true
 -- whether a job asks for JSON
 abbrev pub job_wants_json : Job → Bool
 job_wants_json (jobs.One hex form) = is_json form
-job_wants_json (jobs.Play file device from to form) = is_json form
+job_wants_json (jobs.Play file device from to form) = are_json form
 job_wants_json (jobs.Check image trace json) = json
 job_wants_json (jobs.Lint file only except form) = is_json form
-job_wants_json (jobs.Show image trace device from to form) = is_json form
+job_wants_json (jobs.Show image trace device from to form) = are_json form
 job_wants_json (jobs.Test files only form junit) = is_case_json form
 job_wants_json (jobs.Expect files image device only form junit) = is_case_json form
 job_wants_json _ = false

@@ -1,15 +1,25 @@
 //! The forms that the words ask for.
 ghost use Rattle.std.specs.Prelude.{◌≡◌};
-ghost use Rattle.bench_commands.specs.Command.{form_of, is_case_json, is_json, job_wants_json, lint_form, play_form};
-ghost use Rattle.bench_commands.specs.Command.{report_form, wants_json};
+ghost use Rattle.bench_commands.specs.Command.{are_json, form_of, is_case_json, is_json, job_wants_json, lint_form};
+ghost use Rattle.bench_commands.specs.Command.{play_form, report_form, wants_json};
 
-use command_line::{Asked, CaseForm, Job, TraceForm as AskedForm};
+use command_line::{Asked, CaseForm, EntriesForm, Job, TraceForm as AskedForm};
 use command_lint::LintForm;
 use command_play::PlayForm;
 use command_traces::TraceForm;
 use test_reports::ReportForm;
 
-/// Whether a trace or outputs are asked for in JSON.
+/// Whether entries are asked for in JSON.
+pub(crate) fn are_json(form: EntriesForm) -> bool
+    ensures { result ≡ are_json form }
+{
+    match form {
+        EntriesForm::Text | EntriesForm::Reasons => false,
+        EntriesForm::JsonLines | EntriesForm::ReasonedLines => true,
+    }
+}
+
+/// Whether outputs, or what servers did wrong, are asked for in JSON.
 pub(crate) fn is_json(form: AskedForm) -> bool
     ensures { result ≡ is_json form }
 {
@@ -34,8 +44,8 @@ pub(crate) fn job_wants_json(job: &Job) -> bool
     ensures { result ≡ job_wants_json job.now }
 {
     match job {
-        Job::One { form, .. } | Job::Play { form, .. } => is_json(*form),
-        Job::Show { form, .. } | Job::Lint { form, .. } => is_json(*form),
+        Job::One { form, .. } | Job::Lint { form, .. } => is_json(*form),
+        Job::Play { form, .. } | Job::Show { form, .. } => are_json(*form),
         Job::Check { json, .. } => *json,
         Job::Test { form, .. } | Job::Expect { form, .. } => is_case_json(*form),
         Job::Say { .. }
@@ -62,13 +72,14 @@ pub(crate) fn wants_json(asked: &Asked) -> bool
 }
 
 /// The form of the entries of a run that is asked for.
-pub(crate) fn play_form(form: AskedForm) -> PlayForm
+pub(crate) fn play_form(form: EntriesForm) -> PlayForm
     ensures { result ≡ play_form form }
 {
     match form {
-        AskedForm::Text => PlayForm::Text,
-        AskedForm::Reasons => PlayForm::Reasons,
-        AskedForm::JsonLines => PlayForm::JsonLines,
+        EntriesForm::Text => PlayForm::Text,
+        EntriesForm::Reasons => PlayForm::Reasons,
+        EntriesForm::JsonLines => PlayForm::JsonLines,
+        EntriesForm::ReasonedLines => PlayForm::ReasonedLines,
     }
 }
 
@@ -84,13 +95,14 @@ pub(crate) fn report_form(form: CaseForm) -> ReportForm
 }
 
 /// The form of a trace that is asked for.
-pub(crate) fn form_of(form: AskedForm) -> TraceForm
+pub(crate) fn form_of(form: EntriesForm) -> TraceForm
     ensures { result ≡ form_of form }
 {
     match form {
-        AskedForm::Text => TraceForm::Text,
-        AskedForm::Reasons => TraceForm::Reasons,
-        AskedForm::JsonLines => TraceForm::JsonLines,
+        EntriesForm::Text => TraceForm::Text,
+        EntriesForm::Reasons => TraceForm::Reasons,
+        EntriesForm::JsonLines => TraceForm::JsonLines,
+        EntriesForm::ReasonedLines => TraceForm::ReasonedLines,
     }
 }
 

@@ -5,7 +5,7 @@ use Rattle.hex.specs.declared.error.FromHexError.TheVariants.{InvalidHexCharacte
 use Rattle.hex.specs.declared.error.FromHexError.TheVariants.{OutOfMemory}
 use Rattle.scenario_words.specs.declared.cause.Cause.{Cause}
 use Rattle.scenario_words.specs.declared.cause.Cause.TheVariants as cause
-use Rattle.scenario_asm.specs.declared.fault.AsmFault.{AsmFault}
+use Rattle.scenario_asm.specs.declared.fault.TextFault.{TextFault}
 use Rattle.case_text.specs.declared.fault.CaseFault.{CaseFault}
 use Rattle.case_text.specs.declared.fault.Why.{Why}
 use Rattle.case_text.specs.declared.fault.Why.TheVariants as why
@@ -38,12 +38,12 @@ layout_fault (layout.BadField place) = Layout (layout.BadField place)
 layout_fault (layout.Limit place) = Layout (layout.Limit place)
 layout_fault layout.Memory = Memory
 
-abbrev pub refused_text : Cause → AsmFault → Fault
+abbrev pub refused_text : Cause → TextFault → Fault
 refused_text cause.Memory fault = Memory
 refused_text _ fault = Text fault
 
 -- the fault of a text that denotes no scenario: a lack of memory is not the text's fault
-abbrev pub text_fault : AsmFault → Fault
+abbrev pub text_fault : TextFault → Fault
 text_fault fault = refused_text fault.cause fault
 
 -- the fault of entries that got no trace file

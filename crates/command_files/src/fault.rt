@@ -6,7 +6,7 @@ use byte_layout::LayoutFault;
 use case_text::{CaseFault, Why};
 use device_machine::TemplateFault;
 use hex::FromHexError;
-use scenario_asm::AsmFault;
+use scenario_asm::TextFault;
 use scenario_image::ScenarioFault;
 use scenario_words::{Cause, cause_words};
 use std::alloc::{AllocError, AllocFailed};
@@ -27,7 +27,7 @@ pub enum Fault {
     /// The bytes of a file are not an image, or not a trace file.
     Layout(LayoutFault),
     /// A line of a scenario's text is refused.
-    Text(AsmFault),
+    Text(TextFault),
     /// A run has no trace file.
     TooLarge,
     /// A template refused one of its parts.
@@ -74,7 +74,7 @@ impl fmt::Display for Fault {
         match self {
             Fault::Layout(LayoutFault::BadField(place)) => write!(f, "bad field at {place}"),
             Fault::Layout(LayoutFault::Limit(place)) => write!(f, "limit at {place}"),
-            Fault::Text(AsmFault { line, cause }) => {
+            Fault::Text(TextFault { line, cause, .. }) => {
                 let words = cause_words(*cause);
                 write!(f, "line {line}: {words}")
             }
@@ -294,13 +294,13 @@ impl From<LayoutFault> for Fault {
     }
 }
 
-impl From<AsmFault> for Fault {
+impl From<TextFault> for Fault {
     ghost use Rattle.std.specs.Prelude.{◌≡◌};
     ghost use Rattle.command_files.specs.Fault.{text_fault};
 
     ghost from_gives = { λ fault e. e ≡ text_fault fault };
 
-    fn from(fault: AsmFault) -> Fault {
+    fn from(fault: TextFault) -> Fault {
         match fault.cause {
             Cause::Memory => Fault::Memory,
             _ => Fault::Text(fault),

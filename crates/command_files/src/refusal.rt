@@ -1,10 +1,12 @@
 //! A fault, and what standard error says of it.
-ghost use Rattle.std.specs.Prelude.{◌≡◌, IfOk, option_map};
+ghost use Rattle.std.specs.Prelude.{◌≡◌, ◌++◌, IfOk, option_map};
 ghost use Rattle.std.specs.String.{string_bytes};
-ghost use Rattle.command_files.specs.Refusals.{IsAbout, IsComplaint, IsReason, about_line, plain_line, with_line};
-ghost use Rattle.command_files.specs.Refusals.{with_word};
+ghost use Rattle.command_files.specs.FaultLine.{fault_name};
+ghost use Rattle.command_files.specs.Refusals.{IsAbout, IsComplaint, IsNamed, IsReason, about_line, limit_passed};
+ghost use Rattle.command_files.specs.Refusals.{limit_told, line_then, plain_line, with_line, with_word, word_then};
 
 use crate::fault::Fault;
+use scenario_asm::ScenarioLimit;
 use scenario_image::ScenarioFault;
 use std::alloc::{AllocError, Global};
 
@@ -87,20 +89,66 @@ fn words_of(alloc: Global, refusal: &Refusal) -> Result<String, AllocError>
     }
 }
 
+/// The limit that a line passes, if it is refused for one, with a colon before it.
+fn limit_told(alloc: Global, limit: Option<ScenarioLimit>) -> Result<String, AllocError>
+    ensures { IfOk result (λ text. string_bytes text ≡ limit_told limit) }
+{
+    match limit {
+        Some(limit) => format!(in alloc; ": {limit}"),
+        None => Ok(String::new(alloc)),
+    }
+}
+
+fn limit_passed(alloc: Global, fault: Fault) -> Result<String, AllocError>
+    ensures { IfOk result (λ text. string_bytes text ≡ limit_passed fault) }
+{
+    match fault {
+        Fault::Text(fault) => limit_told(alloc, fault.limit),
+        _ => Ok(String::new(alloc)),
+    }
+}
+
+fn word_then(alloc: Global, fault: Fault, word: &str, limit: &str) -> Result<String, AllocError>
+    ensures { IfOk result (λ text. string_bytes text ≡ word_then fault word.now limit.now) }
+{
+    format!(in alloc; "{fault} \"{word}\"{limit}")
+}
+
 fn with_word(alloc: Global, fault: Fault, word: &str) -> Result<String, AllocError>
     ensures { IfOk result (λ text. string_bytes text ≡ with_word fault word.now) }
 {
-    format!(in alloc; "{fault} \"{word}\"")
+    let limit = limit_passed(alloc, fault)?;
+    word_then(alloc, fault, word, limit.as_str())
+}
+
+fn line_then(alloc: Global, fault: Fault, line: &str, limit: &str) -> Result<String, AllocError>
+    ensures { IfOk result (λ text. string_bytes text ≡ line_then fault line.now limit.now) }
+{
+    format!(in alloc; "{fault} in \"{line}\"{limit}")
 }
 
 fn with_line(alloc: Global, fault: Fault, line: &str) -> Result<String, AllocError>
     ensures { IfOk result (λ text. string_bytes text ≡ with_line fault line.now) }
 {
-    format!(in alloc; "{fault} in \"{line}\"")
+    let limit = limit_passed(alloc, fault)?;
+    line_then(alloc, fault, line, limit.as_str())
 }
 
-fn named(alloc: Global, fault: Fault) -> Result<String, AllocError> {
+/// The fault of a line that is not shown, and the limit that it passes.
+fn unshown(alloc: Global, fault: Fault, limit: &str) -> Result<String, AllocError>
+    ensures { IfOk result (λ text. string_bytes text ≡ fault_name fault ++ limit.now) }
+{
+    format!(in alloc; "{fault}{limit}")
+}
+
+fn named(alloc: Global, fault: Fault) -> Result<String, AllocError>
+    ensures { IfOk result (λ text. IsNamed fault (string_bytes text)) }
+{
     match fault {
+        Fault::Text(text) => {
+            let limit = limit_told(alloc, text.limit)?;
+            unshown(alloc, fault, limit.as_str())
+        }
         Fault::Memory => String::from_str(alloc, "out of memory"),
         Fault::Workers => String::from_str(alloc, "the number of workers is not from 1 to 64"),
         Fault::Batch => String::from_str(alloc, "the batch is not from 1 to 64"),

@@ -9,7 +9,7 @@ use crate::cases::case_words;
 use byte_layout::LayoutFault;
 use case_text::CaseFault;
 use command_files::{Fault, Why};
-use scenario_asm::AsmFault;
+use scenario_asm::TextFault;
 use scenario_words::cause_words;
 use std::alloc::{AllocError, Global};
 
@@ -30,7 +30,7 @@ pub(crate) fn refused_line(fault: Fault) -> Option<u64>
     ensures { result ≡ refused_line fault }
 {
     match fault {
-        Fault::Text(AsmFault { line, .. }) => Some(line as u64),
+        Fault::Text(TextFault { line, .. }) => Some(line as u64),
         Fault::Cases(CaseFault { line, .. }) => Some(line as u64),
         _ => None,
     }
@@ -52,7 +52,7 @@ pub(crate) fn refusal_cause(alloc: Global, fault: Fault) -> Result<Option<String
     ensures { IfOk result (λ o. option_map (λ t. string_bytes t) o ≡ refusal_cause fault) }
 {
     match fault {
-        Fault::Text(AsmFault { cause, .. }) => {
+        Fault::Text(TextFault { cause, .. }) => {
             Ok(Some(String::from_str(alloc, cause_words(cause))?))
         }
         Fault::Cases(CaseFault { why, .. }) => Ok(Some(case_words(alloc, why)?)),

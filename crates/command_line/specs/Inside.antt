@@ -118,14 +118,13 @@ LacksLint rows =
 abbrev pub LacksOne : List Row → Type 0
 LacksOne rows = (first_of (codes "HEX") rows ≡ None) ⊎ WantsTwoForms rows
 
--- `play` has no file, or words that exclude each other
+-- `play` has no file
 abbrev pub LacksPlay : List Row → Type 0
-LacksPlay rows = (first_of (codes "FILE") rows ≡ None) ⊎ WantsTwoForms rows
+LacksPlay rows = first_of (codes "FILE") rows ≡ None
 
--- `show` has no file, or words that exclude each other
+-- `show` has no image, or no trace
 abbrev pub LacksShow : List Row → Type 0
-LacksShow rows =
-    (first_of (codes "IMAGE") rows ≡ None) ⊎ ((first_of (codes "TRACE") rows ≡ None) ⊎ WantsTwoForms rows)
+LacksShow rows = (first_of (codes "IMAGE") rows ≡ None) ⊎ (first_of (codes "TRACE") rows ≡ None)
 
 -- what words that were taken ask for, by the subcommand that was found; a text where they ask for nothing
 abbrev pub IsTakenAs : Option (Word × List Row) → Asked → Type 0

@@ -17,6 +17,8 @@ use Rattle.command_line.specs.declared.verdict_words.AskedVerdict.{AskedVerdict}
 use Rattle.command_line.specs.declared.wire_words.AskedWire.{AskedWire}
 use Rattle.command_line.specs.declared.words.Asked.{Asked}
 use Rattle.command_line.specs.declared.words.Asked.TheVariants as asked
+use Rattle.command_line.specs.declared.words.EntriesForm.{EntriesForm}
+use Rattle.command_line.specs.declared.words.EntriesForm.TheVariants as entries
 use Rattle.command_line.specs.declared.words.TraceForm.{TraceForm}
 use Rattle.command_line.specs.declared.words.TraceForm.TheVariants as forms
 use Rattle.command_line.specs.declared.words.CaseForm.{CaseForm}
@@ -188,7 +190,14 @@ abbrev pub AsksForCases : Word × List Row → List Word → Option Word → Typ
 AsksForCases found files only =
     (found.0 ≡ codes "test") × AreTexts found (codes "FILE") files × (first_of (codes "only") found.1 ≡ only)
 
--- the words of `show`, `play` and `one` ask for this form: `--json` and `--why` exclude each other
+-- the words of `show` and `play` ask for entries in this form: `--json` and `--why` may stand beside each other
+abbrev pub AsksForEntries : List Row → EntriesForm → Type 0
+AsksForEntries rows entries.Text = (is_set (codes "json") rows ≡ false) × (is_set (codes "why") rows ≡ false)
+AsksForEntries rows entries.Reasons = (is_set (codes "json") rows ≡ false) × (is_set (codes "why") rows ≡ true)
+AsksForEntries rows entries.JsonLines = (is_set (codes "json") rows ≡ true) × (is_set (codes "why") rows ≡ false)
+AsksForEntries rows entries.ReasonedLines = (is_set (codes "json") rows ≡ true) × (is_set (codes "why") rows ≡ true)
+
+-- the words of `one` and `lint` ask for this form: `--json` and `--why` exclude each other
 abbrev pub AsksForForm : List Row → TraceForm → Type 0
 AsksForForm rows forms.Text = (is_set (codes "json") rows ≡ false) × (is_set (codes "why") rows ≡ false)
 AsksForForm rows forms.Reasons = (is_set (codes "json") rows ≡ false) × (is_set (codes "why") rows ≡ true)
@@ -223,7 +232,7 @@ AsksFor found (jobs.Play file device from to form) =
     (found.0 ≡ codes "play") × IsText found (codes "FILE") file.now
     × IsOptionalNumber 16 (one_of (codes "device") found.1) device
     × IsOptionalNumber 32 (one_of (codes "from") found.1) from × IsOptionalNumber 32 (one_of (codes "to") found.1) to
-    × AsksForForm found.1 form
+    × AsksForEntries found.1 form
 AsksFor found (jobs.Asm input output) =
     (found.0 ≡ codes "asm") × IsText found (codes "IN") input.now × IsText found (codes "OUT") output.now
 AsksFor found (jobs.Dis input) = (found.0 ≡ codes "dis") × IsText found (codes "IN") input.now
@@ -238,7 +247,7 @@ AsksFor found (jobs.Show image trace device from to form) =
     (found.0 ≡ codes "show") × IsText found (codes "IMAGE") image.now × IsText found (codes "TRACE") trace.now
     × IsOptionalNumber 16 (one_of (codes "device") found.1) device
     × IsOptionalNumber 32 (one_of (codes "from") found.1) from × IsOptionalNumber 32 (one_of (codes "to") found.1) to
-    × AsksForForm found.1 form
+    × AsksForEntries found.1 form
 AsksFor found (jobs.Pcap image trace output) =
     (found.0 ≡ codes "pcap") × IsText found (codes "IMAGE") image.now × IsText found (codes "TRACE") trace.now
     × IsText found (codes "OUT") output.now

@@ -2,13 +2,13 @@
 ghost use Rattle.std.specs.Prelude.{◌≡◌, ◌≢◌, ◌⊎◌, [], None, Some, codes, map, true, unwrap_or, IfNone, IfOk, IfSome};
 ghost use Rattle.clap.specs.Words.{all_of, first_of, found_of, rows_of};
 ghost use Rattle.command_line.specs.declared.words.Job.{Job as JobData};
-ghost use Rattle.command_line.specs.Words.{AsksFor, AsksForCaseForm, AsksForForm, is_set};
+ghost use Rattle.command_line.specs.Words.{AsksFor, AsksForCaseForm, AsksForEntries, AsksForForm, is_set};
 ghost use Rattle.command_line.specs.Inside.{ExcludesInTest, LacksJoin, LacksLint, LacksOne, LacksPlay, LacksRun};
 ghost use Rattle.command_line.specs.Inside.{IsNoPlainName, LacksShow, LacksTest, TakesNoList};
 ghost use Rattle.command_line.specs.Inside.{WantsTwoCaseForms, WantsTwoForms};
 
 use crate::values::{flag, number, small_number, value_of, values_if, values_of};
-use crate::words::{CaseForm, Job, TraceForm};
+use crate::words::{CaseForm, EntriesForm, Job, TraceForm};
 use clap::ArgMatches;
 use std::alloc::{AllocError, Global};
 
@@ -94,7 +94,7 @@ fn play_job<'a>(found: &ArgMatches<'a>) -> Option<Job<'a>>
         device: small_number(found, "device"),
         from: number(found, "from"),
         to: number(found, "to"),
-        form: form_of(found)?,
+        form: entries_form(found),
     })
 }
 
@@ -152,11 +152,23 @@ fn show_job<'a>(found: &ArgMatches<'a>) -> Option<Job<'a>>
         device: small_number(found, "device"),
         from: number(found, "from"),
         to: number(found, "to"),
-        form: form_of(found)?,
+        form: entries_form(found),
     })
 }
 
-/// In which form the words of `show`, `play`, `one` and `lint` ask for an answer; none where they ask for two.
+/// In which form the words of `show` and `play` ask for entries.
+fn entries_form(found: &ArgMatches) -> EntriesForm
+    ensures { AsksForEntries (rows_of (found_of found.now)) result }
+{
+    match (flag(found, "json"), flag(found, "why")) {
+        (false, false) => EntriesForm::Text,
+        (false, true) => EntriesForm::Reasons,
+        (true, false) => EntriesForm::JsonLines,
+        (true, true) => EntriesForm::ReasonedLines,
+    }
+}
+
+/// In which form the words of `one` and `lint` ask for an answer; none where they ask for two.
 fn form_of(found: &ArgMatches) -> Option<TraceForm>
     ensures some { IfSome result (AsksForForm (rows_of (found_of found.now))) }
     ensures none { IfNone result (WantsTwoForms (rows_of (found_of found.now))) }

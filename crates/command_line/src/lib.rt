@@ -15,4 +15,4 @@ mod words;
 pub use fleet_words::AskedFleet;
 pub use verdict_words::AskedVerdict;
 pub use wire_words::AskedWire;
-pub use words::{Asked, CaseForm, Job, Live, NO_TEXT, TraceForm, read};
+pub use words::{Asked, CaseForm, EntriesForm, Job, Live, NO_TEXT, TraceForm, read};

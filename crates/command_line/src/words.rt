@@ -34,15 +34,7 @@ const DEVICE_OF_NOTHING: &str =
 const JSON_AND_TAP: &str = "error: the argument '--json' cannot be used with '--tap'\n\n\
      Usage: lwbench test [OPTIONS] <FILE>...\n\nFor more information, try '--help'.\n";
 
-/// What is said where a trace is asked for in two forms.
-const SHOW_JSON_AND_WHY: &str = "error: the argument '--json' cannot be used with '--why'\n\n\
-     Usage: lwbench show [OPTIONS] <IMAGE> <TRACE>\n\nFor more information, try '--help'.\n";
-
-/// The same of a run.
-const PLAY_JSON_AND_WHY: &str = "error: the argument '--json' cannot be used with '--why'\n\n\
-     Usage: lwbench play [OPTIONS] <FILE>\n\nFor more information, try '--help'.\n";
-
-/// The same of one datagram.
+/// What is said where the outputs for a datagram are asked for in two forms.
 const ONE_JSON_AND_WHY: &str = "error: the argument '--json' cannot be used with '--why'\n\n\
      Usage: lwbench one [OPTIONS] <HEX>\n\nFor more information, try '--help'.\n";
 
@@ -81,12 +73,25 @@ const RULES_AS_OBJECTS: &str = "error: the argument '--json' cannot be used with
 const RULES_WITH_REASONS: &str = "error: the argument '--why' cannot be used with '--rules'\n\n\
      Usage: lwbench lint [OPTIONS] --rules\n\nFor more information, try '--help'.\n";
 
-/// How the entries of a trace are printed, or the outputs of a device.
+/// How the entries of a trace are printed.
+#[derive(Clone, Copy)]
+pub enum EntriesForm {
+    /// As text.
+    Text,
+    /// As text, and below each datagram that arrives why the device answered like that.
+    Reasons,
+    /// As an object in JSON for each.
+    JsonLines,
+    /// As an object in JSON for each, with the reasons.
+    ReasonedLines,
+}
+
+/// How the outputs of a device are printed, or what servers did wrong.
 #[derive(Clone, Copy)]
 pub enum TraceForm {
     /// As text.
     Text,
-    /// As text, and below each datagram that arrives why the device answered like that.
+    /// As text, with reasons.
     Reasons,
     /// As an object in JSON for each.
     JsonLines,
@@ -136,7 +141,7 @@ pub enum Job<'a> {
         /// The number of the last entry that may be shown; where it is not given, that of the last of all.
         to: Option<u32>,
         /// How the entries are printed.
-        form: TraceForm,
+        form: EntriesForm,
     },
     /// The image of a scenario, from its text.
     Asm {
@@ -183,7 +188,7 @@ pub enum Job<'a> {
         /// The number of the last entry that may be shown; where it is not given, that of the last of all.
         to: Option<u32>,
         /// How the entries are printed.
-        form: TraceForm,
+        form: EntriesForm,
     },
     /// The datagrams of a run, as a capture of packets.
     Pcap {
@@ -433,8 +438,6 @@ fn mistake_of(name: &str, found: &ArgMatches) -> Option<&'static str> {
         "test" => Some(test_usage(found)),
         "lint" => Some(lint_usage(found)),
         "fleet" => Some(fleet_usage(found)),
-        "show" => Some(SHOW_JSON_AND_WHY),
-        "play" => Some(PLAY_JSON_AND_WHY),
         "one" => Some(ONE_JSON_AND_WHY),
         _ => None,
     }

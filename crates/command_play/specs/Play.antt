@@ -8,6 +8,7 @@ use Rattle.fleet_core.specs.Waiting.{waiting_devices}
 use Rattle.trace_text.specs.declared.selection.Selection.{Selection}
 use Rattle.trace_text.specs.declared.selection.SelectionFault.TheVariants as selection
 use Rattle.trace_text.specs.Selection.{IsSelectable, IsSelectionFault, selected_text}
+use Rattle.trace_reasons.specs.Objects.{AreReasonedLines}
 use Rattle.trace_reasons.specs.Text.{IsReasonedText}
 use Rattle.trace_json.specs.Answers.{end_json}
 use Rattle.trace_json.specs.Entries.{trace_json}
@@ -27,18 +28,20 @@ use Rattle.command_play.specs.declared.form.PlayForm.TheVariants as forms
 
 -- ---- its serial run
 
--- the text of the entries that are asked for; with `--why` that with the reasons why devices handle what arrives as
--- they do; with `--json` an object for each of them, in a line of its own
+-- the text of the entries that are asked for; with `--json` an object for each of them, in a line of its own; with
+-- `--why` either with the reasons why devices handle what arrives as they do
 abbrev pub IsToldAs : PlayForm → Scenario → Selection → List Entry → List ℕ → Type 0
 IsToldAs forms.Text s sel es text = text ≡ selected_text s sel es
 IsToldAs forms.Reasons s sel es text = IsReasonedText s sel es text
 IsToldAs forms.JsonLines s sel es text = text ≡ json_lines (trace_json s sel es)
+IsToldAs forms.ReasonedLines s sel es text = AreReasonedLines s sel es text
 
 -- the line of how a run of this many entries ended, after which these devices are not at the end of their rows
 abbrev pub ending : PlayForm → ℕ → List ℕ → List ℕ
 ending forms.Text count waiting = end_line count waiting
 ending forms.Reasons count waiting = end_line count waiting
 ending forms.JsonLines count waiting = json_line (end_json count waiting)
+ending forms.ReasonedLines count waiting = json_line (end_json count waiting)
 
 -- the text of the entries that are asked for, and then the line of the run's end; no file is made
 pub record IsPlayed (form : PlayForm) (sel : Selection) (s : Scenario) (answer : Answer) : Type 0 where

@@ -7,4 +7,6 @@ pub enum PlayForm {
     Reasons,
     /// As an object in JSON for each.
     JsonLines,
+    /// As an object in JSON for each, with the reasons.
+    ReasonedLines,
 }

@@ -16,12 +16,12 @@ use scenario_image::Scenario;
 use std::alloc::{AllocError, Global};
 use trace_file::Entry;
 use trace_json::{run_end_line, selected_lines};
-use trace_reasons::selected_reasons;
+use trace_reasons::{reasoned_lines, selected_reasons};
 use trace_text::{Selection, SelectionFault, selected_text};
 
 /// `play FILE [--device N] [--from N] [--to N] [--json] [--why]`: the serial run of the scenario of a file, whose text
-/// or image the file is. Prints those entries that are asked for, as text, as text with reasons, or as JSON Lines, and
-/// how the run ended; the status is 0 also where it stalled.
+/// or image the file is. Prints those entries that are asked for, as text or as JSON Lines, either with reasons or
+/// without, and how the run ended; the status is 0 also where it stalled.
 #[tactic(auto, using(crate::proofs::Played::played_at, crate::proofs::Played::refused_file, crate::proofs::Played::unplayed_at))]
 pub fn play<'a, F: Files>(
     alloc: Global,
@@ -56,6 +56,7 @@ fn told(
         PlayForm::Text => selected_text(alloc, scenario, entries, selection),
         PlayForm::Reasons => selected_reasons(alloc, scenario, entries, selection),
         PlayForm::JsonLines => selected_lines(alloc, scenario, entries, selection),
+        PlayForm::ReasonedLines => reasoned_lines(alloc, scenario, entries, selection),
     }
 }
 
@@ -91,7 +92,7 @@ fn end_of(
 {
     match form {
         PlayForm::Text | PlayForm::Reasons => end_line(alloc, count, waiting),
-        PlayForm::JsonLines => run_end_line(alloc, count, waiting),
+        PlayForm::JsonLines | PlayForm::ReasonedLines => run_end_line(alloc, count, waiting),
     }
 }
 

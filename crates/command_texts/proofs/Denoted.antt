@@ -1,12 +1,13 @@
 -- What is read of a text, put together from its parts.
-use Rattle.std.proofs.Common.{ℕ, ◌≡◌, ◌≢◌, List, Option, Err, inl, inr, subst, sym}
+use Rattle.std.proofs.Common.{ℕ, ◌≡◌, ◌≢◌, List, Option, None, Err, inl, inr, subst, sym}
 use Rattle.std.specs.Str.{IsUtf8}
 use Rattle.scenario_image.specs.Scenario.{Scenario}
 use Rattle.scenario_words.specs.declared.cause.Cause.{Cause}
 use Rattle.scenario_words.specs.declared.cause.Cause.TheVariants as cause
 use Rattle.scenario_asm.specs.Denotes.{Denotes}
+use Rattle.scenario_asm.specs.Limits.{PassesAt, asm_fault}
 use Rattle.scenario_asm.specs.Text.{scenario_of_text}
-use Rattle.scenario_asm.specs.declared.fault.AsmFault.{AsmFault}
+use Rattle.scenario_asm.specs.declared.fault.TextFault.{TextFault}
 use Rattle.command_files.specs.Fault.{IsReadingFault}
 use Rattle.command_files.specs.declared.fault.Fault.{Fault}
 use Rattle.command_files.specs.declared.fault.Fault.TheVariants as faults
@@ -31,13 +32,17 @@ pub no_utf8 : (bytes : List ℕ) → ¬ (IsUtf8 bytes) → IsNoText bytes faults
 no_utf8 bytes broken = broken
 
 -- a text that denotes no scenario
-pub wrong_text : (bytes : List ℕ) (fault : AsmFault) (f : Fault) (why : Why)
-    → (fault.cause ≢ cause.Memory → scenario_of_text bytes ≡ Err fault)
-    → IsRefusedText statement_cause bytes fault f why → IsNoText bytes f
-wrong_text bytes fault f why h (inl told) = subst (λ g. IsNoText bytes g) (sym told.1) (h told.0)
-wrong_text bytes fault f why h (inr memory) = subst (λ g. IsNoText bytes g) (sym memory.0) tt
+pub wrong_text : (bytes : List ℕ) (fault : TextFault) (f : Fault) (why : Why)
+    → (fault.cause ≢ cause.Memory → scenario_of_text bytes ≡ Err (asm_fault fault))
+    → (fault.cause ≡ cause.Limit → PassesAt bytes fault.line fault.limit)
+    → (fault.cause ≢ cause.Limit → fault.limit ≡ None) → IsRefusedText statement_cause bytes fault f why
+    → IsNoText bytes f
+wrong_text bytes fault f why h limit no_limit (inl told) =
+    subst (λ g. IsNoText bytes g) (sym told.1)
+    (record { fault_is = h told.0; limit = limit; no_limit = no_limit })
+wrong_text bytes fault f why h limit no_limit (inr memory) = subst (λ g. IsNoText bytes g) (sym memory.0) tt
 
-pub text_why : (bytes : List ℕ) (fault : AsmFault) (f : Fault) (why : Why)
+pub text_why : (bytes : List ℕ) (fault : TextFault) (f : Fault) (why : Why)
     → IsRefusedText statement_cause bytes fault f why → IsTextWhy bytes f why
 text_why bytes fault f why (inl told) = subst (λ g. IsTextWhy bytes g why) (sym told.1) told.2
 text_why bytes fault f why (inr memory) = subst (λ g. IsTextWhy bytes g why) (sym memory.0) tt
@@ -97,12 +102,12 @@ why_at holds path bytes faults.OtherClasses why held h said = tt
 why_at holds path bytes faults.Slices why held h said = tt
 
 -- what is said of a text
-pub refused_so : (causes : List (List ℕ) → Option Cause) (text : List ℕ) (fault : AsmFault) (f : Fault) (why : Why)
+pub refused_so : (causes : List (List ℕ) → Option Cause) (text : List ℕ) (fault : TextFault) (f : Fault) (why : Why)
     → fault.cause ≢ cause.Memory → f ≡ faults.Text fault → IsBlamed causes text fault why
     → IsRefusedText causes text fault f why
 refused_so causes text fault f why some is blamed = inl (some, is, blamed)
 
-pub no_memory : (causes : List (List ℕ) → Option Cause) (text : List ℕ) (fault : AsmFault) (f : Fault) (why : Why)
+pub no_memory : (causes : List (List ℕ) → Option Cause) (text : List ℕ) (fault : TextFault) (f : Fault) (why : Why)
     → f ≡ faults.Memory → why ≡ whys.Named → IsRefusedText causes text fault f why
 no_memory causes text fault f why is named = inr (is, named)
 

@@ -9,7 +9,7 @@ use Rattle.scenario_words.specs.declared.cause.Cause.TheVariants.{Missing}
 use Rattle.scenario_words.specs.declared.cause.Cause.TheVariants as kinds
 use Rattle.scenario_words.specs.Words.{lines, words}
 use Rattle.scenario_statements.specs.Grammar.{statement_of}
-use Rattle.scenario_asm.specs.declared.fault.AsmFault.{AsmFault}
+use Rattle.scenario_asm.specs.declared.fault.TextFault.{TextFault}
 use Rattle.command_files.specs.declared.fault.Fault.{Fault}
 use Rattle.command_files.specs.declared.fault.Fault.TheVariants.{Memory, Text}
 use Rattle.command_files.specs.declared.refusal.Why.{Why}
@@ -67,11 +67,11 @@ IsBlamedIn causes cause line why =
     ⊎ (HaveNoWrongWord causes cause (words line) × IsSaidOfLine line why)
 
 -- the same of the line of a text that has this fault
-abbrev pub IsBlamed : (List (List ℕ) → Option Cause) → List ℕ → AsmFault → Why → Type 0
+abbrev pub IsBlamed : (List (List ℕ) → Option Cause) → List ℕ → TextFault → Why → Type 0
 IsBlamed causes text fault why = IsBlamedIn causes fault.cause (line_at text fault.line) why
 
 -- a text is refused for its fault, and this is said of it; or memory ran out
-abbrev pub IsRefusedText : (List (List ℕ) → Option Cause) → List ℕ → AsmFault → Fault → Why → Type 0
+abbrev pub IsRefusedText : (List (List ℕ) → Option Cause) → List ℕ → TextFault → Fault → Why → Type 0
 IsRefusedText causes text fault refused why =
     ((fault.cause ≢ kinds.Memory) × (refused ≡ Text fault) × IsBlamed causes text fault why)
     ⊎ ((refused ≡ Memory) × (why ≡ Named))

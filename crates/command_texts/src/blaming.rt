@@ -7,7 +7,7 @@ ghost use Rattle.command_texts.specs.Blamed.{AreRefusedFor, HaveNoWrongWord, IsB
 ghost use Rattle.command_texts.specs.Blamed.{IsSaidOfLine, IsSaidOfWord, IsShown, IsWrongWord, line_at, statement_cause};
 
 use command_files::{Fault, Refusal, Why};
-use scenario_asm::AsmFault;
+use scenario_asm::TextFault;
 use scenario_statements::read_statement;
 use scenario_words::{Cause, next_line, next_word};
 use std::alloc::{AllocError, Global};
@@ -53,7 +53,7 @@ pub(crate) fn refuse_text<'a>(
     alloc: Global,
     path: &'a str,
     text: &str,
-    fault: AsmFault,
+    fault: TextFault,
 ) -> Refusal<'a>
     ensures blamed { IsRefusedText statement_cause text.now fault result.fault result.why }
     ensures names_path { option_map (λ p. p.now) result.about ≡ Some path.entry.now }
@@ -67,7 +67,7 @@ pub fn refuse_by<'a, L: LineReader>(
     alloc: Global,
     about: Option<&'a str>,
     text: &str,
-    fault: AsmFault,
+    fault: TextFault,
     reader: &L,
 ) -> Refusal<'a>
     ensures blamed { IsRefusedText L.causes text.now fault result.fault result.why }
@@ -94,7 +94,7 @@ pub fn refuse_by<'a, L: LineReader>(
 fn blame<L: LineReader>(
     alloc: Global,
     text: &str,
-    fault: AsmFault,
+    fault: TextFault,
     reader: &L,
 ) -> Result<Why, AllocError>
     ensures { IfOk result (IsBlamed L.causes text.now fault) }

@@ -6,7 +6,7 @@ ghost use Rattle.command_texts.specs.Texts.{IsNoText, IsTextAt, IsTextFault, IsT
 use crate::blaming::refuse_text;
 use command_files::files::Files;
 use command_files::{Fault, Refusal, Why, read_file};
-use scenario_asm::assemble;
+use scenario_asm::assemble_or_limit;
 use scenario_image::Scenario;
 use std::alloc::Global;
 use std::str;
@@ -42,7 +42,7 @@ pub fn text_of<'a>(alloc: Global, path: &'a str, bytes: &[u8]) -> Result<Scenari
             why: Why::Known("not valid UTF-8"),
         });
     };
-    match assemble(alloc, text) {
+    match assemble_or_limit(alloc, text) {
         Ok(scenario) => Ok(scenario),
         Err(fault) => Err(refuse_text(alloc, path, text, fault)),
     }

@@ -46,6 +46,11 @@ pub no_run_in_json : (s : Scenario) (es : List Entry) (place : ℕ) (answer : An
 no_run_in_json s es place answer breaks said ended none =
     record { place = place; breaks = breaks; text_is = said; status_is = ended; made_is = none }
 
+pub no_run_with_reasons : (s : Scenario) (es : List Entry) (place : ℕ) (answer : Answer) → BreaksAt s es place
+    → string_bytes answer.text ≡ json_line (verdict_json (verdicts.NotRun place)) → answer.status ≡ NotRun
+    → files_of answer.file ≡ [] → IsNoRunIn forms.ReasonedLines s es answer
+no_run_with_reasons = no_run_in_json
+
 -- ---- show
 
 pub unshown_run : (form : TraceForm) (sel : Selection) (s : Scenario) (es : List Entry) (answer : Answer)

@@ -10,6 +10,7 @@ use Rattle.fleet_core.specs.declared.verdict.Verdict.TheVariants as verdicts
 use Rattle.trace_text.specs.declared.selection.Selection.{Selection}
 use Rattle.trace_text.specs.declared.selection.SelectionFault.TheVariants as selection
 use Rattle.trace_text.specs.Selection.{IsSelectable, IsSelectionFault, selected_text}
+use Rattle.trace_reasons.specs.Objects.{AreReasonedLines}
 use Rattle.trace_reasons.specs.Text.{IsReasonedText}
 use Rattle.trace_json.specs.Entries.{trace_json}
 use Rattle.trace_json.specs.Lines.{json_lines}
@@ -60,13 +61,15 @@ abbrev pub IsNoRunIn : TraceForm → Scenario → List Entry → Answer → Type
 IsNoRunIn forms.Text s es answer = IsNoRun s es answer
 IsNoRunIn forms.Reasons s es answer = IsNoRun s es answer
 IsNoRunIn forms.JsonLines s es answer = IsNoRunInJson s es answer
+IsNoRunIn forms.ReasonedLines s es answer = IsNoRunInJson s es answer
 
--- the entries that are asked for, in this form: their text; the same with the reasons why devices handle what arrives
--- as they do; or an object for each of them, in a line of its own
+-- the entries that are asked for, in this form: their text, or an object for each of them in a line of its own; each
+-- also with the reasons why devices handle what arrives as they do
 abbrev pub IsShownIn : TraceForm → Scenario → Selection → List Entry → List ℕ → Type 0
 IsShownIn forms.Text s sel es text = text ≡ selected_text s sel es
 IsShownIn forms.Reasons s sel es text = IsReasonedText s sel es text
 IsShownIn forms.JsonLines s sel es text = text ≡ json_lines (trace_json s sel es)
+IsShownIn forms.ReasonedLines s sel es text = AreReasonedLines s sel es text
 
 -- the entries are a run, and those that are asked for are printed
 pub record IsRunShown (form : TraceForm) (sel : Selection) (s : Scenario) (es : List Entry) (answer : Answer)

@@ -21,7 +21,7 @@ use std::alloc::{AllocError, Global};
 use trace_file::Entry;
 use trace_json::{selected_lines, verdict_line};
 use trace_pcap::{PcapFault, packet_count, trace_pcap};
-use trace_reasons::selected_reasons;
+use trace_reasons::{reasoned_lines, selected_reasons};
 use trace_text::{Selection, SelectionFault, selected_text};
 
 /// The answer that entries are not a run; none where they are one.
@@ -41,7 +41,7 @@ fn answer_no_run<'a>(
 }
 
 /// `show IMAGE TRACE [--device N] [--from N] [--to N] [--json] [--why]`: those entries of a run that are asked for, as
-/// text, as text with reasons, or as JSON Lines.
+/// text or as JSON Lines, either with reasons or without.
 #[tactic(auto, using(crate::proofs::Traced::shown_at, crate::proofs::Traced::unshown_at, crate::proofs::Traced::unshown_image, crate::proofs::Traced::unshown_trace))]
 pub fn show<'a, F: Files>(
     alloc: Global,
@@ -79,14 +79,14 @@ fn show_trace<'a>(
 }
 
 /// The answer that entries are not a run, from this one on, in this form.
-#[tactic(auto, using(crate::proofs::Traced::no_run, crate::proofs::Traced::no_run_in_json))]
+#[tactic(auto, using(crate::proofs::Traced::no_run, crate::proofs::Traced::no_run_in_json, crate::proofs::Traced::no_run_with_reasons))]
 fn show_no_run<'a>(alloc: Global, form: TraceForm, place: usize) -> Result<Answer<'a>, AllocError>
     ensures { (s : ScenarioData) (es : List EntryData) → BreaksAt s es place → IfOk result (IsNoRunIn form s es) }
 {
     match form {
         TraceForm::Text => no_run(alloc, place),
         TraceForm::Reasons => no_run(alloc, place),
-        TraceForm::JsonLines => {
+        TraceForm::JsonLines | TraceForm::ReasonedLines => {
             let text = verdict_line(alloc, Verdict::NotRun(place))?;
             Ok(Answer::printed(Status::NotRun, text))
         }
@@ -129,6 +129,7 @@ fn shown(
         TraceForm::Text => selected_text(alloc, scenario, entries, selection),
         TraceForm::Reasons => selected_reasons(alloc, scenario, entries, selection),
         TraceForm::JsonLines => selected_lines(alloc, scenario, entries, selection),
+        TraceForm::ReasonedLines => reasoned_lines(alloc, scenario, entries, selection),
     }
 }
 

@@ -116,4 +116,4 @@ log_fault log server left more n line text f so_far first (inl memory) =
     subst (λ g. IsLogFault log (fault_at (n + 1) g)) (sym memory) tt
 log_fault log server left more n line text f so_far first (inr bad) =
     subst (λ g. IsLogFault log (fault_at (n + 1) g)) (sym bad.0)
-    (refl, first_wrong log server left more n line text so_far first bad.1)
+    (refl, refl, first_wrong log server left more n line text so_far first bad.1)

@@ -14,7 +14,8 @@ use Rattle.command_files.specs.declared.refusal.Why.{Why}
 use Rattle.command_files.specs.declared.status.Status.TheVariants.{Done}
 use Rattle.command_texts.specs.Blamed.{IsBlamed, IsRefusedText}
 use Rattle.command_words.specs.declared.arrival.Arrival.{Arrival}
-use Rattle.command_words.specs.Spelling.{IsSpellDone, IsSpellFault, IsSpellWhy, arrival_of, said_words, words_cause}
+use Rattle.command_words.specs.Spelling.{IsSpellDone, IsSpellFault, IsSpellWhy, arrival_of, passed_by}
+use Rattle.command_words.specs.Spelling.{said_words, words_cause}
 
 pub spelled : (given : List (List ℕ)) (a : Arrival) (answer : Answer) → arrival_of (said_words given) ≡ Ok (Some a)
     → IsBytes a.bytes → string_bytes answer.text ≡ ended_line (encode_upper a.bytes) → answer.status ≡ Done
@@ -30,16 +31,18 @@ spelled given a answer denotes octets said ended none = record {
 
 pub refused : (given : List (List ℕ)) (line : List ℕ) (c : Cause) (f : Fault) (why : Why)
     → (c ≢ cause.Memory → arrival_of (said_words given) ≡ Err c)
-    → IsRefusedText words_cause line (record { line = 1; cause = c }) f why → IsSpellFault given f
-refused given line c f why h (inl told) = subst (λ g. IsSpellFault given g) (sym told.1) (refl, h told.0)
+    → IsRefusedText words_cause line (record { line = 1; cause = c; limit = passed_by c }) f why
+    → IsSpellFault given f
+refused given line c f why h (inl told) = subst (λ g. IsSpellFault given g) (sym told.1) (refl, h told.0, refl)
 refused given line c f why h (inr memory) = subst (λ g. IsSpellFault given g) (sym memory.0) tt
 
 pub spelled_why : (given : List (List ℕ)) (line : List ℕ) (c : Cause) (f : Fault) (why : Why)
     → line ≡ join_with_byte 32 given
-    → IsRefusedText words_cause line (record { line = 1; cause = c }) f why → IsSpellWhy given f why
+    → IsRefusedText words_cause line (record { line = 1; cause = c; limit = passed_by c }) f why
+    → IsSpellWhy given f why
 spelled_why given line c f why same (inl told) =
     subst (λ g. IsSpellWhy given g why) (sym told.1)
-    (subst (λ l. IsBlamed words_cause l (record { line = 1; cause = c }) why) same told.2)
+    (subst (λ l. IsBlamed words_cause l (record { line = 1; cause = c; limit = passed_by c }) why) same told.2)
 spelled_why given line c f why same (inr memory) = subst (λ g. IsSpellWhy given g why) (sym memory.0) tt
 
 pub memory_why : (given : List (List ℕ)) (f : Fault) (why : Why) → f ≡ Memory → IsSpellWhy given f why

@@ -1,5 +1,5 @@
 -- What the clauses of private functions name. No promise rests on it.
-use Rattle.std.specs.Prelude.{ℕ, ◌≡◌, List, [], ◌∷◌, ◌++◌}
+use Rattle.std.specs.Prelude.{ℕ, ◌≡◌, List, [], ◌∷◌, ◌++◌, None}
 use Rattle.std.specs.List.{flat_map}
 use Rattle.scenario_words.specs.Words.{lines}
 use Rattle.scenario_words.specs.declared.cause.Cause.TheVariants.{Token}
@@ -22,5 +22,5 @@ pub record AreSaid (log : List ℕ) (server : ℕ) (text : List ℕ) : Type 0 wh
 
 -- the fault of a log of which this line has this fault
 abbrev pub fault_at : ℕ → Fault → Fault
-fault_at line Hex = Text (record { line = line; cause = Token })
+fault_at line Hex = Text (record { line = line; cause = Token; limit = None })
 fault_at line _ = Memory

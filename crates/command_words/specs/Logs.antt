@@ -1,6 +1,6 @@
 -- What `say -` prints of a log: of each line that is not empty, what `say` prints of its datagram.
-use Rattle.std.specs.Prelude.{⊤, ℕ, ◌≡◌, ◌+◌, ◌==◌, nat_lt, List, [], ◌∷◌, ◌++◌, map, reverse, filter, length, Result}
-use Rattle.std.specs.Prelude.{Ok, IsErr}
+use Rattle.std.specs.Prelude.{⊤, ℕ, ◌≡◌, ◌+◌, ◌==◌, nat_lt, List, [], ◌∷◌, ◌++◌, map, reverse, filter, length, None}
+use Rattle.std.specs.Prelude.{Result, Ok, IsErr}
 use Rattle.std.specs.Prelude.{if◌then◌else◌}
 use Rattle.std.specs.List.{flat_map}
 use Rattle.std.specs.String.{string_bytes}
@@ -57,6 +57,6 @@ pub record IsFirstWrong (log : List ℕ) (line : ℕ) : Type 0 where
 
 -- a line of the log is not hex; or memory ran out
 abbrev pub IsLogFault : List ℕ → Fault → Type 0
-IsLogFault log (Text fault) = (fault.cause ≡ Token) × IsFirstWrong log fault.line
+IsLogFault log (Text fault) = (fault.cause ≡ Token) × (fault.limit ≡ None) × IsFirstWrong log fault.line
 IsLogFault log Memory = ⊤
 IsLogFault log _ = ⊥

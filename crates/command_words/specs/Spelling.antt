@@ -16,6 +16,8 @@ use Rattle.scenario_mnemonics.specs.Messages.{datagram_of, fits_mnemonic}
 use Rattle.scenario_statements.specs.declared.statement.Statement.{Statement}
 use Rattle.scenario_statements.specs.declared.statement.Statement.TheVariants as says
 use Rattle.scenario_statements.specs.Grammar.{statement_of}
+use Rattle.scenario_asm.specs.declared.limit.ScenarioLimit.{ScenarioLimit}
+use Rattle.scenario_asm.specs.declared.limit.ScenarioLimit.TheVariants.{Datagram}
 use Rattle.command_files.specs.Answers.{files_of}
 use Rattle.command_files.specs.declared.answer.Answer.{Answer}
 use Rattle.command_files.specs.declared.fault.Fault.{Fault}
@@ -68,9 +70,15 @@ pub record IsSpellDone (given : List (List ℕ)) (answer : Answer) : Type 0 wher
   pub status_is : answer.status ≡ Done
   pub made_is : files_of answer.file ≡ []
 
+-- a datagram that is too long is the one limit
+abbrev pub passed_by : Cause → Option ScenarioLimit
+passed_by Limit = Some Datagram
+passed_by _ = None
+
 -- the words are refused for this cause, as in the first line of a text; or they denote no datagram; or memory ran out
 abbrev pub IsSpellFault : List (List ℕ) → Fault → Type 0
-IsSpellFault given (Text fault) = (fault.line ≡ 1) × (arrival_of (said_words given) ≡ Err fault.cause)
+IsSpellFault given (Text fault) =
+    (fault.line ≡ 1) × (arrival_of (said_words given) ≡ Err fault.cause) × (fault.limit ≡ passed_by fault.cause)
 IsSpellFault given NoDatagram = arrival_of (said_words given) ≡ Ok None
 IsSpellFault given Memory = ⊤
 IsSpellFault given _ = ⊥

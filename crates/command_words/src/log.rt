@@ -8,7 +8,7 @@ ghost use Rattle.command_words.specs.Logs.{IsLogFault, IsLogSaid, after_spaces, 
 use crate::saying::said_text;
 use command_files::{Answer, Fault, Refusal, Status, Why};
 use octets::Bytes;
-use scenario_asm::AsmFault;
+use scenario_asm::TextFault;
 use scenario_words::{Cause, next_line};
 use std::alloc::Global;
 
@@ -65,9 +65,10 @@ fn at_line(line: usize, fault: Fault) -> Fault
     ensures { result ≡ fault_at line fault }
 {
     match fault {
-        Fault::Hex => Fault::Text(AsmFault {
+        Fault::Hex => Fault::Text(TextFault {
             line,
             cause: Cause::Token,
+            limit: None,
         }),
         _ => Fault::Memory,
     }
@@ -97,7 +98,7 @@ fn log_text(alloc: Global, log: &[u8], server: u16) -> Result<String, Fault>
 fn refused_log<'a>(alloc: Global, fault: Fault) -> Refusal<'a>
     ensures { result.fault ≡ fault }
 {
-    let Fault::Text(AsmFault { line, .. }) = fault else {
+    let Fault::Text(TextFault { line, .. }) = fault else {
         return Refusal::from(fault);
     };
     let why = match format!(in alloc; "line {line}: it is not pairs of hexadecimal digits") {

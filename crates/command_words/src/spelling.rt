@@ -5,12 +5,12 @@ ghost use Rattle.std.specs.String.{string_bytes};
 ghost use Rattle.hex.specs.Hex.{IsBytes, encode_upper};
 ghost use Rattle.scenario_words.specs.Words.{ended_line};
 ghost use Rattle.command_texts.specs.Blamed.{IsRefusedText};
-ghost use Rattle.command_words.specs.Spelling.{IsSpellDone, IsSpellFault, IsSpellWhy, words_cause};
+ghost use Rattle.command_words.specs.Spelling.{IsSpellDone, IsSpellFault, IsSpellWhy, passed_by, words_cause};
 
 use crate::arrival::{arrival_of, words_cause};
 use command_files::{Answer, Fault, Refusal, Status, Why};
 use command_texts::{LineReader, refuse_by};
-use scenario_asm::AsmFault;
+use scenario_asm::{ScenarioLimit, TextFault};
 use scenario_words::Cause;
 use std::alloc::{AllocError, Global};
 
@@ -43,11 +43,32 @@ fn hex_line(alloc: Global, bytes: &[u8]) -> Result<String, AllocError>
     Ok(text)
 }
 
+/// The limit that a statement passes which is refused for this cause: its datagram is too long.
+fn passed_by(cause: Cause) -> Option<ScenarioLimit>
+    ensures { result ≡ passed_by cause }
+{
+    match cause {
+        Cause::Limit => Some(ScenarioLimit::Datagram),
+        Cause::Missing
+        | Cause::Token
+        | Cause::UnknownWord
+        | Cause::Range
+        | Cause::Duplicate
+        | Cause::Memory => None,
+    }
+}
+
 /// The refusal of a line of words for this cause, as the first line of a text is refused.
 fn refused<'a>(alloc: Global, line: &str, cause: Cause) -> Refusal<'a>
-    ensures { IsRefusedText words_cause line.now (record { line = 1; cause = cause }) result.fault result.why }
+    ensures { IsRefusedText words_cause line.now (record { line = 1; cause = cause; limit = passed_by cause })
+        result.fault result.why }
 {
-    refuse_by(alloc, None, line, AsmFault { line: 1, cause }, &Statements)
+    let fault = TextFault {
+        line: 1,
+        cause,
+        limit: passed_by(cause),
+    };
+    refuse_by(alloc, None, line, fault, &Statements)
 }
 
 #[tactic(auto, using(crate::proofs::Spelled::spelled, crate::proofs::Spelled::refused, crate::proofs::Spelled::no_memory, crate::proofs::Spelled::spelled_why, crate::proofs::Spelled::memory_why))]

@@ -1,5 +1,5 @@
--- The reason that is found is the one reason, and there is none where nothing is sent.
-use Rattle.std.proofs.Common.{◌≡◌, ℕ, ◌<◌, ◌≤◌, Bool, true, false}
+-- The reason that is found is the one reason, and there is none where nothing is done.
+use Rattle.std.proofs.Common.{◌≡◌, ℕ, ◌<◌, ◌≤◌, ◌⊎◌, inl, inr, Bool, true, false}
 use Rattle.std.proofs.Common.{[], ◌∷◌, Option, None, Some, if◌then◌else◌, refl, sym, ap, subst, ◌∙◌, arith}
 use Rattle.std.specs.Option.{MatchOption, option_map, option_to_list}
 use Rattle.std.proofs.lemmas.Bool.Decides.{nat_tests}
@@ -20,16 +20,18 @@ use Rattle.device_notifications.specs.Message.{resent_datagram}
 use Rattle.device_notifications.specs.Period.{pmin_of, pmax_of}
 use Rattle.device_notifications.specs.Report.{number_at}
 use Rattle.device_notifications.specs.Second.{age_of, evaluation_of, is_due_now, present_answer, triggers_now, turn_as}
-use Rattle.device_notifications.specs.Second.{turn_by, turn_of}
+use Rattle.device_notifications.specs.Second.{quiet_sweep, turn_by, turn_of}
 use Rattle.device_notifications.proofs.Turns.{due_waits}
 use Rattle.notification_reasons.specs.Finding.{reason_at, reason_by, reason_in, resent_reason, times_of, trigger_of}
-use Rattle.notification_reasons.specs.Reasons.{IsDueBy, IsEnd, IsNotificationReason, IsReady, IsResending, SendsNothing}
+use Rattle.notification_reasons.specs.Laws.{DoesFor}
+use Rattle.notification_reasons.specs.Reasons.{DoesNothing, IsDueBy, IsEnd, IsGivenUp, IsNotificationReason, IsReady}
+use Rattle.notification_reasons.specs.Reasons.{IsResending}
 use Rattle.notification_reasons.specs.Reasons.{gt_of, lt_of, st_of}
 use Rattle.notification_reasons.specs.declared.reasons.DueBy.{DueBy}
 use Rattle.notification_reasons.specs.declared.reasons.DueBy.TheVariants.{Gt, Lt, St, Payload, Pmax}
 use Rattle.notification_reasons.specs.declared.reasons.NotificationReason.{NotificationReason}
-use Rattle.notification_reasons.specs.declared.reasons.NotificationReason.TheVariants.{Due, Resent, Ended}
-use Rattle.notification_reasons.proofs.Timing.{sent_again, times_are}
+use Rattle.notification_reasons.specs.declared.reasons.NotificationReason.TheVariants.{Due, Resent, Ended, Unacknowledged}
+use Rattle.notification_reasons.proofs.Timing.{given_up, sent_again, times_are}
 use Rattle.notification_reasons.proofs.Triggers.{IsBy, choose, gt_is, lt_is, payload_is, st_is, trigger_found}
 
 -- ---- what is due, over plain values
@@ -80,12 +82,12 @@ by_outlook false t age pmin pmax code by P n d m g = g refl
 
 -- ---- what is found
 
--- what the turn sends, by the reason that is found
+-- what the turn does, by the reason that is found
 abbrev Tells : Client → ℕ → Observation → Turn → Option NotificationReason → Type 0
 Tells client clock o turn found =
-    MatchOption found ((next_id : ℕ) → (turn_as client clock next_id o turn).sent ≡ [])
+    MatchOption found ((next_id : ℕ) → turn_as client clock next_id o turn ≡ quiet_sweep next_id (o ∷ []))
     (λ r. IsNotificationReason client clock o r
-    × ((next_id : ℕ) → (d : Datagram) × ((turn_as client clock next_id o turn).sent ≡ d ∷ [])))
+    × ((next_id : ℕ) → DoesFor r (turn_as client clock next_id o turn)))
 
 quiet_by : (client : Client) (clock : ℕ) (o : Observation) → is_content (present_answer client o) ≡ true
     → is_due_now client clock o (present_answer client o).payload ≡ false → evaluation_of client clock o ≡ Quiet
@@ -131,21 +133,21 @@ evaluated_found client clock o is =
     (age_of clock o)
     (pmin_of client o.server o.path) (pmax_of client o.server o.path) (code_byte (present_answer client o).code)
     (trigger_of client o) (Tells client clock o Evaluate)
-    (λ c d next_id. ap (λ v. (turn_by client clock next_id o v).sent) (quiet_by client clock o c d))
+    (λ c d next_id. ap (λ v. turn_by client clock next_id o v) (quiet_by client clock o c d))
     (λ c t d waited. (
       (
         ready client clock o is c waited,
         due_by client o (age_of clock o) (pmin_of client o.server o.path) t,
       ),
-      λ next_id. sent_by client clock next_id o c d,
+      λ next_id. let p = sent_by client clock next_id o c d in inl (refl, p.0, p.1),
     ))
     (λ m c t d at waited over. (
       (ready client clock o is c waited, (t, at, over.0, over.1, over.2)),
-      λ next_id. sent_by client clock next_id o c d,
+      λ next_id. let p = sent_by client clock next_id o c d in inl (refl, p.0, p.1),
     ))
     (λ c. (
       record { evaluated = is; no_content = c; code_is = refl },
-      λ next_id. (_, ap (λ v. (turn_by client clock next_id o v).sent) (gone_by client clock o c)),
+      λ next_id. inl (refl, _, ap (λ v. (turn_by client clock next_id o v).sent) (gone_by client clock o c)),
     ))
 
 resent_found : (client : Client) (clock : ℕ) (o : Observation) → turn_at o clock ≡ Resend
@@ -164,7 +166,25 @@ resent_found client clock o is =
         second_of = there.2.at;
         after_is = there.2.after;
       },
-      λ next_id. (resent_datagram o there.0, ap (λ t. option_to_list (option_map (resent_datagram o) t)) there.1),
+      λ next_id. inl (
+        refl,
+        resent_datagram o there.0,
+        ap (λ t. option_to_list (option_map (resent_datagram o) t)) there.1,
+      ),
+    )
+
+given_up_found : (client : Client) (clock : ℕ) (o : Observation) → turn_at o clock ≡ Expire
+    → Tells client clock o Expire (reason_in client clock o Expire)
+given_up_found client clock o is =
+    let there = given_up o.second o.timer clock is in (
+      record {
+        timer = there.0;
+        open_by = there.1;
+        expires = is;
+        over = there.2.over;
+        after_is = there.2.after;
+      },
+      λ next_id. inr (refl, refl, refl),
     )
 
 found_as : (client : Client) (clock : ℕ) (o : Observation) (turn : Turn) → turn_at o clock ≡ turn
@@ -172,13 +192,13 @@ found_as : (client : Client) (clock : ℕ) (o : Observation) (turn : Turn) → t
 found_as client clock o Evaluate is = evaluated_found client clock o is
 found_as client clock o Wait is = λ next_id. refl
 found_as client clock o Resend is = resent_found client clock o is
-found_as client clock o Expire is = λ next_id. refl
+found_as client clock o Expire is = given_up_found client clock o is
 
--- what the turn of an observation sends, and why
+-- what the turn of an observation does, and why
 pub told : (client : Client) (clock : ℕ) (o : Observation)
-    → MatchOption (reason_at client clock o) (SendsNothing client clock o)
+    → MatchOption (reason_at client clock o) (DoesNothing client clock o)
     (λ r. IsNotificationReason client clock o r
-    × ((next_id : ℕ) → (d : Datagram) × ((turn_of client clock next_id o).sent ≡ d ∷ [])))
+    × ((next_id : ℕ) → DoesFor r (turn_of client clock next_id o)))
 told client clock o = found_as client clock o (turn_at o clock) refl
 
 weaker : (found : Option NotificationReason) (N : Type 0) (P Q : NotificationReason → Type 0)
@@ -188,10 +208,10 @@ weaker (Some r) N P Q f h = f r h
 
 pub reason_told : (client : Client) (clock : ℕ) (o : Observation) (found : Option NotificationReason)
     → found ≡ reason_at client clock o
-    → MatchOption found (SendsNothing client clock o) (IsNotificationReason client clock o)
+    → MatchOption found (DoesNothing client clock o) (IsNotificationReason client clock o)
 reason_told client clock o found is =
-    subst (λ r. MatchOption r (SendsNothing client clock o) (IsNotificationReason client clock o)) (sym is)
-    (weaker (reason_at client clock o) (SendsNothing client clock o) _ (IsNotificationReason client clock o)
+    subst (λ r. MatchOption r (DoesNothing client clock o) (IsNotificationReason client clock o)) (sym is)
+    (weaker (reason_at client clock o) (DoesNothing client clock o) _ (IsNotificationReason client clock o)
     (λ r h. h.0) (told client clock o))
 
 -- ---- there is no other
@@ -278,8 +298,15 @@ ended_alone client clock o code h =
     (pmin_of client o.server o.path) (pmax_of client o.server o.path) (trigger_of client o)) h.no_content
     ∙ ap (λ n. Some (Ended n)) h.code_is
 
+given_up_alone : (client : Client) (clock : ℕ) (o : Observation) (after : ℕ) → IsGivenUp clock o after
+    → reason_at client clock o ≡ Some (Unacknowledged after)
+given_up_alone client clock o after h =
+    let age : age_of clock o ≡ after = omega (arith, h.after_is) in
+    ap (reason_in client clock o) h.expires ∙ ap (λ n. Some (Unacknowledged n)) age
+
 pub alone : (client : Client) (clock : ℕ) (o : Observation) (reason : NotificationReason)
     → IsNotificationReason client clock o reason → reason_at client clock o ≡ Some reason
 alone client clock o (Due by age pmin) h = due_alone client clock o age pmin by h.0 h.1
 alone client clock o (Resent times after) h = resent_alone client clock o times after h
 alone client clock o (Ended code) h = ended_alone client clock o code h
+alone client clock o (Unacknowledged after) h = given_up_alone client clock o after h

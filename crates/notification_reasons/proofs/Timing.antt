@@ -1,8 +1,8 @@
 -- Which resending comes at a second.
 use Rattle.std.proofs.Common.{◌≡◌, ◌==◌, ℕ, ◌+◌, ◌-◌, ◌*◌, ◌<◌, ◌≤◌, Bool, true, false, ◌||◌, Option, None}
 use Rattle.std.proofs.Common.{Some, zero, suc, if◌then◌else◌, refl, sym, ap, ◌∙◌, arith}
-use Rattle.std.proofs.lemmas.Bool.{eq-eqb, eqb-true, ne_eqb, leb-false}
-use Rattle.notification_times.specs.Timeouts.{after_timeouts, is_timed_out}
+use Rattle.std.proofs.lemmas.Bool.{eq-eqb, eqb-true, ne_eqb, leb-false, leb-true}
+use Rattle.notification_times.specs.Timeouts.{after_timeouts, is_resent, is_timed_out}
 use Rattle.notifier.specs.Resending.{turn_of_resending, turn_with}
 use Rattle.notifier.specs.declared.observation.Timer.{Timer}
 use Rattle.notifier.specs.declared.turn.Turn.TheVariants.{Wait, Resend, Expire}
@@ -129,3 +129,24 @@ pub sent_again : (s : ℕ) (timer : Option Timer) (clock : ℕ) → turn_with s 
     → (t : Timer) × (timer ≡ Some t) × IsAgain s t clock
 sent_again s None clock h = absurd cc
 sent_again s (Some t) clock h = (t, refl, again s t clock h)
+
+-- ---- the end
+
+over : (e b : Bool) → (if e then Expire else (if b then Resend else Wait)) ≡ Expire → e ≡ true
+over true b h = refl
+over false true h = absurd cc
+over false false h = absurd cc
+
+-- the last timeout has passed, and so the first sending is past
+pub record IsOver (s : ℕ) (timer : Timer) (clock : ℕ) : Type 0 where
+  pub over : after_timeouts s timer.first 5 ≤ clock
+  pub after : clock ≡ s + (clock - s)
+
+-- only what is open ends so
+pub given_up : (s : ℕ) (timer : Option Timer) (clock : ℕ) → turn_with s timer clock ≡ Expire
+    → (t : Timer) × (timer ≡ Some t) × IsOver s t clock
+given_up s None clock h = absurd cc
+given_up s (Some t) clock h =
+    let passed = over (is_timed_out s t.first clock) (is_resent s t.first clock 4) h in
+    let last = leb-true (after_timeouts s t.first 5) clock passed in
+    (t, refl, record { over = last; after = omega (arith, last, last_sum s t.first) })

@@ -1,9 +1,9 @@
 -- How a reason is found, as a function of what is looked at. No promise rests on it.
-use Rattle.std.specs.Prelude.{ℕ, ℤ, ◌*◌, ◌==◌, Option, None, Some, if◌then◌else◌}
-use Rattle.std.specs.Option.{option_or, unwrap_or}
+use Rattle.std.specs.Prelude.{ℕ, ℤ, ◌*◌, ◌==◌, Option, None, Some, List, [], if◌then◌else◌}
+use Rattle.std.specs.Option.{option_map_or}
 use Rattle.notifier.specs.Due.{is_due_by}
 use Rattle.notifier.specs.Resending.{turn_at}
-use Rattle.notifier.specs.Trigger.{crosses_gt, crosses_lt, steps_st}
+use Rattle.notifier.specs.Trigger.{trigger_in}
 use Rattle.notifier.specs.declared.observation.Observation.{Observation}
 use Rattle.notifier.specs.declared.observation.Timer.{Timer}
 use Rattle.notifier.specs.declared.pending.Outlook.{Outlook}
@@ -11,6 +11,8 @@ use Rattle.notifier.specs.declared.pending.Pending.{Pending}
 use Rattle.notifier.specs.declared.pending.Pending.TheVariants.{Idle, Changed, Gone}
 use Rattle.notifier.specs.declared.turn.Turn.{Turn}
 use Rattle.notifier.specs.declared.turn.Turn.TheVariants.{Evaluate, Wait, Resend, Expire}
+use Rattle.notifier.specs.declared.trigger.Trigger.{Trigger}
+use Rattle.notifier.specs.declared.trigger.Trigger.TheVariants as trigger
 use Rattle.device_requests.specs.Client.{Client}
 use Rattle.device_notifications.specs.Outlooks.{outlook_of}
 use Rattle.device_notifications.specs.Report.{number_at}
@@ -19,34 +21,30 @@ use Rattle.notification_reasons.specs.Reasons.{gt_of, lt_of, st_of}
 use Rattle.notification_reasons.specs.declared.reasons.DueBy.{DueBy}
 use Rattle.notification_reasons.specs.declared.reasons.DueBy.TheVariants.{Gt, Lt, St, Payload, Pmax}
 use Rattle.notification_reasons.specs.declared.reasons.NotificationReason.{NotificationReason}
-use Rattle.notification_reasons.specs.declared.reasons.NotificationReason.TheVariants.{Due, Resent, Ended}
+use Rattle.notification_reasons.specs.declared.reasons.NotificationReason.TheVariants.{Due, Resent, Ended, Unacknowledged}
 
--- each of the conditions, where it is set and holds
-abbrev pub by_gt : Option ℤ → ℤ → ℤ → Option DueBy
-by_gt None old now = None
-by_gt (Some gt) old now = if crosses_gt (Some gt) old now then Some (Gt old now gt) else None
+-- a trigger, with both numbers and its bound; the payload, where no number triggers
+abbrev pub due_of : Trigger → ℤ → ℤ → Option ℤ → Option ℤ → Option ℤ → DueBy
+due_of trigger.Gt old now gt lt st = option_map_or (Gt old now) gt Payload
+due_of trigger.Lt old now gt lt st = option_map_or (Lt old now) lt Payload
+due_of trigger.St old now gt lt st = option_map_or (St old now) st Payload
+due_of trigger.Payload old now gt lt st = Payload
 
-abbrev pub by_lt : Option ℤ → ℤ → ℤ → Option DueBy
-by_lt None old now = None
-by_lt (Some lt) old now = if crosses_lt (Some lt) old now then Some (Lt old now lt) else None
+abbrev pub due_by : Option Trigger → ℤ → ℤ → Option ℤ → Option ℤ → Option ℤ → DueBy
+due_by None old now gt lt st = Payload
+due_by (Some t) old now gt lt st = due_of t old now gt lt st
 
-abbrev pub by_st : Option ℤ → ℤ → ℤ → Option DueBy
-by_st None old now = None
-by_st (Some st) old now = if steps_st (Some st) old now then Some (St old now st) else None
-
--- the first of them, else the payload
-abbrev pub by_numbers : Option ℤ → Option ℤ → Option ℤ → ℤ → ℤ → DueBy
-by_numbers gt lt st old now =
-    unwrap_or (option_or (by_gt gt old now) (option_or (by_lt lt old now) (by_st st old now))) Payload
-
-abbrev pub by_trigger : Option ℤ → Option ℤ → Option ℤ → Option ℤ → Option ℤ → DueBy
-by_trigger gt lt st (Some old) (Some now) = by_numbers gt lt st old now
-by_trigger gt lt st (Some old) None = Payload
-by_trigger gt lt st None now = Payload
+-- the payload with which the trigger is asked for is none: that of the report has triggered where no number does
+abbrev pub by_trigger : Option ℤ → Option ℤ → Option ℤ → Option ℤ → Option ℤ → List ℕ → DueBy
+by_trigger gt lt st (Some old) (Some now) payload =
+    due_by (trigger_in gt lt st (Some old) (Some now) payload []) old now gt lt st
+by_trigger gt lt st (Some old) None payload = Payload
+by_trigger gt lt st None now payload = Payload
 
 abbrev pub trigger_of : Client → Observation → DueBy
 trigger_of client o =
     by_trigger (gt_of client o) (lt_of client o) (st_of client o) o.report.number (number_at client o.path)
+    o.report.payload
 
 -- of what is due, where content that triggers does so by this
 abbrev pub reason_of : Pending → DueBy → ℕ → ℕ → Option ℕ → Option NotificationReason
@@ -68,12 +66,12 @@ abbrev pub resent_reason : Option Timer → ℕ → Option NotificationReason
 resent_reason None after = None
 resent_reason (Some timer) after = Some (Resent (times_of timer.first after) after)
 
--- why an observation that has this turn sends something, if it does
+-- why an observation that has this turn does something, if it does
 abbrev pub reason_in : Client → ℕ → Observation → Turn → Option NotificationReason
 reason_in client clock o Evaluate = reason_by (outlook_of client o) (trigger_of client o) (age_of clock o)
 reason_in client clock o Wait = None
 reason_in client clock o Resend = resent_reason o.timer (age_of clock o)
-reason_in client clock o Expire = None
+reason_in client clock o Expire = Some (Unacknowledged (age_of clock o))
 
 abbrev pub reason_at : Client → ℕ → Observation → Option NotificationReason
 reason_at client clock o = reason_in client clock o (turn_at o clock)

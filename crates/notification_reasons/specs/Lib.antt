@@ -1,5 +1,5 @@
 pub mod Finding
 pub mod Laws
 pub mod Reasons
-pub mod Sendings
+pub mod Happenings
 pub mod Text

@@ -1,5 +1,7 @@
--- Why an observation sends in a second (OMA LwM2M 1.1 Core, attributes; RFC 7252 section 4.2; RFC 7641 section 4).
-use Rattle.std.specs.Prelude.{◌≡◌, ◌≢◌, ◌⊎◌, ℕ, ℤ, ◌+◌, ◌<◌, ◌≤◌, true, false, Option, None, Some, []}
+-- Why an observation sends or ends in a second (OMA LwM2M 1.1 Core, attributes; RFC 7252 section 4.2; RFC 7641 section
+-- 4).
+use Rattle.std.specs.Prelude.{◌≡◌, ◌≢◌, ◌⊎◌, ℕ, ℤ, suc, ◌+◌, ◌<◌, ◌≤◌, Bool, true, false, Option, None, Some, []}
+use Rattle.std.specs.Prelude.{◌∷◌}
 use Rattle.notifier.specs.Attributes.{assigned_number}
 use Rattle.notification_times.specs.Timeouts.{after_timeouts, max_retransmit}
 use Rattle.notifier.specs.Resending.{turn_at}
@@ -7,20 +9,20 @@ use Rattle.notifier.specs.Trigger.{crosses_gt, crosses_lt, has_condition, steps_
 use Rattle.notifier.specs.declared.attribute.Name.TheVariants as name
 use Rattle.notifier.specs.declared.observation.Observation.{Observation}
 use Rattle.notifier.specs.declared.observation.Timer.{Timer}
-use Rattle.notifier.specs.declared.turn.Turn.TheVariants.{Evaluate, Resend}
+use Rattle.notifier.specs.declared.turn.Turn.TheVariants.{Evaluate, Resend, Expire}
 use Rattle.device_requests.specs.Answer.{code_byte, is_content}
 use Rattle.device_requests.specs.Client.{Client}
 use Rattle.device_notifications.specs.Period.{pmax_of, pmin_of}
 use Rattle.device_notifications.specs.Report.{number_at}
-use Rattle.device_notifications.specs.Second.{age_of, present_answer, triggers_now, turn_of}
+use Rattle.device_notifications.specs.Second.{age_of, present_answer, quiet_sweep, triggers_now, turn_of}
 use Rattle.notification_reasons.specs.declared.reasons.DueBy.{DueBy}
 use Rattle.notification_reasons.specs.declared.reasons.DueBy.TheVariants.{Gt, Lt, St, Payload, Pmax}
 use Rattle.notification_reasons.specs.declared.reasons.NotificationReason.{NotificationReason}
-use Rattle.notification_reasons.specs.declared.reasons.NotificationReason.TheVariants.{Due, Resent, Ended}
+use Rattle.notification_reasons.specs.declared.reasons.NotificationReason.TheVariants.{Due, Resent, Ended, Unacknowledged}
 
--- the turn of an observation in the second that the clock shows sends nothing
-abbrev pub SendsNothing : Client → ℕ → Observation → Type 0
-SendsNothing client clock o = (next_id : ℕ) → (turn_of client clock next_id o).sent ≡ []
+-- the turn of an observation in the second that the clock shows sends nothing, and the observation stays as it is
+abbrev pub DoesNothing : Client → ℕ → Observation → Type 0
+DoesNothing client clock o = (next_id : ℕ) → turn_of client clock next_id o ≡ quiet_sweep next_id (o ∷ [])
 
 -- ---- content that is due
 
@@ -71,7 +73,7 @@ pub record IsReady (client : Client) (clock : ℕ) (o : Observation) (age pmin :
   pub pmin_is : pmin_of client o.server o.path ≡ pmin
   pub waited : pmin ≤ age
 
--- ---- a notification that is sent again, and an end
+-- ---- a notification that is sent again, and ends
 
 -- this is the second of the kth of the resendings of the observation's open notification, so many seconds after its
 -- first sending
@@ -90,9 +92,26 @@ pub record IsEnd (client : Client) (clock : ℕ) (o : Observation) (code : ℕ) 
   pub no_content : is_content (present_answer client o) ≡ false
   pub code_is : code_byte (present_answer client o).code ≡ code
 
--- why the turn of an observation in the second that the clock shows sends something
+-- all timeouts of the observation's open notification have passed, so many seconds after its first sending: it ends,
+-- and nothing is sent
+pub record IsGivenUp (clock : ℕ) (o : Observation) (after : ℕ) : Type 0 where
+  pub timer : Timer
+  pub open_by : o.timer ≡ Some timer
+  pub expires : turn_at o clock ≡ Expire
+  pub over : after_timeouts o.second timer.first (suc max_retransmit) ≤ clock
+  pub after_is : clock ≡ o.second + after
+
+-- why the turn of an observation in the second that the clock shows sends something, or ends the observation
 abbrev pub IsNotificationReason : Client → ℕ → Observation → NotificationReason → Type 0
 IsNotificationReason client clock o (Due by age pmin) =
     IsReady client clock o age pmin × IsDueBy client o age pmin by
 IsNotificationReason client clock o (Resent times after) = IsResending clock o times after
 IsNotificationReason client clock o (Ended code) = IsEnd client clock o code
+IsNotificationReason client clock o (Unacknowledged after) = IsGivenUp clock o after
+
+-- whether a datagram is sent for a reason: for all but the end of an observation that nobody acknowledged
+abbrev pub sends : NotificationReason → Bool
+sends (Due by age pmin) = true
+sends (Resent times after) = true
+sends (Ended code) = true
+sends (Unacknowledged after) = false

@@ -1,4 +1,4 @@
--- A sending in words.
+-- A happening in words.
 use Rattle.std.specs.Prelude.{ℕ, List, ◌++◌, codes}
 use Rattle.std.specs.Fmt.{decimal, signed_decimal}
 use Rattle.object_defs.specs.Path.{path_text}
@@ -8,8 +8,8 @@ use Rattle.scenario_words.specs.Words.{ended_line}
 use Rattle.notification_reasons.specs.declared.reasons.DueBy.{DueBy}
 use Rattle.notification_reasons.specs.declared.reasons.DueBy.TheVariants.{Gt, Lt, St, Payload, Pmax}
 use Rattle.notification_reasons.specs.declared.reasons.NotificationReason.{NotificationReason}
-use Rattle.notification_reasons.specs.declared.reasons.NotificationReason.TheVariants.{Due, Resent, Ended}
-use Rattle.notification_reasons.specs.declared.reasons.Sending.{Sending}
+use Rattle.notification_reasons.specs.declared.reasons.NotificationReason.TheVariants.{Due, Resent, Ended, Unacknowledged}
+use Rattle.notification_reasons.specs.declared.reasons.Happening.{Happening}
 
 -- one number and then another, between which this bound lies; or so far apart
 abbrev pub crossed_words : List ℕ → List ℕ → List ℕ → List ℕ → List ℕ
@@ -32,7 +32,7 @@ due_text (St old now st) = stepped_words (signed_decimal old) (signed_decimal no
 due_text Payload = codes "another payload"
 due_text (Pmax pmax) = elapsed_words pmax
 
--- what is sent, for what path and in what second
+-- what happens, for what path and in what second
 abbrev pub head_text : List ℕ → List ℕ → ℕ → List ℕ
 head_text what path second = what ++ codes " of " ++ path ++ codes " in second " ++ decimal second
 
@@ -54,15 +54,20 @@ resent_words head times after =
 abbrev pub ended_words : List ℕ → List ℕ → List ℕ
 ended_words head code = head ++ codes ": the present answer is " ++ code
 
+abbrev pub given_up_words : List ℕ → ℕ → List ℕ
+given_up_words head after =
+    head ++ codes ": nobody acknowledged its notification, first sent " ++ decimal after ++ codes " s before"
+
 abbrev pub reason_words : List ℕ → ℕ → NotificationReason → List ℕ
 reason_words path second (Due by age pmin) = due_words (notification_text path second) (due_text by) age pmin
 reason_words path second (Resent times after) = resent_words (notification_text path second) times after
 reason_words path second (Ended code) = ended_words (end_text path second) (class_and_detail code)
+reason_words path second (Unacknowledged after) = given_up_words (end_text path second) after
 
--- the words of a sending, in one line
-abbrev pub sending_text : Sending → List ℕ
-sending_text s = reason_words (path_text s.path) s.second s.reason
+-- the words of a happening, in one line
+abbrev pub happening_text : Happening → List ℕ
+happening_text h = reason_words (path_text h.path) h.second h.reason
 
--- the line of a sending, which begins as a comment does
-abbrev pub sending_line : Sending → List ℕ
-sending_line s = ended_line (codes "    # " ++ sending_text s)
+-- the line of a happening, which begins as a comment does
+abbrev pub happening_line : Happening → List ℕ
+happening_line h = ended_line (codes "    # " ++ happening_text h)

@@ -1,4 +1,4 @@
-//! Why the turn of an observation sends something.
+//! Why the turn of an observation sends something, or ends it.
 
 ghost use Rattle.std.specs.Prelude.{◌≡◌, ◌<◌, length, slice_get, true, Some, MatchOption};
 ghost use Rattle.notifier.specs.Resending.{turn_at};
@@ -6,75 +6,40 @@ ghost use Rattle.notifier.specs.declared.observation.Observation.{Observation as
 ghost use Rattle.notifier.specs.declared.turn.Turn.TheVariants.{Evaluate, Resend};
 ghost use Rattle.device_notifications.specs.Outlooks.{IsKnown, outlook_of};
 ghost use Rattle.device_notifications.specs.Second.{age_of};
-ghost use Rattle.notification_reasons.specs.Finding.{by_gt, by_lt, by_numbers, by_st, reason_by, resent_reason};
-ghost use Rattle.notification_reasons.specs.Finding.{times_of, trigger_of};
-ghost use Rattle.notification_reasons.specs.Reasons.{IsNotificationReason, SendsNothing};
+ghost use Rattle.notification_reasons.specs.Finding.{due_by, reason_by, resent_reason, times_of};
+ghost use Rattle.notification_reasons.specs.Finding.{trigger_of};
+ghost use Rattle.notification_reasons.specs.Reasons.{IsNotificationReason, DoesNothing};
 
 use crate::reasons::{DueBy, NotificationReason};
 use device_notifications::report_of;
 use device_requests::Client;
-use notifier::{Name, Observation, Observations, Outlook, Pending, Report, Turn, triggers};
+use notifier::{
+    Name, Observation, Observations, Outlook, Pending, Report, Trigger, Turn, trigger_in,
+};
 use octets::Bytes;
 use std::alloc::Global;
 
-/// Whether gt is set and crossed.
-fn by_gt(gt: Option<i64>, report: &Report, old: i64, now: i64) -> Option<DueBy>
-    requires { report.now.number ≡ Some old }
-    ensures { result ≡ by_gt gt old now }
-{
-    let gt = gt?;
-    if triggers(Some(gt), None, None, report, Some(now), &[]) {
-        return Some(DueBy::Gt { old, now, gt });
-    }
-    None
-}
-
-/// Whether lt is set and crossed.
-fn by_lt(lt: Option<i64>, report: &Report, old: i64, now: i64) -> Option<DueBy>
-    requires { report.now.number ≡ Some old }
-    ensures { result ≡ by_lt lt old now }
-{
-    let lt = lt?;
-    if triggers(None, Some(lt), None, report, Some(now), &[]) {
-        return Some(DueBy::Lt { old, now, lt });
-    }
-    None
-}
-
-/// Whether st is set and reached.
-fn by_st(st: Option<i64>, report: &Report, old: i64, now: i64) -> Option<DueBy>
-    requires { report.now.number ≡ Some old }
-    ensures { result ≡ by_st st old now }
-{
-    let st = st?;
-    if triggers(None, None, Some(st), report, Some(now), &[]) {
-        return Some(DueBy::St { old, now, st });
-    }
-    None
-}
-
-/// The first of gt, lt and st that holds, else the payload.
-fn by_numbers(
+/// A trigger with both numbers and its bound; the payload, where no number triggers.
+fn due_by(
+    trigger: Option<Trigger>,
+    old: i64,
+    now: i64,
     gt: Option<i64>,
     lt: Option<i64>,
     st: Option<i64>,
-    report: &Report,
-    old: i64,
-    now: i64,
 ) -> DueBy
-    requires { report.now.number ≡ Some old }
-    ensures { result ≡ by_numbers gt lt st old now }
+    ensures { result ≡ due_by trigger old now gt lt st }
 {
-    if let Some(by) = by_gt(gt, report, old, now) {
-        return by;
+    match (trigger, gt, lt, st) {
+        (Some(Trigger::Gt), Some(gt), _, _) => DueBy::Gt { old, now, gt },
+        (Some(Trigger::Lt), _, Some(lt), _) => DueBy::Lt { old, now, lt },
+        (Some(Trigger::St), _, _, Some(st)) => DueBy::St { old, now, st },
+        _ => DueBy::Payload,
     }
-    if let Some(by) = by_lt(lt, report, old, now) {
-        return by;
-    }
-    by_st(st, report, old, now).unwrap_or(DueBy::Payload)
 }
 
-/// What content that triggers does so by.
+/// What content that triggers does so by. The present payload takes memory, so it is not looked at: where no number
+/// triggers, it does.
 fn trigger_of(alloc: Global, client: &Client, observation: &Observation) -> DueBy
     ensures { result ≡ trigger_of client.now observation.now }
 {
@@ -88,7 +53,8 @@ fn trigger_of(alloc: Global, client: &Client, observation: &Observation) -> DueB
             let gt = attributes.assigned(server, path, Name::Gt);
             let lt = attributes.assigned(server, path, Name::Lt);
             let st = attributes.assigned(server, path, Name::St);
-            by_numbers(gt, lt, st, report, old, now)
+            let trigger = trigger_in(gt, lt, st, report, Some(now), &[]);
+            due_by(trigger, old, now, gt, lt, st)
         }
         _ => DueBy::Payload,
     }
@@ -147,9 +113,17 @@ fn resent_reason(observation: &Observation, clock: u64) -> Option<NotificationRe
     Some(NotificationReason::Resent { times, after })
 }
 
-/// Why the observation at a place sends something in the second that the clock shows, or none where it sends nothing
-/// then. What was last said of the observations is what their present answers are, and their periods, as it is in a
-/// device; it takes no memory.
+/// Why an observation ends whose notification nobody acknowledged.
+fn given_up(observation: &Observation, clock: u64) -> NotificationReason
+    ensures { result ≡ NotificationReason.Unacknowledged (age_of clock observation.now) }
+{
+    let after = clock.saturating_sub(observation.second);
+    NotificationReason::Unacknowledged { after }
+}
+
+/// Why the observation at a place sends something or ends in the second that the clock shows, or none where it does
+/// neither then. What was last said of the observations is what their present answers are, and their periods, as it is
+/// in a device; it takes no memory.
 pub fn turn_reason(
     alloc: Global,
     client: &Client,
@@ -159,7 +133,7 @@ pub fn turn_reason(
 ) -> Option<NotificationReason>
     requires { place < length observations.now.list }
     ensures { IsKnown client.now observations.now → (o : Seen) → slice_get observations.now.list place ≡ Some o
-        → MatchOption result (SendsNothing client.now clock o) (IsNotificationReason client.now clock o) }
+        → MatchOption result (DoesNothing client.now clock o) (IsNotificationReason client.now clock o) }
 {
     let observation = observations.at(place)?;
     match observations.turn(place, clock) {
@@ -168,6 +142,7 @@ pub fn turn_reason(
             evaluated_reason(alloc, client, observation, outlook, clock)
         }
         Turn::Resend => resent_reason(observation, clock),
-        Turn::Wait | Turn::Expire => None,
+        Turn::Wait => None,
+        Turn::Expire => Some(given_up(observation, clock)),
     }
 }

@@ -1,11 +1,14 @@
 //! What follows from the definitions, for their readers. The calls do nothing; their contracts are the laws.
 
-ghost use Rattle.notification_reasons.specs.Laws.{ReasonsAreForSending, ReasonsAreSingle, TicksSendThese};
+ghost use Rattle.notification_reasons.specs.Laws.{ReasonsAreForDoing, ReasonsAreSingle, ReasonsSayWhatIsDone};
+ghost use Rattle.notification_reasons.specs.Laws.{TicksDoThese};
 
-/// In a second an observation sends something exactly if there is a reason for it: content that is due, a resending,
-/// or the end of the observation.
-pub fn reasons_are_for_sending()
-    ensures { ReasonsAreForSending }
+/// In a second something is sent for an observation, or it is changed or removed, exactly if there is a reason for it:
+/// content that is due, a resending, or an end. For the end of one that nobody acknowledged nothing is sent, and it is
+/// removed; for any other reason one datagram is sent.
+pub fn reasons_are_for_doing()
+    ensures exactly { ReasonsAreForDoing }
+    ensures done { ReasonsSayWhatIsDone }
 {}
 
 /// There is one reason at most.
@@ -13,8 +16,8 @@ pub fn reasons_are_single()
     ensures { ReasonsAreSingle }
 {}
 
-/// A tick outputs a datagram for each of its sendings, in their order, and nothing else: each is what the observation
-/// of its sending sends in that second.
-pub fn ticks_send_these()
-    ensures { TicksSendThese }
+/// A tick outputs the datagrams of its happenings, in their order, and nothing else: one for each reason for which one
+/// is sent. Each is what the observation of its happening sends in that second.
+pub fn ticks_do_these()
+    ensures { TicksDoThese }
 {}

@@ -1,4 +1,5 @@
-//! Why a device sends something by itself, as seconds pass: a trigger, a period, a resending, or an end.
+//! Why a device sends something by itself, as seconds pass, or ends an observation: a trigger, a period, a resending,
+//! an answer that is not content, or no acknowledgement.
 #![tactic(auto)]
 
 mod finding;
@@ -8,7 +9,7 @@ mod text;
 mod ticks;
 
 pub use finding::turn_reason;
-pub use laws::{reasons_are_for_sending, reasons_are_single, ticks_send_these};
-pub use reasons::{DueBy, NotificationReason, Sending};
-pub use text::{sending_line, sending_text};
-pub use ticks::tick_sendings;
+pub use laws::{reasons_are_for_doing, reasons_are_single, ticks_do_these};
+pub use reasons::{DueBy, Happening, NotificationReason};
+pub use text::{happening_line, happening_text};
+pub use ticks::tick_happenings;

@@ -1,4 +1,7 @@
-//! Why an observation sends.
+//! Why an observation sends or ends.
+
+ghost use Rattle.std.specs.Prelude.{◌≡◌};
+ghost use Rattle.notification_reasons.specs.Reasons.{sends};
 
 use object_defs::Path;
 
@@ -42,7 +45,7 @@ pub enum DueBy {
     },
 }
 
-/// Why an observation sends in a second (docs/device/observe.md).
+/// Why an observation sends something or ends in a second (docs/device/observe.md).
 #[derive(Clone, Copy)]
 pub enum NotificationReason {
     /// Its present answer is content, and due.
@@ -66,15 +69,34 @@ pub enum NotificationReason {
         /// The code of the answer.
         code: u8,
     },
+    /// All timeouts of its open notification have passed: it ends, and nothing is sent (RFC 7641 section 4.5).
+    Unacknowledged {
+        /// How many seconds after the first sending.
+        after: u64,
+    },
 }
 
-/// A datagram that a device sends for an observation.
+impl NotificationReason {
+    /// Whether a datagram is sent for the reason: not for the end of an observation that nobody acknowledged.
+    pub fn sends(self) -> bool
+        ensures { result ≡ sends self }
+    {
+        match self {
+            NotificationReason::Due { .. }
+            | NotificationReason::Resent { .. }
+            | NotificationReason::Ended { .. } => true,
+            NotificationReason::Unacknowledged { .. } => false,
+        }
+    }
+}
+
+/// What happens to an observation by itself: a datagram that a device sends for it, or its end.
 #[derive(Clone, Copy)]
-pub struct Sending {
+pub struct Happening {
     /// What is observed.
     pub path: Path,
-    /// The second in which it is sent.
+    /// The second in which it happens.
     pub second: u64,
-    /// Why it is sent.
+    /// Why it happens.
     pub reason: NotificationReason,
 }

@@ -1,12 +1,13 @@
-//! A sending in words.
+//! A happening in words.
 
 ghost use Rattle.std.specs.Prelude.{◌≡◌, IfOk};
 ghost use Rattle.std.specs.String.{string_bytes};
 ghost use Rattle.notification_reasons.specs.Text.{crossed_words, due_text, due_words, elapsed_words, ended_words};
-ghost use Rattle.notification_reasons.specs.Text.{head_text, reason_words, resent_words, sending_line, sending_text};
+ghost use Rattle.notification_reasons.specs.Text.{given_up_words};
+ghost use Rattle.notification_reasons.specs.Text.{head_text, reason_words, resent_words, happening_line, happening_text};
 ghost use Rattle.notification_reasons.specs.Text.{stepped_words};
 
-use crate::reasons::{DueBy, NotificationReason, Sending};
+use crate::reasons::{DueBy, Happening, NotificationReason};
 use device_requests::thousandths_text;
 use message_words::class_and_detail;
 use object_defs::path_text;
@@ -67,7 +68,7 @@ fn due_text(alloc: Global, by: DueBy) -> Result<String, AllocError>
     }
 }
 
-/// What is sent, for what path and in what second.
+/// What happens, for what path and in what second.
 fn head_text(alloc: Global, what: &str, path: &str, second: u64) -> Result<String, AllocError>
     ensures { IfOk result (λ text. string_bytes text ≡ head_text what.now path.now second) }
 {
@@ -101,7 +102,14 @@ fn ended_words(alloc: Global, head: &str, code: &str) -> Result<String, AllocErr
     format!(in alloc; "{head}: the present answer is {code}")
 }
 
-/// Why something is sent for a path in a second.
+/// An end of an observation that nobody acknowledged.
+fn given_up_words(alloc: Global, head: &str, after: u64) -> Result<String, AllocError>
+    ensures { IfOk result (λ text. string_bytes text ≡ given_up_words head.now after) }
+{
+    format!(in alloc; "{head}: nobody acknowledged its notification, first sent {after} s before")
+}
+
+/// Why something happens for a path in a second.
 fn reason_words(
     alloc: Global,
     path: &str,
@@ -125,22 +133,27 @@ fn reason_words(
             let code = class_and_detail(alloc, code)?;
             ended_words(alloc, head.as_str(), code.as_str())
         }
+        NotificationReason::Unacknowledged { after } => {
+            let head = head_text(alloc, "end of the observation", path, second)?;
+            given_up_words(alloc, head.as_str(), after)
+        }
     }
 }
 
-/// Why a datagram is sent for an observation, in words, in one line without its end: for which path and in which
-/// second, and the trigger, the maximum period, the resending or the code of the answer that ends the observation.
-pub fn sending_text(alloc: Global, sending: &Sending) -> Result<String, AllocError>
-    ensures { IfOk result (λ text. string_bytes text ≡ sending_text sending.now) }
+/// What happens to an observation, in words, in one line without its end: for which path and in which second, and the
+/// trigger, the maximum period, the resending, the code of the answer that ends the observation, or that nobody
+/// acknowledged its notification.
+pub fn happening_text(alloc: Global, happening: &Happening) -> Result<String, AllocError>
+    ensures { IfOk result (λ text. string_bytes text ≡ happening_text happening.now) }
 {
-    let path = path_text(alloc, sending.path)?;
-    reason_words(alloc, path.as_str(), sending.second, sending.reason)
+    let path = path_text(alloc, happening.path)?;
+    reason_words(alloc, path.as_str(), happening.second, happening.reason)
 }
 
 /// The line with these words, which begins as a comment does.
-pub fn sending_line(alloc: Global, sending: &Sending) -> Result<String, AllocError>
-    ensures { IfOk result (λ line. string_bytes line ≡ sending_line sending.now) }
+pub fn happening_line(alloc: Global, happening: &Happening) -> Result<String, AllocError>
+    ensures { IfOk result (λ line. string_bytes line ≡ happening_line happening.now) }
 {
-    let words = sending_text(alloc, sending)?;
+    let words = happening_text(alloc, happening)?;
     format!(in alloc; "    # {words}\n")
 }

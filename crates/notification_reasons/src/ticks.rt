@@ -1,4 +1,4 @@
-//! What a device sends in a tick, and why.
+//! What happens to the observations of a device in a tick, and why.
 
 ghost use Rattle.std.specs.Prelude.{◌≡◌, ◌≢◌, ◌+◌, ◌-◌, ◌<◌, ◌≤◌, ◌^◌, ◌++◌, false, Err, IfOk, IfSome, OnOk};
 ghost use Rattle.std.specs.Prelude.{MatchOption};
@@ -6,32 +6,32 @@ ghost use Rattle.device_machine.specs.declared.event.Event.TheVariants.{Tick};
 ghost use Rattle.device_machine.specs.Reactions.{flat_after_seconds, passes_end};
 ghost use Rattle.device_machine.specs.State.{Machine as FlatState, Shows};
 ghost use Rattle.device_notifications.specs.Outlooks.{IsKnown};
-ghost use Rattle.notification_reasons.specs.Sendings.{AreSendings, AreTickSendings, IsQuietFor, Tells};
+ghost use Rattle.notification_reasons.specs.Happenings.{AreHappenings, AreTickHappenings, IsQuietFor, Tells};
 
 use crate::finding::turn_reason;
-use crate::reasons::Sending;
+use crate::reasons::Happening;
 use device_machine::{Device, Event, StepFault};
 use device_requests::Client;
 use notifier::Observations;
 use std::alloc::{AllocError, Global};
 
-/// What observations send in the second that the clock shows, in their order.
-fn second_sendings(
+/// What observations do in the second that the clock shows, in their order.
+fn second_happenings(
     alloc: Global,
     client: &Client,
     observations: &Observations,
     clock: u64,
-) -> Result<Vec<Sending>, AllocError>
+) -> Result<Vec<Happening>, AllocError>
     ensures { IsKnown client.now observations.now
-        → IfOk result (λ v. AreSendings client.now clock observations.now.list v.items) }
+        → IfOk result (λ v. AreHappenings client.now clock observations.now.list v.items) }
 {
-    let mut sendings = Vec::new(alloc);
+    let mut happenings = Vec::new(alloc);
     for place in 0..observations.len() {
         let Some(observation) = observations.at(place) else {
             unreachable!()
         };
         match turn_reason(alloc, client, observations, place, clock) {
-            Some(reason) => sendings.push(Sending {
+            Some(reason) => happenings.push(Happening {
                 path: observation.path,
                 second: clock,
                 reason,
@@ -39,7 +39,7 @@ fn second_sendings(
             None => {}
         }
     }
-    Ok(sendings)
+    Ok(happenings)
 }
 
 /// How many seconds later the device sends or removes something next by itself, if that is within these seconds.
@@ -57,12 +57,12 @@ fn next_wait(device: &Device, left: u32) -> Option<u32>
     }
 }
 
-/// Lets this many seconds pass, and adds what is sent in the last of them; in those before it nothing is.
+/// Lets this many seconds pass, and adds what happens in the last of them; in those before it nothing does.
 fn pass(
     alloc: Global,
     device: &mut Device,
     wait: u32,
-    told: &mut Vec<Sending>,
+    told: &mut Vec<Happening>,
 ) -> Result<(), StepFault>
     requires { 1 ≤ wait }
     ensures told { (f : FlatState) → Shows device.old f → passes_end f.kept.clock (Tick wait) ≡ false
@@ -73,19 +73,23 @@ fn pass(
 {
     device.step(&Event::Tick(wait - 1))?;
     let clock = device.clock().saturating_add(1);
-    let mut sendings = second_sendings(alloc, device.client(), device.observations(), clock)?;
-    told.append(&mut sendings)?;
+    let mut happenings = second_happenings(alloc, device.client(), device.observations(), clock)?;
+    told.append(&mut happenings)?;
     device.step(&Event::Tick(1))?;
     Ok(())
 }
 
-/// What a device sends by itself in a tick of this many seconds, in its order: for each datagram the path of its
-/// observation, the second in which it is sent, and why. That is proved for every flat state that the device shows, if
-/// the tick does not take its clock past the last second; nothing is promised of others. The device stays as it is.
-/// It is looked at only in the seconds in which something is due.
-pub fn tick_sendings(alloc: Global, device: &Device, count: u32) -> Result<Vec<Sending>, AllocError>
+/// What happens to the observations of a device by themselves in a tick of this many seconds, in its order: for each
+/// datagram, and each end without one, the path of its observation, the second, and why. That is proved for every flat
+/// state that the device shows, if the tick does not take its clock past the last second; nothing is promised of
+/// others. The device stays as it is. It is looked at only in the seconds in which something is due.
+pub fn tick_happenings(
+    alloc: Global,
+    device: &Device,
+    count: u32,
+) -> Result<Vec<Happening>, AllocError>
     ensures { (f : FlatState) → Shows device.now f → passes_end f.kept.clock (Tick count) ≡ false
-        → IfOk result (λ v. AreTickSendings f count v.items) }
+        → IfOk result (λ v. AreTickHappenings f count v.items) }
 {
     let mut told = Vec::new(alloc);
     match next_wait(device, count) {

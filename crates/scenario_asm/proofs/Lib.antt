@@ -5,6 +5,7 @@ pub mod ClassSayable
 pub mod ClassValues
 pub mod Denoting
 pub mod Each
+pub mod Limits
 pub mod Lines
 pub mod Numbers
 pub mod Opened

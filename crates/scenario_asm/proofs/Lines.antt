@@ -2,11 +2,16 @@
 use Rattle.std.proofs.Common.{◌≡◌, ℕ, suc, ◌+◌, List, [], ◌∷◌, ◌++◌, length, Option, None, Some, MatchOption, Result}
 use Rattle.std.proofs.Common.{Ok, Err, option_map, refl, sym, ap, ◌∙◌, append_assoc, length-append, arith}
 use Rattle.std.specs.List.{slice_get}
+use Rattle.std.specs.Prelude.{nat_le}
 use Rattle.scenario_image.specs.Scenario.{Row}
+use Rattle.scenario_image.specs.declared.step.Step.{Step}
 use Rattle.scenario_words.specs.declared.cause.Cause.{Cause}
+use Rattle.scenario_words.specs.declared.cause.Cause.TheVariants as causes
 use Rattle.scenario_words.specs.Words.{lines}
 use Rattle.scenario_asm.specs.declared.fault.AsmFault.{AsmFault}
+use Rattle.scenario_asm.specs.declared.limit.ScenarioLimit.{ScenarioLimit}
 use Rattle.scenario_asm.specs.Draft.{Draft, nothing}
+use Rattle.scenario_asm.specs.Limits.{PassesAt, has_all_steps, limit_in}
 use Rattle.scenario_asm.specs.Text.{IsReached, at_line, line_after, lines_after, scenario_of_text, then_lines, whole_of}
 use Rattle.scenario_asm.specs.Text.{whole_scenario}
 
@@ -41,6 +46,11 @@ ends n d from so_far = ap whole_of (sym so_far)
 pub class_at : (rows : List Row) (i class : ℕ) (row : Row) → slice_get rows i ≡ Some row → row.class ≡ class
     → Some class ≡ option_map (λ (r : Row). r.class) (slice_get rows i)
 class_at rows i class row at is = sym (ap (option_map (λ (r : Row). r.class)) at ∙ ap (λ n. Some n) is)
+
+-- how many steps the row at a place has
+pub steps_at : (rows : List Row) (i : ℕ) (row : Row) (steps : List Step) → slice_get rows i ≡ Some row
+    → row.steps ≡ steps → has_all_steps (slice_get rows i) ≡ nat_le 4096 (length steps)
+steps_at rows i row steps at is = ap has_all_steps at ∙ ap (λ s. nat_le 4096 (length s)) is
 
 -- the lines so far were taken, and these are left
 pub record HasTaken (text : List ℕ) (left : List (List ℕ)) (n : ℕ) (d : Draft) : Type 0 where
@@ -88,9 +98,25 @@ reached_here text first left more n d so_far cut = record {
   taken = so_far.taken;
 }
 
+-- the same where it is refused for a limit
+pub passes_here : (text first : List ℕ) (left more : List (List ℕ)) (n : ℕ) (d : Draft)
+    (limit : Option ScenarioLimit) → HasTaken text left n d → left ≡ first ∷ more
+    → line_after first d ≡ Err causes.Limit → limit ≡ limit_in first d → PassesAt text (n + 1) limit
+passes_here text first left more n d limit so_far cut refused is = record {
+  before = so_far.done;
+  here = first;
+  behind = more;
+  cut = so_far.cut ∙ ap (λ ls. so_far.done ++ ls) cut;
+  count = omega (arith, so_far.count);
+  draft = d;
+  taken = so_far.taken;
+  refused = refused;
+  passed = is;
+}
+
 pub if_none : {P : Type 0} (o : Option (List ℕ)) → P → MatchOption o P (λ _. Unit {0})
 if_none None p = p
 if_none (Some x) p = tt
 
 -- what a text's lines are taken by, one after another
-pub ruleset line_by_line = (goes_on, stops, ends, taken_line, reached_here, if_none)
+pub ruleset line_by_line = (goes_on, stops, ends, taken_line, reached_here, passes_here, if_none)

@@ -4,5 +4,6 @@ pub mod ClassLines
 pub mod Denotes
 pub mod Draft
 pub mod Effect
+pub mod Limits
 pub mod Reading
 pub mod Text

@@ -3,10 +3,10 @@
 ghost use Rattle.std.specs.Prelude.{◌≡◌, ◌≢◌, ◌==◌, nat_le, true, false, length, None, Ok, Err, MatchResult, IfErr};
 ghost use Rattle.std.specs.Prelude.{OnOk};
 ghost use Rattle.scenario_words.specs.declared.cause.Cause.{Cause};
-ghost use Rattle.scenario_words.specs.declared.cause.Cause.TheVariants.{Memory, Missing};
+ghost use Rattle.scenario_words.specs.declared.cause.Cause.TheVariants.{Limit, Memory, Missing};
 ghost use Rattle.device_machine.specs.declared.event.Event.TheVariants as event;
 ghost use Rattle.std.specs.List.{list_any};
-ghost use Rattle.scenario_image.specs.Scenario.{accounts_of};
+ghost use Rattle.scenario_image.specs.Scenario.{accounts_of, last_row};
 ghost use Rattle.scenario_image.specs.declared.step.Step.TheVariants as step;
 ghost use Rattle.scenario_statements.specs.declared.statement.Statement.TheVariants as says;
 ghost use Rattle.scenario_mnemonics.specs.Messages.{datagram_of};
@@ -17,12 +17,14 @@ ghost use Rattle.scenario_asm.specs.Draft.{closed_scenario, nothing};
 ghost use Rattle.scenario_asm.specs.Effect.{class_begun, device_begun, device_step, effect, has_device, has_server};
 ghost use Rattle.scenario_asm.specs.Effect.{if_path_fits, in_class, in_object, is_refused_first, last_class};
 ghost use Rattle.scenario_asm.specs.Effect.{reopened_with, step_added, with_open_class};
+ghost use Rattle.scenario_asm.specs.Limits.{has_all_steps, limit_in, limit_of, step_limit};
 ghost use Rattle.scenario_asm.specs.Text.{line_after, whole_scenario};
 ghost use Rattle.scenario_asm.specs.declared.fault.AsmFault.{AsmFault};
 
 use crate::causes::of_scenario;
 use crate::class::{add_account, add_definition, add_instance, add_object, add_value, set_notify};
 use crate::fault::AsmFault;
+use crate::limit::{LineFault, ScenarioLimit, length_limit, line_fault, value_limit};
 use device_machine::{Event, Template};
 use lwm2m_values::Value;
 use object_defs::{InstancePath, Path, ResourceDef};
@@ -33,6 +35,9 @@ use scenario_statements::{Statement, read_statement};
 use scenario_words::Cause;
 use std::alloc::Global;
 use std::marker::Model;
+
+/// How many steps a device may have.
+const MOST_STEPS: usize = 4096;
 
 /// What the lines of a text have stated so far. A draft that refused a line is of no use any more.
 #[derive(Drop)]
@@ -326,13 +331,80 @@ impl Draft {
         }
     }
 
-    /// Takes a line, without the LF that ends it.
-    pub(crate) fn take_line(&mut self, alloc: Global, line: &[u8]) -> Result<(), Cause>
-        ensures { Makes result self.new (line_after line.now self.old) }
+    /// Whether the device that was stated last has as many steps as it may have.
+    #[tactic(auto, using(crate::proofs::Lines::steps_at))]
+    fn has_all_steps(&self) -> bool
+        ensures { result ≡ has_all_steps (last_row self.now.scenario.rows) }
     {
-        match read_statement(alloc, line)? {
-            None => Ok(()),
-            Some(statement) => self.apply(alloc, statement),
+        let rows = self.scenario.rows();
+        if rows == 0 {
+            return false;
+        }
+        match self.scenario.row((rows - 1) as u16) {
+            None => false,
+            Some((_, steps)) => steps.len() >= MOST_STEPS,
+        }
+    }
+
+    /// The limit that a step passes which is refused for one, where it has this limit of its length.
+    fn step_limit(&self, long: Option<ScenarioLimit>) -> Option<ScenarioLimit>
+        ensures { result ≡ step_limit self.now long }
+    {
+        if self.has_all_steps() {
+            return Some(ScenarioLimit::Steps);
+        }
+        long
+    }
+
+    /// The limit that a statement passes, where it is refused for one.
+    fn limit_of(&self, statement: &Statement) -> Option<ScenarioLimit>
+        ensures { result ≡ limit_of statement.now self.now }
+    {
+        match statement {
+            Statement::Scenario | Statement::Notify(_) => None,
+            Statement::Class => Some(ScenarioLimit::Classes),
+            Statement::Account(_) => Some(ScenarioLimit::Accounts),
+            Statement::Object(_) => Some(ScenarioLimit::Objects),
+            Statement::Def(_) => Some(ScenarioLimit::Resources),
+            Statement::Instance(_) => Some(ScenarioLimit::Instances),
+            Statement::Value { value, .. } => value_limit(value, self.open_class.as_ref()),
+            Statement::Device(_) => Some(ScenarioLimit::Devices),
+            Statement::Recv { .. } | Statement::Request { .. } => {
+                self.step_limit(Some(ScenarioLimit::Datagram))
+            }
+            Statement::Put { value, .. } => self.step_limit(length_limit(value)),
+            Statement::Tick(_)
+            | Statement::Firmware(_)
+            | Statement::Post(_)
+            | Statement::Need { .. } => self.step_limit(None),
+        }
+    }
+
+    /// Takes what a line says, or says which limit it passes.
+    fn take(&mut self, alloc: Global, statement: Statement) -> Result<(), LineFault>
+        ensures made { MatchResult result (λ _. effect statement self.old ≡ Ok self.new)
+            (λ f. f.cause ≢ Memory → effect statement self.old ≡ Err f.cause) }
+        ensures limit { IfErr result (λ f. f.cause ≡ Limit → f.limit ≡ limit_of statement self.old) }
+        ensures no_limit { IfErr result (λ f. f.cause ≢ Limit → f.limit ≡ None) }
+    {
+        let limit = self.limit_of(&statement);
+        match self.apply(alloc, statement) {
+            Ok(()) => Ok(()),
+            Err(cause) => Err(line_fault(cause, limit)),
+        }
+    }
+
+    /// Takes a line, without the LF that ends it.
+    pub(crate) fn take_line(&mut self, alloc: Global, line: &[u8]) -> Result<(), LineFault>
+        ensures made { MatchResult result (λ _. line_after line.now self.old ≡ Ok self.new)
+            (λ f. f.cause ≢ Memory → line_after line.now self.old ≡ Err f.cause) }
+        ensures limit { IfErr result (λ f. f.cause ≡ Limit → f.limit ≡ limit_in line.now self.old) }
+        ensures no_limit { IfErr result (λ f. f.cause ≢ Limit → f.limit ≡ None) }
+    {
+        match read_statement(alloc, line) {
+            Err(cause) => Err(line_fault(cause, None)),
+            Ok(None) => Ok(()),
+            Ok(Some(statement)) => self.take(alloc, statement),
         }
     }
 

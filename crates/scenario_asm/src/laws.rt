@@ -1,15 +1,20 @@
 //! What follows from the definitions, for their readers. The calls do nothing; their contracts are the laws.
 
-ghost use Rattle.std.specs.Prelude.{◌≡◌, ◌↔◌, [], ◌∷◌, ◌++◌, ℕ, List, map, Ok};
+ghost use Rattle.std.specs.Prelude.{◌≡◌, ◌↔◌, [], ◌∷◌, ◌++◌, ℕ, List, map, Ok, Err, IsSome};
 ghost use Rattle.std.specs.List.{AllByRecursion, flat_map};
 ghost use Rattle.device_template.specs.Template.{Template};
 ghost use Rattle.scenario_layout.specs.Class.{instances_in, objects_in, values_in};
 ghost use Rattle.scenario_image.specs.Scenario.{Scenario};
 ghost use Rattle.scenario_words.specs.Words.{lines};
+ghost use Rattle.scenario_words.specs.declared.cause.Cause.TheVariants.{Limit};
 ghost use Rattle.scenario_statements.specs.Spelling.{IsSayable, line_of};
+ghost use Rattle.scenario_statements.specs.declared.statement.Statement.{Statement};
 ghost use Rattle.scenario_statements.specs.declared.statement.Statement.TheVariants.{Account, Class, Instance};
 ghost use Rattle.scenario_asm.specs.Canonical.{of_class, of_object, of_value, statements, text_of_scenario};
 ghost use Rattle.scenario_asm.specs.Denotes.{Denotes};
+ghost use Rattle.scenario_asm.specs.Draft.{Draft};
+ghost use Rattle.scenario_asm.specs.Effect.{effect};
+ghost use Rattle.scenario_asm.specs.Limits.{limit_of};
 ghost use Rattle.scenario_asm.specs.Reading.{IsScenario, said_by};
 ghost use Rattle.scenario_asm.specs.Text.{scenario_of_text};
 
@@ -43,4 +48,9 @@ pub fn canonical_text()
 /// The law of texts: a text assembles to a scenario exactly if it denotes it; so it denotes one at most.
 pub fn texts_denote()
     ensures { (text : List ℕ) (s : Scenario) → (scenario_of_text text ≡ Ok s) ↔ Denotes text s }
+{}
+
+/// A statement that is refused for a limit passes one that has a name.
+pub fn limits_are_named()
+    ensures { (s : Statement) (d : Draft) → effect s d ≡ Err Limit → IsSome (limit_of s d) }
 {}

@@ -8,13 +8,15 @@ mod class;
 mod draft;
 mod fault;
 mod laws;
+mod limit;
 mod printing;
 
-pub use assembling::assemble;
-pub use fault::AsmFault;
+pub use assembling::{assemble, assemble_or_limit};
+pub use fault::{AsmFault, TextFault};
 pub use laws::{
-    canonical_lines, canonical_text, non_confirmable_is_not_said, statements_are_sayable,
-    texts_denote,
+    canonical_lines, canonical_text, limits_are_named, non_confirmable_is_not_said,
+    statements_are_sayable, texts_denote,
 };
+pub use limit::ScenarioLimit;
 pub use printing::disassemble;
 pub use scenario_words::spell;

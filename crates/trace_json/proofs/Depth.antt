@@ -34,7 +34,7 @@ value_depth (Opaque bytes) = omega arith
 value_depth (Moment z) = omega arith
 value_depth (Link o i) = omega arith
 
-event_depth : (o : Option Step) → depth (event_json o) ≤ 2
+pub event_depth : (o : Option Step) → depth (event_json o) ≤ 2
 unfolding event_json
 event_depth None = omega arith
 event_depth (Some (Event (Recv server bytes))) = omega arith
@@ -44,7 +44,7 @@ event_depth (Some (Event (Tick seconds))) = omega arith
 event_depth (Some (Post group)) = omega arith
 event_depth (Some (Need group count)) = omega arith
 
-output_depth : (o : Output) → depth (output_json o) ≤ 1
+pub output_depth : (o : Output) → depth (output_json o) ≤ 1
 unfolding output_json
 output_depth (Send server bytes) = omega arith
 output_depth (Act act) = omega arith

@@ -17,7 +17,7 @@ use Rattle.trace_json.proofs.ReadAgain.{read_again}
 -- ---- tokens
 
 -- members, and the end of their object
-members_end : (fs : List Field)
+pub members_end : (fs : List Field)
     → members_tokens (members_outline (fields_json fs)) ≡ fields_tokens fs ++ token.end_object ∷ []
 members_end [] = refl
 members_end (f ∷ fs) =

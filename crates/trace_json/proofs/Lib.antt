@@ -5,3 +5,4 @@ pub mod Gathered
 pub mod Back
 pub mod Again
 pub mod Faults
+pub mod Reasoned

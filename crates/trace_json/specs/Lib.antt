@@ -6,3 +6,4 @@ pub mod Lines
 pub mod Members
 pub mod Notes
 pub mod Answers
+pub mod Reasons

@@ -7,9 +7,11 @@ ghost use Rattle.json.specs.Print.{print};
 ghost use Rattle.scenario_words.specs.Words.{ended_line};
 ghost use Rattle.trace_text.specs.Seconds.{second_at};
 ghost use Rattle.trace_json.specs.Entries.{entry_json, head_json};
+ghost use Rattle.trace_json.specs.Reasons.{reasoned_json, said_of};
 ghost use Rattle.trace_json.specs.Writing.{IsReadAgain, json_line};
 
 use crate::entries::{put_entry, put_head};
+use crate::reasons::{StepReasons, put_reasoned};
 use json::Writer;
 use scenario_image::Scenario;
 use std::alloc::{AllocError, Global};
@@ -80,6 +82,31 @@ fn put_line(
     Ok(bytes)
 }
 
+/// Writes the line of an entry with the reasons of its step.
+#[tactic(auto, using(crate::proofs::Reasoned::reasoned_again))]
+fn put_reasoned_line(
+    alloc: Global,
+    out: Vec<u8>,
+    scenario: &Scenario,
+    number: usize,
+    entry: &Entry,
+    second: u32,
+    reasons: &StepReasons<'_>,
+) -> Result<Vec<u8>, AllocError>
+    requires utf8 { IsUtf8 out.items }
+    requires second { second ≡ second_at scenario.now entry.now.device entry.now.step }
+    ensures line { IfOk result (λ v. v.items
+        ≡ out.items ++ json_line (reasoned_json scenario.now number entry.now (said_of reasons.now))) }
+    ensures utf8 { IfOk result (λ v. IsUtf8 v.items) }
+    ensures read_again { OnOk result
+        (IsReadAgain (reasoned_json scenario.now number entry.now (said_of reasons.now))) }
+{
+    let mut writer = Writer::new(out);
+    put_reasoned(alloc, &mut writer, scenario, number, entry, second, reasons)?;
+    let bytes = end_line(writer)?;
+    Ok(bytes)
+}
+
 /// The line that begins a trace of this many devices and entries.
 pub fn head_line(alloc: Global, devices: usize, entries: usize) -> Result<String, AllocError>
     ensures line { IfOk result (λ t. string_bytes t ≡ json_line (head_json devices entries)) }
@@ -124,6 +151,14 @@ impl<'a> JsonLines<'a> {
         })
     }
 
+    /// The second of an entry's device before its step.
+    fn second_before(&mut self, entry: &Entry) -> u32
+        ensures second { result ≡ second_at self.old entry.now.device entry.now.step }
+        ensures same { self.new ≡ self.old }
+    {
+        self.clocks.second_at(entry.device, entry.step as usize)
+    }
+
     /// Writes the line of an entry.
     pub(crate) fn put_entry_line(
         &mut self,
@@ -138,7 +173,7 @@ impl<'a> JsonLines<'a> {
         ensures read_again { OnOk result (IsReadAgain (entry_json self.old number entry.now)) }
         ensures same { self.new ≡ self.old }
     {
-        let second = self.clocks.second_at(entry.device, entry.step as usize);
+        let second = self.second_before(entry);
         put_line(self.alloc, out, self.scenario, number, entry, second)
     }
 
@@ -150,6 +185,34 @@ impl<'a> JsonLines<'a> {
         ensures same { self.new ≡ self.old }
     {
         let bytes = self.put_entry_line(Vec::new(self.alloc), number, entry)?;
+        Ok(text_of(bytes))
+    }
+
+    /// The line of an entry with the reasons of its step: why the device answered a datagram that arrived like that,
+    /// and why it sent each datagram that it sent by itself.
+    pub fn reasoned_line(
+        &mut self,
+        number: usize,
+        entry: &Entry,
+        reasons: &StepReasons<'_>,
+    ) -> Result<String, AllocError>
+        ensures line { IfOk result (λ t.
+            string_bytes t ≡ json_line (reasoned_json self.old number entry.now (said_of reasons.now))) }
+        ensures read_again { OnOk result
+            (IsReadAgain (reasoned_json self.old number entry.now (said_of reasons.now))) }
+        ensures same { self.new ≡ self.old }
+    {
+        let second = self.second_before(entry);
+        let out = Vec::new(self.alloc);
+        let bytes = put_reasoned_line(
+            self.alloc,
+            out,
+            self.scenario,
+            number,
+            entry,
+            second,
+            reasons,
+        )?;
         Ok(text_of(bytes))
     }
 }

@@ -57,6 +57,23 @@ pub fn put_string(out: &mut Writer, key: &str, text: &str) -> Result<(), AllocEr
     out.string(text)
 }
 
+/// Writes a text, if there is one.
+pub(crate) fn put_string_if(
+    out: &mut Writer,
+    key: &str,
+    text: Option<&str>,
+) -> Result<(), AllocError>
+    ensures adds { OnOk result (out.new.tokens ≡ out.old.tokens
+        ++ fields_tokens (if_there key.now (option_map (λ x. string x.now) text.entry))) }
+    ensures before { out.new.before ≡ out.old.before }
+    ensures exact { Has64Bits (object_json (if_there key.now (option_map (λ x. string x.now) text.entry))) }
+{
+    match text {
+        None => Ok(()),
+        Some(text) => put_string(out, key, text),
+    }
+}
+
 /// Writes whether something holds.
 pub(crate) fn put_flag(out: &mut Writer, key: &str, flag: bool) -> Result<(), AllocError>
     ensures adds { OnOk result (out.new.tokens ≡ out.old.tokens ++ member_tokens key.now (boolean flag)) }

@@ -9,7 +9,7 @@ ghost use Rattle.trace_json.specs.Notes.{fault_json, if_there, verdict_json};
 ghost use Rattle.trace_json.specs.Writing.{Has64Bits, IsReadAgain, fields_tokens, json_line, tokens_of};
 
 use crate::lines::{end_line, text_of};
-use crate::members::{put_number, put_number_if, put_string};
+use crate::members::{put_number, put_number_if, put_string, put_string_if};
 use fleet_core::Verdict;
 use json::Writer;
 use std::alloc::{AllocError, Global};
@@ -81,19 +81,6 @@ pub fn verdict_line(alloc: Global, verdict: Verdict) -> Result<String, AllocErro
     put_verdict(&mut writer, verdict)?;
     let bytes = end_line(writer)?;
     Ok(text_of(bytes))
-}
-
-/// Writes a text, if there is one.
-fn put_string_if(out: &mut Writer, key: &str, text: Option<&str>) -> Result<(), AllocError>
-    ensures adds { OnOk result (out.new.tokens ≡ out.old.tokens
-        ++ fields_tokens (if_there key.now (option_map (λ x. string x.now) text.entry))) }
-    ensures before { out.new.before ≡ out.old.before }
-    ensures exact { Has64Bits (object_json (if_there key.now (option_map (λ x. string x.now) text.entry))) }
-{
-    match text {
-        None => Ok(()),
-        Some(text) => put_string(out, key, text),
-    }
 }
 
 /// Writes the object of a fault.

@@ -13,7 +13,7 @@ use std::alloc::{AllocError, Global};
 
 /// Writes the object of an act.
 #[tactic(auto, unfolding(crate::specs::Steps::output_json))]
-fn put_act(out: &mut Writer, act: Act) -> Result<(), AllocError>
+pub(crate) fn put_act(out: &mut Writer, act: Act) -> Result<(), AllocError>
     ensures adds { OnOk result (out.new.tokens ≡ out.old.tokens ++ tokens_of (output_json (outputs.Act act))) }
     ensures before { out.new.before ≡ out.old.before }
     ensures exact { Has64Bits (output_json (outputs.Act act)) }

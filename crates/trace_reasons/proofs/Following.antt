@@ -10,7 +10,7 @@ use Rattle.lemmas.proofs.Tests.{or_second}
 use Rattle.device_machine.specs.Reactions.{passes_end}
 use Rattle.device_machine.specs.declared.event.Event.TheVariants.{Tick}
 use Rattle.device_machine.specs.State.{Device, Machine, Shows}
-use Rattle.notification_reasons.specs.declared.reasons.Sending.{Sending}
+use Rattle.notification_reasons.specs.declared.reasons.Happening.{Happening}
 use Rattle.scenario_image.specs.declared.step.Step.{Step}
 use Rattle.scenario_image.specs.Play.{is_step_refused, state_at}
 use Rattle.scenario_image.specs.declared.step.Step.TheVariants.{Event}
@@ -24,7 +24,7 @@ use Rattle.fleet_core.proofs.Valid.{IsStep, step_is}
 use Rattle.trace_text.specs.Selection.{is_wanted}
 use Rattle.trace_text.proofs.Shown.{follows}
 use Rattle.trace_reasons.specs.Beside.{AreBeside}
-use Rattle.trace_reasons.specs.Text.{AreReasonLines, AreReasonsAt, AreSendingsOf}
+use Rattle.trace_reasons.specs.Text.{AreReasonLines, AreReasonsAt, AreHappeningsOf}
 
 -- ---- a tick that a device does not refuse
 
@@ -78,12 +78,12 @@ shows_here s wanted es i e devices d x next is own read =
     subst (λ k. ShowsAfter s e.device k x) (sym next.fits.count) (next.beside.each e.device x is at)
 
 -- the reasons of a step, where a device shows the state right before it
-pub reasons_at : (s : Scenario) (d k : ℕ) (step : Step) (x : Device) (lines : List ℕ) (sendings : List Sending)
+pub reasons_at : (s : Scenario) (d k : ℕ) (step : Step) (x : Device) (lines : List ℕ) (happenings : List Happening)
     → IsValid s → step_at s d k ≡ Some step → ShowsAfter s d k x
     → ((f : Machine) → Shows x f → AreReasonLines f step lines)
-    → ((f : Machine) → Shows x f → AreSendingsOf f step sendings)
-    → AreReasonsAt s d k lines sendings
-reasons_at s d k step x lines sendings valid at shows why sent =
+    → ((f : Machine) → Shows x f → AreHappeningsOf f step happenings)
+    → AreReasonsAt s d k lines happenings
+reasons_at s d k step x lines happenings valid at shows why sent =
     let is : IsStep s d k step = step_is s d k step valid at in
     record {
       class = is.class;

@@ -1,3 +1,4 @@
 pub mod Cutting
 pub mod Following
+pub mod Saying
 pub mod Selecting

@@ -7,7 +7,7 @@ ghost use Rattle.fleet_core.specs.Run.{IsRun, step_at};
 ghost use Rattle.trace_text.specs.Selection.{IsSelectable, IsSelectionFault};
 ghost use Rattle.trace_reasons.specs.Text.{IsEntryText, IsReasonedText};
 
-use crate::lines::{entry_with, reason_lines, step_sendings};
+use crate::lines::{entry_with, reason_lines, step_happenings};
 use crate::selection::{check, is_between, is_wanted};
 use device_machine::Device;
 use fleet_core::{make_step, start_devices, step_of};
@@ -17,9 +17,10 @@ use trace_file::Entry;
 use trace_text::{Selection, SelectionFault, Transcript};
 
 /// The text of those entries of a run that are of a device and have numbers from one number to another, as
-/// `trace_text` has it, with one line more below what an arriving datagram says, and one below what each datagram says
-/// that is sent in a tick: why the device, in the state right before that step, handles the one as it does, and sends
-/// the other by itself; or the first of what the scenario and the trace do not have.
+/// `trace_text` has it, with one line more below what an arriving datagram says, one below what each datagram says that
+/// is sent in a tick, and one for each observation that ends without a datagram, at its place among them: why the
+/// device, in the state right before that step, handles the first as it does, sends the others by itself, and ends
+/// these; or the first of what the scenario and the trace do not have.
 pub fn selected_reasons(
     alloc: Global,
     scenario: &Scenario,
@@ -62,8 +63,8 @@ fn pass(
     };
     let text = if is_shown {
         let lines = reason_lines(alloc, device, step)?;
-        let sendings = step_sendings(alloc, device, step)?;
-        let below = sendings.as_slice();
+        let happenings = step_happenings(alloc, device, step)?;
+        let below = happenings.as_slice();
         entry_with(alloc, transcript, number, entry, lines.as_str(), below)?
     } else {
         String::new(alloc)

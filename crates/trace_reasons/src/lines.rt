@@ -1,20 +1,19 @@
 //! The lines of an entry.
 
-ghost use Rattle.std.specs.Prelude.{◌≡◌, ◌++◌, false, slice_get, IfOk, OnOk};
-ghost use Rattle.std.specs.Option.{option_copied};
+ghost use Rattle.std.specs.Prelude.{◌≡◌, ◌+◌, ◌≤◌, ◌++◌, min, false, IfOk, OnOk};
 ghost use Rattle.std.specs.String.{string_bytes};
 ghost use Rattle.device_machine.specs.State.{Machine as FlatState, Shows};
 ghost use Rattle.scenario_image.specs.Play.{is_step_refused};
-ghost use Rattle.trace_text.specs.Lines.{output_lines};
-ghost use Rattle.trace_reasons.specs.Text.{AreReasonLines, AreSendingsOf, entry_with, outputs_with, sending_lines};
+ghost use Rattle.notification_reasons.specs.Text.{happening_line};
+ghost use Rattle.trace_reasons.specs.Text.{AreHappeningsOf, AreReasonLines, count_of, entry_with, outputs_with};
 
-use device_machine::{Device, Event, Output, Outputs, act_name};
+use device_machine::{Device, Event, Output, Outputs};
 use device_reasons::reason_line;
-use notification_reasons::{Sending, sending_line, tick_sendings};
+use notification_reasons::{Happening, happening_line, tick_happenings};
 use scenario_image::Step;
 use std::alloc::{AllocError, Global};
 use trace_file::Entry;
-use trace_text::{Transcript, sent_text};
+use trace_text::{Transcript, put_outputs};
 
 /// The lines why a device answers like that in a step: one if a datagram arrives, else none.
 pub fn reason_lines(alloc: Global, device: &Device, step: &Step) -> Result<String, AllocError>
@@ -31,87 +30,78 @@ pub fn reason_lines(alloc: Global, device: &Device, step: &Step) -> Result<Strin
     }
 }
 
-/// What a device sends by itself in a step that it does not refuse, and why: in a tick alone.
-pub(crate) fn step_sendings(
+/// What happens to the observations of a device by themselves in a step that it does not refuse, and why: in a tick
+/// alone.
+pub(crate) fn step_happenings(
     alloc: Global,
     device: &Device,
     step: &Step,
-) -> Result<Vec<Sending>, AllocError>
+) -> Result<Vec<Happening>, AllocError>
     requires { is_step_refused device.now step.now ≡ false }
     ensures { (f : FlatState) → Shows device.now f
-        → IfOk result (λ sendings. AreSendingsOf f step.now sendings.items) }
+        → IfOk result (λ happenings. AreHappeningsOf f step.now happenings.items) }
 {
     match step {
-        Step::Event(Event::Tick(seconds)) => tick_sendings(alloc, device, *seconds),
+        Step::Event(Event::Tick(seconds)) => tick_happenings(alloc, device, *seconds),
         Step::Event(Event::Recv { .. } | Event::Put { .. } | Event::Firmware(_))
         | Step::Post(_)
         | Step::Need(_, _) => Ok(Vec::new(alloc)),
     }
 }
 
-/// Writes the lines of an output.
-fn put_output(alloc: Global, out: &mut String, output: &Output) -> Result<(), AllocError>
-    ensures { OnOk result (string_bytes out.new ≡ string_bytes out.old ++ output_lines output.now) }
+/// The place after the output that is for a happening, where this place stands before it.
+fn place_after(place: usize, count: usize, happening: &Happening) -> usize
+    requires { place ≤ count }
+    ensures after { result ≡ min (place + count_of happening.now) count }
+    ensures no_less { place ≤ result }
 {
-    match output {
-        Output::Send { server, bytes } => {
-            let text = sent_text(alloc, *server, bytes.as_slice())?;
-            out.push_str(text.as_str())
-        }
-        Output::Act(act) => {
-            let name = act_name(*act);
-            write!(out, "=> act {name}\n")
-        }
+    if happening.reason.sends() && place < count {
+        place + 1
+    } else {
+        place
     }
 }
 
-/// The sending at a place.
-fn sending_at(sendings: &[Sending], place: usize) -> Option<&Sending>
-    ensures { option_copied result ≡ slice_get sendings.now place }
+/// Writes the line of a happening.
+fn put_happening(alloc: Global, out: &mut String, happening: &Happening) -> Result<(), AllocError>
+    ensures { OnOk result (string_bytes out.new ≡ string_bytes out.old ++ happening_line happening.now) }
 {
-    sendings.get(place)
+    let line = happening_line(alloc, happening)?;
+    out.push_str(line.as_str())
 }
 
-/// Writes the line of a sending, if there is one.
-fn put_sending(alloc: Global, out: &mut String, sending: Option<&Sending>) -> Result<(), AllocError>
-    ensures { OnOk result (string_bytes out.new ≡ string_bytes out.old ++ sending_lines (option_copied sending.entry)) }
-{
-    match sending {
-        Some(sending) => {
-            let line = sending_line(alloc, sending)?;
-            out.push_str(line.as_str())
-        }
-        None => Ok(()),
-    }
-}
-
-/// Writes the lines of outputs, in their order, below each that of its sending.
-fn put_outputs(
+/// Writes the lines of outputs and happenings, in their order: below the output that is for it that of a happening, or
+/// alone.
+fn put_outputs_with(
     alloc: Global,
     out: &mut String,
     outputs: &[Output],
-    sendings: &[Sending],
+    happenings: &[Happening],
 ) -> Result<(), AllocError>
-    ensures { OnOk result (string_bytes out.new ≡ string_bytes out.old ++ outputs_with outputs.now sendings.now) }
+    ensures { OnOk result (string_bytes out.new ≡ string_bytes out.old ++ outputs_with outputs.now happenings.now) }
 {
-    for (place, output) in outputs.iter().enumerate() {
-        put_output(alloc, out, output)?;
-        put_sending(alloc, out, sending_at(sendings, place))?;
+    let count = outputs.len();
+    let mut place: usize = 0;
+    for happening in happenings {
+        let after = place_after(place, count, happening);
+        put_outputs(alloc, out, &outputs[place..after])?;
+        put_happening(alloc, out, happening)?;
+        place = after;
     }
-    Ok(())
+    put_outputs(alloc, out, &outputs[place..])
 }
 
-/// The text of an entry, with these lines before its outputs, and those of these sendings below them.
+/// The text of an entry, with these lines before its outputs, and those of these happenings among them.
 pub(crate) fn entry_with(
     alloc: Global,
     transcript: &mut Transcript,
     number: usize,
     entry: &Entry,
     lines: &str,
-    sendings: &[Sending],
+    happenings: &[Happening],
 ) -> Result<String, AllocError>
     ensures text { IfOk result (λ t. string_bytes t
-        ≡ entry_with transcript.old number entry.now lines.now sendings.now) }
+        ≡ entry_with transcript.old number entry.now lines.now happenings.now) }
     ensures same { transcript.new ≡ transcript.old }
 {
     let silent = Entry {
@@ -122,6 +112,6 @@ pub(crate) fn entry_with(
     };
     let mut text = transcript.entry_text(number, &silent)?;
     text.push_str(lines)?;
-    put_outputs(alloc, &mut text, entry.outputs.as_slice(), sendings)?;
+    put_outputs_with(alloc, &mut text, entry.outputs.as_slice(), happenings)?;
     Ok(text)
 }

@@ -16,5 +16,6 @@ pub use datagrams::{arrival_text, sent_text, statement_text};
 pub use laws::{
     all_are_selected, arrivals_have_bytes, parts_join, runs_have_steps, seconds_are_shown,
 };
+pub use lines::put_outputs;
 pub use selection::{Selection, SelectionFault};
 pub use transcript::{Transcript, selected_text, trace_text};

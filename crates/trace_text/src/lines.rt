@@ -115,11 +115,7 @@ fn put_output(alloc: Global, out: &mut String, output: &Output) -> Result<(), Al
 }
 
 /// Writes the lines of outputs, in their order.
-pub(crate) fn put_outputs(
-    alloc: Global,
-    out: &mut String,
-    outputs: &[Output],
-) -> Result<(), AllocError>
+pub fn put_outputs(alloc: Global, out: &mut String, outputs: &[Output]) -> Result<(), AllocError>
     ensures { OnOk result (string_bytes out.new ≡ string_bytes out.old ++ all_output_lines outputs.now) }
 {
     for output in outputs {

@@ -16,8 +16,8 @@ pub(crate) const COMMAND: Subcommand = Subcommand {
 Reads FILE: what begins with LWSC is a scenario's image, any other file its text. Makes the serial run, in
 which the lowest device that can step always steps, as worker 0. Prints its entries as `show` does, all or
 those that `--device`, `--from` and `--to` ask for, with reasons where `--why` asks for them, and then how
-the run ended, as `run` does; with `--json` an object in JSON for each of these lines. The status is 0 also
-where it stalled:
+the run ended, as `run` does; with `--json` an object in JSON for each entry, with its reasons too, and for
+the end. The status is 0 also where it stalled:
   N worker 0 device D step K second S: STEP
   => send SERVER HEX
   => act NAME

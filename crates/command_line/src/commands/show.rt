@@ -24,8 +24,9 @@ first, below a mnemonic, its bytes:
 With `--device` only entries of this device are printed; with `--from` and `--to` only entries that have
 these numbers or numbers between them. With `--json` an object in JSON is printed for each of them, in a
 line of its own, and before them one for the whole trace. With `--why` a line stands below what a datagram
-that arrives says: the rule by which the device answers so, and what it read. Where the trace is not a run
-of the scenario, prints the least place, from 0, at which it is not (status 3):
+that arrives says: the rule by which the device answers so, and what it read; with both options the object
+has it. Where the trace is not a run of the scenario, prints the least place, from 0, at which it is not
+(status 3):
   not a run at N
 Writes no file.
 

@@ -12,11 +12,11 @@ returns-clause-told c = λ f shows ends rest.
     let list = c.observations.ensures.shown there first in
     let known = c.observations.ensures.said there first in
     let same = c.client.ensures.shown there first in (
-      c.in_ok-sendings.sendings.items,
+      c.in_ok-happenings.happenings.items,
       told_there f c.args.wait c.clock.result c.saturating_add-clock.result c.client.result.now
-          c.observations.result.now.list c.in_ok-sendings.sendings.items c.requires rest ends
+          c.observations.result.now.list c.in_ok-happenings.happenings.items c.requires rest ends
           (c.clock.ensures.shown there first) c.saturating_add-clock.ensures same list
-          (c.in_ok-sendings.ensures (known ∙ (λ i. outlooks_of (sym same i) (sym list i)))),
+          (c.in_ok-happenings.ensures (known ∙ (λ i. outlooks_of (sym same i) (sym list i)))),
       c.in_ok-append.ensures.items,
     )
 

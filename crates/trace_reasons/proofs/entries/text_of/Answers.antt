@@ -1,7 +1,7 @@
 use Rattle.std.proofs.Common.{◌≡◌, ◌+◌, ◌++◌, take, slice_set, sym, ap, subst, arith, ◌∙◌}
 use Rattle.std.specs.String.{string_bytes}
 use Rattle.trace_reasons.specs.Beside.{AreBeside}
-use Rattle.trace_reasons.specs.Text.{IsReasonedText}
+use Rattle.trace_reasons.specs.Text.{IsEntryText, IsReasonedText}
 use Rattle.trace_reasons.proofs.Following.{IsNext, beside_next, beside_other, has_row, has_step, next_at, none_made}
 use Rattle.trace_reasons.proofs.Following.{shows_here}
 use Rattle.trace_reasons.proofs.Selecting.{text_next, text_past}
@@ -66,7 +66,7 @@ loop-number-preserved c =
           record {
             scenario = transcript ∙ w.in_ok-text.ensures.same ∙ c.loop-number.invariant.scenario;
             so_far = subst (IsReasonedText s sel (take (i + 1) es)) (sym more)
-                (text_next s sel es i e text first w.is_between-is_shown.result next.at
+                (text_next (IsEntryText s) sel es i e text first w.is_between-is_shown.result next.at
                 (sym c.is_wanted.ensures ∙ w.if-is_wanted.true) w.is_between-is_shown.ensures
                 w.in_ok-text.ensures.shown w.in_ok-text.ensures.hidden c.loop-number.invariant.so_far);
             beside = subst (AreBeside s sel.device (take (i + 1) es)) (sym devices)
@@ -78,7 +78,7 @@ loop-number-preserved c =
           record {
             scenario = w.transcript-is ∙ c.loop-number.invariant.scenario;
             so_far = subst (IsReasonedText s sel (take (i + 1) es)) (sym (ap (λ t. string_bytes t) w.out-is))
-                (text_past s sel es i e text next.at other c.loop-number.invariant.so_far);
+                (text_past (IsEntryText s) sel es i e text next.at other c.loop-number.invariant.so_far);
             beside = subst (AreBeside s sel.device (take (i + 1) es)) (sym (ap (λ v. v.items) w.devices-is))
                 (beside_other s sel.device es i e c.loop-number.devices.items next other);
           }

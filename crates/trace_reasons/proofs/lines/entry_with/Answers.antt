@@ -18,9 +18,9 @@ head_is s number e head none is h =
 pub returns-clause-text : goal.returns-clause-text
 returns-clause-text c =
     put_together c.args.transcript.now c.args.number c.args.entry.now (string_bytes c.in_ok-text.text) c.args.lines.now
-    (string_bytes c.push_str.new.self) (string_bytes c.put_outputs.new.out) c.args.sendings.now
+    (string_bytes c.push_str.new.self) (string_bytes c.put_outputs_with.new.out) c.args.happenings.now
     (head_is c.args.transcript.now c.args.number c.args.entry.now (string_bytes c.in_ok-text.text) c.from_vec.result
     c.in_ok-text.ensures.text (c.from_vec.ensures ∙ c.new.ensures.items))
     c.in_ok-push_str.ensures.bytes
-    (c.in_ok-put_outputs.ensures
-    ∙ ap (λ xs. string_bytes c.push_str.new.self ++ outputs_with xs c.args.sendings.now) c.as_slice.ensures)
+    (c.in_ok-put_outputs_with.ensures
+    ∙ ap (λ xs. string_bytes c.push_str.new.self ++ outputs_with xs c.args.happenings.now) c.as_slice.ensures)

@@ -1,0 +1,248 @@
+//! The entries that are asked for as JSON Lines, with reasons.
+
+ghost use Rattle.std.specs.Prelude.{◌≡◌, ◌+◌, ◌∷◌, ◌++◌, true, false, [], map, option_map, IsSome, IfErr, IfOk};
+ghost use Rattle.std.specs.Prelude.{OnOk};
+ghost use Rattle.std.specs.String.{string_bytes};
+ghost use Rattle.device_machine.specs.State.{Machine as FlatState, Shows};
+ghost use Rattle.fleet_core.specs.Board.{ShowsAfter};
+ghost use Rattle.fleet_core.specs.Run.{IsRun, step_at};
+ghost use Rattle.trace_text.specs.Selection.{IsSelectable, IsSelectionFault};
+ghost use Rattle.trace_json.specs.Reasons.{reasoned_json, said_end};
+ghost use Rattle.trace_json.specs.Writing.{IsReadAgain, json_line};
+ghost use Rattle.trace_reasons.specs.Text.{AreSelectedSaid};
+ghost use Rattle.trace_reasons.specs.Objects.{AreReasonedLines, IsEntryLine, IsWhy, end_said, ends_said};
+ghost use Rattle.trace_reasons.specs.Objects.{said_with, sent_texts};
+
+use crate::lines::step_happenings;
+use crate::selection::{check, is_between, is_wanted};
+use device_machine::{Device, Event};
+use device_reasons::{arrival_reason, arrival_reason_text, arrival_rule};
+use fleet_core::{make_step, start_devices, step_of};
+use notification_reasons::{Happening, happening_text};
+use object_defs::path_text;
+use scenario_image::{Scenario, Step};
+use std::alloc::{AllocError, Global};
+use trace_file::Entry;
+use trace_json::{JsonLines, SilentEnd, StepReasons, head_line};
+use trace_text::{Selection, SelectionFault};
+
+/// Why a device answers a datagram that arrives like that, if one arrives.
+struct ArrivalWords {
+    /// The number of the rule that decides, if one does.
+    rule: Option<u8>,
+    /// The words of the reason.
+    why: Option<String>,
+}
+
+/// By hand, so that a caller's proof has one step where it is dropped, and no case for each of its parts.
+impl Drop for ArrivalWords {
+    fn drop(self) {
+        let ArrivalWords { rule: _, why: _why } = self;
+    }
+}
+
+/// Why a device answers like that in a step.
+fn arrival_words(alloc: Global, device: &Device, step: &Step) -> Result<ArrivalWords, AllocError>
+    ensures { (f : FlatState) → Shows device.now f
+        → IfOk result (λ words. IsWhy f step.now words.rule (option_map (λ w. string_bytes w) words.why)) }
+{
+    match step {
+        Step::Event(Event::Recv { server, bytes }) => {
+            let reason = arrival_reason(alloc, device, *server, bytes.as_slice())?;
+            let words = arrival_reason_text(alloc, &reason)?;
+            Ok(ArrivalWords {
+                rule: arrival_rule(&reason),
+                why: Some(words),
+            })
+        }
+        Step::Event(Event::Put { .. } | Event::Firmware(_) | Event::Tick(_))
+        | Step::Post(_)
+        | Step::Need(_, _) => Ok(ArrivalWords {
+            rule: None,
+            why: None,
+        }),
+    }
+}
+
+/// Adds why a datagram is sent, in words, if one is.
+#[tactic(auto, using(crate::proofs::Saying::sent_more, crate::proofs::Saying::none_sent))]
+fn put_sent(alloc: Global, words: &mut Vec<String>, happening: &Happening) -> Result<(), AllocError>
+    ensures { OnOk result (map (λ w. string_bytes w) words.new.items
+        ≡ map (λ w. string_bytes w) words.old.items ++ sent_texts (happening.now ∷ [])) }
+{
+    if happening.reason.sends() {
+        let text = happening_text(alloc, happening)?;
+        words.push(text)?;
+    }
+    Ok(())
+}
+
+/// Why each datagram is sent, in words.
+fn sent_words(alloc: Global, happenings: &[Happening]) -> Result<Vec<String>, AllocError>
+    ensures { IfOk result (λ v. map (λ w. string_bytes w) v.items ≡ sent_texts happenings.now) }
+{
+    let mut words = Vec::new(alloc);
+    for happening in happenings {
+        put_sent(alloc, &mut words, happening)?;
+    }
+    Ok(words)
+}
+
+/// What is said of an observation that ends without a datagram.
+fn silent_end(alloc: Global, happening: &Happening) -> Result<SilentEnd, AllocError>
+    ensures { IfOk result (λ e. said_end e ≡ end_said happening.now) }
+{
+    let path = path_text(alloc, happening.path)?;
+    let why = happening_text(alloc, happening)?;
+    Ok(SilentEnd {
+        path,
+        second: happening.second,
+        why,
+    })
+}
+
+/// Adds an observation, if it ends without a datagram.
+#[tactic(auto, using(crate::proofs::Saying::ended_more, crate::proofs::Saying::none_ended))]
+fn put_end(
+    alloc: Global,
+    ends: &mut Vec<SilentEnd>,
+    happening: &Happening,
+) -> Result<(), AllocError>
+    ensures { OnOk result
+        (map said_end ends.new.items ≡ map said_end ends.old.items ++ ends_said (happening.now ∷ [])) }
+{
+    if !happening.reason.sends() {
+        let end = silent_end(alloc, happening)?;
+        ends.push(end)?;
+    }
+    Ok(())
+}
+
+/// The observations that end without a datagram.
+fn silent_ends(alloc: Global, happenings: &[Happening]) -> Result<Vec<SilentEnd>, AllocError>
+    ensures { IfOk result (λ v. map said_end v.items ≡ ends_said happenings.now) }
+{
+    let mut ends = Vec::new(alloc);
+    for happening in happenings {
+        put_end(alloc, &mut ends, happening)?;
+    }
+    Ok(ends)
+}
+
+/// The words of a reason, if there is one.
+fn why_of(arrival: &ArrivalWords) -> Option<&str>
+    ensures { option_map (λ x. x.now) result ≡ option_map (λ w. string_bytes w) arrival.now.why }
+{
+    match &arrival.why {
+        Some(why) => Some(why.as_str()),
+        None => None,
+    }
+}
+
+/// The line of an entry, with these reasons of its step.
+fn line_with(
+    alloc: Global,
+    lines: &mut JsonLines<'_>,
+    number: usize,
+    entry: &Entry,
+    arrival: &ArrivalWords,
+    happenings: &[Happening],
+) -> Result<String, AllocError>
+    ensures line { IfOk result (λ t. string_bytes t
+        ≡ json_line (reasoned_json lines.old number entry.now (said_with arrival.now happenings.now))) }
+    ensures read_again { OnOk result
+        (IsReadAgain (reasoned_json lines.old number entry.now (said_with arrival.now happenings.now))) }
+    ensures same { lines.new ≡ lines.old }
+{
+    let sent = sent_words(alloc, happenings)?;
+    let ended = silent_ends(alloc, happenings)?;
+    let reasons = StepReasons {
+        rule: arrival.rule,
+        why: why_of(arrival),
+        sent: sent.as_slice(),
+        ended: ended.as_slice(),
+    };
+    lines.reasoned_line(number, entry, &reasons)
+}
+
+/// Lets the device of an entry make its step, and returns the line of the entry with the reasons of the step, or
+/// nothing where it is not asked for.
+fn pass_line(
+    alloc: Global,
+    scenario: &Scenario,
+    lines: &mut JsonLines<'_>,
+    device: &mut Device,
+    number: usize,
+    entry: &Entry,
+    is_shown: bool,
+) -> Result<String, AllocError>
+    requires scenario { lines.old ≡ scenario.now }
+    requires stands { IsSome (step_at scenario.now entry.now.device entry.now.step) }
+    requires shows { ShowsAfter scenario.now entry.now.device entry.now.step device.old }
+    ensures shown { is_shown ≡ true → IfOk result (λ t. IsEntryLine scenario.now number entry.now (string_bytes t)) }
+    ensures hidden { is_shown ≡ false → IfOk result (λ t. string_bytes t ≡ []) }
+    ensures shows { OnOk result (ShowsAfter scenario.now entry.now.device (entry.now.step + 1) device.new) }
+    ensures same { lines.new ≡ lines.old }
+{
+    // For the proof alone: a scenario whose rows are counted is known to be valid.
+    let _known = scenario.rows();
+    let Some(step) = step_of(scenario, entry.device, entry.step) else {
+        unreachable!()
+    };
+    let text = if is_shown {
+        let arrival = arrival_words(alloc, device, step)?;
+        let happenings = step_happenings(alloc, device, step)?;
+        line_with(alloc, lines, number, entry, &arrival, happenings.as_slice())?
+    } else {
+        String::new(alloc)
+    };
+    let _outputs = make_step(alloc, scenario, device, entry.device, entry.step, step)?;
+    Ok(text)
+}
+
+/// The lines of the selected entries, which may be none. Beside the entries their devices make their steps.
+fn lines_of(
+    alloc: Global,
+    scenario: &Scenario,
+    entries: &[Entry],
+    selection: Selection,
+) -> Result<String, AllocError>
+    requires { IsRun scenario.now entries.now }
+    ensures { IfOk result (λ t.
+        AreSelectedSaid (IsEntryLine scenario.now) selection entries.now (string_bytes t)) }
+{
+    let mut lines = JsonLines::new(alloc, scenario)?;
+    let mut devices = start_devices(alloc, scenario)?;
+    let mut out = String::new(alloc);
+    for (number, entry) in entries.iter().enumerate() {
+        if is_wanted(selection, entry.device) {
+            let is_shown = is_between(selection, number);
+            let device = &mut devices[usize::from(entry.device)];
+            let line = pass_line(alloc, scenario, &mut lines, device, number, entry, is_shown)?;
+            out.push_str(line.as_str())?;
+        }
+    }
+    Ok(out)
+}
+
+/// The line that begins a trace, and the lines of those entries of a run that are of a device and have numbers from one
+/// number to another, as `selected_lines` of `trace_json` has them, with the reasons that `selected_reasons` has as
+/// text: why the device handles a datagram that arrives as it does, and why it sends each that it sends by itself; or
+/// the first of what the scenario and the trace do not have.
+pub fn reasoned_lines(
+    alloc: Global,
+    scenario: &Scenario,
+    entries: &[Entry],
+    selection: Selection,
+) -> Result<String, SelectionFault>
+    requires { IsRun scenario.now entries.now }
+    ensures selectable { OnOk result (IsSelectable scenario.now selection entries.now) }
+    ensures lines { IfOk result (λ t. AreReasonedLines scenario.now selection entries.now (string_bytes t)) }
+    ensures refused { IfErr result (IsSelectionFault scenario.now selection entries.now) }
+{
+    check(scenario, entries, selection)?;
+    let mut text = head_line(alloc, scenario.rows(), entries.len())?;
+    let lines = lines_of(alloc, scenario, entries, selection)?;
+    text.push_str(lines.as_str())?;
+    Ok(text)
+}
