@@ -30,8 +30,7 @@ SURFACE = {
     "trace_text": "trace_text",
     "trace_json": "selected_lines JsonLines head_line verdict_line fault_line",
     "trace_pcap": "trace_pcap",
-    "bench_commands": "command",
-    "lwbench": "main",
+    "lwbench": "command",
 }
 
 # In a .rt file: the head of an impl or a trait, a function, an import, a clause, and what contracts see.
