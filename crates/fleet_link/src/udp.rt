@@ -231,6 +231,49 @@ fn ask_socket(socket: &UdpSocket, buffer: &mut [u8]) -> Given {
     }
 }
 
+/// A socket for each device of a scenario, at this address, and the port of each: the first at this port, the next at the
+/// one after it, and so on; at port 0 the system chooses a port for each.
+fn open_doors<R: Net>(
+    rt: &R,
+    alloc: Global,
+    poll: &Poll,
+    scenario: &Scenario,
+    ip: IpAddr,
+    port: u16,
+    servers: &[FixedServer],
+) -> Result<(Vec<Door>, Vec<u16>), BindFault>
+    requires within { 0 < port → port + length scenario.now.rows ≤ 65536 }
+    ensures doors { IfOk result (λ r. length r.0.items ≡ length scenario.now.rows) }
+    ensures ports { IfOk result (λ r. length r.1.items ≡ length scenario.now.rows) }
+    ensures from { 0 < port → IfOk result (λ r. AreFrom port r.1.items) }
+    ensures refused { IfErr result (λ fault. fault ≢ BindFault.PastLast) }
+{
+    let devices = scenario.rows();
+    let mut doors = Vec::with_capacity(alloc, devices)?;
+    let mut numbers = Vec::with_capacity(alloc, devices)?;
+    for place in 0..devices {
+        let wanted = wanted_port(port, place as u16);
+        let address = SocketAddr::new(ip, wanted);
+        let accounts = accounts_of(scenario, place as u16);
+        let door = open_door(rt, alloc, poll, address, place, accounts, servers)?;
+        numbers.push(bound_port(&door.socket, wanted)?)?;
+        doors.push(door)?;
+    }
+    Ok((doors, numbers))
+}
+
+/// Room for the names of ports, for a queue of so many devices, and for a datagram.
+fn make_room(
+    alloc: Global,
+    devices: usize,
+) -> Result<(Events, VecDeque<usize>, Vec<u8>), AllocError> {
+    Ok((
+        Events::with_capacity(alloc, MOST_EVENTS)?,
+        VecDeque::with_capacity(alloc, devices)?,
+        Vec::from_elem(alloc, 0u8, MOST_BYTES + 1)?,
+    ))
+}
+
 impl UdpPorts {
     /// A socket for each device of a scenario, at this address: the first at this port, the next at the one after it,
     /// and so on; at port 0 the system chooses a port for each. No address of an account is known but those of servers
@@ -261,33 +304,25 @@ impl UdpPorts {
             Ok(poll) => poll,
             Err(_) => return Err(BindFault::Failed),
         };
-        let mut doors = Vec::with_capacity(alloc, devices)?;
-        let mut numbers = Vec::with_capacity(alloc, devices)?;
-        for place in 0..devices {
-            let wanted = wanted_port(port, place as u16);
-            let address = SocketAddr::new(ip, wanted);
-            let accounts = accounts_of(scenario, place as u16);
-            let door = open_door(
-                rt,
-                alloc,
-                &poll,
-                address,
-                place,
-                accounts,
-                servers.as_slice(),
-            )?;
-            numbers.push(bound_port(&door.socket, wanted)?)?;
-            doors.push(door)?;
-        }
+        let (events, queue, buffer) = make_room(alloc, devices)?;
+        let (doors, numbers) = open_doors(
+            rt,
+            alloc,
+            &poll,
+            scenario,
+            ip,
+            port,
+            servers.as_slice(),
+        )?;
         Ok(UdpPorts {
             alloc,
             poll,
-            events: Events::with_capacity(alloc, MOST_EVENTS)?,
+            events,
             doors,
             numbers,
             servers,
-            queue: VecDeque::with_capacity(alloc, devices)?,
-            buffer: Vec::from_elem(alloc, 0u8, MOST_BYTES + 1)?,
+            queue,
+            buffer,
             tally: Tally::new(),
         })
     }

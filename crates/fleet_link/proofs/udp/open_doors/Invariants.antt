@@ -1,7 +1,7 @@
 -- There is a socket for each row so far, at the port that was asked for if one was.
 use Rattle.std.proofs.Common.{◌≡◌, ◌<◌, length}
 use Rattle.fleet_link.specs.Udp.{AreFrom}
-use Rattle.fleet_link.proofs.udp.UdpPorts.bind.Given as goal
+use Rattle.fleet_link.proofs.udp.open_doors.Given as goal
 
 abbrev pub invariant-loop-place : goal.invariant-loop-place
 invariant-loop-place g l = record {

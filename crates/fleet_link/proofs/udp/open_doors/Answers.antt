@@ -3,7 +3,7 @@ use Rattle.std.proofs.Common.{sym, ap, ◌∙◌, arith}
 use Rattle.std.proofs.lemmas.Bool.{cases_lt}
 use Rattle.lemmas.proofs.Lists.{item_pushed, length_pushed}
 use Rattle.fleet_link.specs.Udp.{AreFrom}
-use Rattle.fleet_link.proofs.udp.UdpPorts.bind.Goals as goal
+use Rattle.fleet_link.proofs.udp.open_doors.Goals as goal
 
 still : (ports : List ℕ) (more d port : ℕ) → slice_get ports d ≡ Some port
     → slice_get (ports ++ more ∷ []) d ≡ Some port
@@ -40,7 +40,7 @@ loop-place-preserved g c =
         length_pushed at.numbers.items c.in_ok-bound_port.field-0,
       );
       from = λ some.
-          let within = c.is_past_last.ensures.within c.if-is_past_last.false some in
+          let within = c.requires.within some in
           let few : c.args.port + at.place < 65536 = omega (arith, within, c.loop-place-test.true) in
           let wanted : c.wanted_port-wanted.result ≡ c.args.port + at.place =
           c.wanted_port-wanted.ensures some few in
