@@ -31,8 +31,7 @@ use Rattle.notification_reasons.specs.Reasons.{gt_of, lt_of, st_of}
 use Rattle.notification_reasons.specs.declared.reasons.DueBy.{DueBy}
 use Rattle.notification_reasons.specs.declared.reasons.DueBy.TheVariants.{Gt, Lt, St, Payload, Pmax}
 use Rattle.notification_reasons.specs.declared.reasons.NotificationReason.{NotificationReason}
-use Rattle.notification_reasons.specs.declared.reasons.NotificationReason.TheVariants.{Due, Resent, Ended}
-use Rattle.notification_reasons.specs.declared.reasons.NotificationReason.TheVariants.{Unacknowledged}
+use Rattle.notification_reasons.specs.declared.reasons.NotificationReason.TheVariants.{Due, Resent, Ended, Unacknowledged}
 use Rattle.notification_reasons.proofs.Timing.{given_up, sent_again, times_are}
 use Rattle.notification_reasons.proofs.Triggers.{IsBy, choose, gt_is, lt_is, payload_is, st_is, trigger_found}
 

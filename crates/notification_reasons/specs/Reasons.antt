@@ -19,8 +19,7 @@ use Rattle.device_notifications.specs.Second.{age_of, present_answer, quiet_swee
 use Rattle.notification_reasons.specs.declared.reasons.DueBy.{DueBy}
 use Rattle.notification_reasons.specs.declared.reasons.DueBy.TheVariants.{Gt, Lt, St, Payload, Pmax}
 use Rattle.notification_reasons.specs.declared.reasons.NotificationReason.{NotificationReason}
-use Rattle.notification_reasons.specs.declared.reasons.NotificationReason.TheVariants.{Due, Resent, Ended}
-use Rattle.notification_reasons.specs.declared.reasons.NotificationReason.TheVariants.{Unacknowledged}
+use Rattle.notification_reasons.specs.declared.reasons.NotificationReason.TheVariants.{Due, Resent, Ended, Unacknowledged}
 
 -- the turn of an observation in the second that the clock shows sends nothing, and the observation stays as it is
 abbrev pub DoesNothing : Client → ℕ → Observation → Type 0
