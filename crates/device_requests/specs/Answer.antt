@@ -8,7 +8,10 @@ use Rattle.device_requests.specs.declared.answer.Code.TheVariants.{Created, Dele
 use Rattle.device_requests.specs.declared.answer.Code.TheVariants.{Unauthorized, BadOption, NotFound, MethodNotAllowed}
 use Rattle.device_requests.specs.declared.answer.Code.TheVariants.{NotAcceptable, UnsupportedContentFormat}
 use Rattle.device_requests.specs.declared.answer.Code.TheVariants.{InternalServerError}
+use Rattle.device_requests.specs.declared.ruling.Ruling.{Ruling}
+use Rattle.device_requests.specs.declared.ruling.Ruling.TheVariants as rule
 use Rattle.device_requests.specs.Client.{Client}
+use Rattle.device_requests.specs.Ruling.{code_of}
 
 -- the code's class in the three high bits, its detail in the five low ones (RFC 7252 section 12.1.2)
 abbrev pub code_byte : Code → ℕ
@@ -45,45 +48,27 @@ abbrev pub is_content_code : Code → Bool
 is_content_code Content = true
 is_content_code _ = false
 
--- the code is 4.02
-abbrev pub is_bad_option : Code → Bool
-is_bad_option BadOption = true
-is_bad_option _ = false
-
 -- an answer is the content of the target
 abbrev pub is_content : Answer → Bool
-is_content answer = is_content_code answer.code
+is_content answer = is_content_code (code_of answer.ruling)
 
 -- a code alone, with neither option nor payload: so is every refusal
-abbrev pub bare : Code → Answer
-bare code = record { code = code; location = None; format = None; payload = []; act = None }
+abbrev pub bare : Ruling → Answer
+bare ruling = record { ruling = ruling; location = None; format = None; payload = []; act = None }
 
 -- Content with its format, and a payload that may be empty
 abbrev pub content : ℕ → List ℕ → Answer
-content format payload = record { code = Content; location = None; format = Some format; payload = payload; act = None }
+content format payload =
+    record { ruling = rule.Content; location = None; format = Some format; payload = payload; act = None }
 
 -- Changed, after which the device may act
 abbrev pub done_answer : Option Act → Answer
-done_answer act = record { code = Changed; location = None; format = None; payload = []; act = act }
+done_answer act = record { ruling = rule.Changed; location = None; format = None; payload = []; act = act }
 
 -- Created, with the place of the new instance
 abbrev pub created_answer : InstancePath → Answer
-created_answer place = record { code = Created; location = Some place; format = None; payload = []; act = None }
-
--- an answer of this code may take memory; what refuses a server, an option, a path or a format takes none
-abbrev pub takes_memory : Code → Bool
-takes_memory Created = true
-takes_memory Deleted = true
-takes_memory Changed = true
-takes_memory Content = true
-takes_memory BadRequest = true
-takes_memory Unauthorized = false
-takes_memory BadOption = false
-takes_memory NotFound = false
-takes_memory MethodNotAllowed = true
-takes_memory NotAcceptable = false
-takes_memory UnsupportedContentFormat = false
-takes_memory InternalServerError = true
+created_answer place =
+    record { ruling = rule.Created; location = Some place; format = None; payload = []; act = None }
 
 -- the answer to a request, and what is managed then
 pub record Outcome : Type 0 where
@@ -100,6 +85,6 @@ pub record Leaves (answer : Answer) (new : Client) (outcome : Outcome) : Type 0 
   pub then_client : new ≡ outcome.client
 
 -- a refusal where there is one, else this
-abbrev pub refused_or : Option Code → Answer → Answer
-refused_or (Some code) answer = bare code
+abbrev pub refused_or : Option Ruling → Answer → Answer
+refused_or (Some ruling) answer = bare ruling
 refused_or None answer = answer

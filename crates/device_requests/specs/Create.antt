@@ -9,11 +9,11 @@ use Rattle.lwm2m_payloads.specs.Given.{creation_given}
 use Rattle.lwm2m_payloads.specs.Results.{result_map}
 use Rattle.lwm2m_payloads.specs.declared.fault.PayloadFault.{PayloadFault}
 use Rattle.lwm2m_payloads.specs.declared.given.Creation.{Creation}
-use Rattle.device_requests.specs.declared.answer.Code.{Code}
-use Rattle.device_requests.specs.declared.answer.Code.TheVariants.{BadRequest}
 use Rattle.device_requests.specs.declared.create.CreationFault.{CreationFault}
 use Rattle.device_requests.specs.declared.create.CreationFault.TheVariants.{Payload, Taken, NoNumber}
 use Rattle.device_requests.specs.declared.create.Newborn.{Newborn}
+use Rattle.device_requests.specs.declared.ruling.Ruling.{Ruling}
+use Rattle.device_requests.specs.declared.ruling.Ruling.TheVariants as rule
 use Rattle.device_requests.specs.Answer.{Outcome, answer_alone, bare, created_answer}
 use Rattle.device_requests.specs.Client.{Client, with_stored}
 use Rattle.device_requests.specs.Targets.{place_of, resources_defined}
@@ -53,9 +53,9 @@ abbrev pub lacks_room : Client → ℕ → Option Newborn → Bool
 lacks_room client o new = is_some (creation_lack client o new)
 
 -- a refusal changes nothing; else there is the new instance, which the server owns
-abbrev pub create_unless : Option Code → Client → ℕ → ℕ → Option Newborn → Outcome
-create_unless (Some code) client server o new = answer_alone client (bare code)
-create_unless None client server o None = answer_alone client (bare BadRequest)
+abbrev pub create_unless : Option Ruling → Client → ℕ → ℕ → Option Newborn → Outcome
+create_unless (Some ruling) client server o new = answer_alone client (bare ruling)
+create_unless None client server o None = answer_alone client (bare rule.Payload)
 create_unless None client server o (Some b) =
     record {
       answer = created_answer (place_of o b.number);

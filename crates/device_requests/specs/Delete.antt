@@ -6,8 +6,8 @@ use Rattle.object_defs.specs.declared.path.Path.TheVariants.{Object, Instance, R
 use Rattle.instance_store.specs.Stored.{Stored, has_instance, instances_of}
 use Rattle.notifier.specs.Attributes.{Numbers, without_under}
 use Rattle.device_instances.specs.Deletions.{without_deleted}
-use Rattle.device_requests.specs.declared.answer.Code.{Code}
-use Rattle.device_requests.specs.declared.answer.Code.TheVariants.{Deleted}
+use Rattle.device_requests.specs.declared.ruling.Ruling.{Ruling}
+use Rattle.device_requests.specs.declared.ruling.Ruling.TheVariants.{Deleted}
 use Rattle.device_requests.specs.Answer.{Outcome, answer_alone, bare}
 use Rattle.device_requests.specs.Client.{Client, with_attributes, with_stored}
 use Rattle.device_requests.specs.Targets.{place_of}
@@ -36,8 +36,8 @@ attributes_after_delete client path =
     without_controls (without_under client.attributes path) (taken_away client.store (after_delete client.store path))
 
 -- a refusal changes nothing
-abbrev pub delete_unless : Option Code → Client → Path → Outcome
-delete_unless (Some code) client path = answer_alone client (bare code)
+abbrev pub delete_unless : Option Ruling → Client → Path → Outcome
+delete_unless (Some ruling) client path = answer_alone client (bare ruling)
 delete_unless None client path =
     record {
       answer = bare Deleted;

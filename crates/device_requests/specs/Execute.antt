@@ -16,7 +16,7 @@ use Rattle.lwm2m_payloads.specs.Arguments.{AreArguments}
 use Rattle.lwm2m_payloads.specs.Scanning.{are_arguments}
 use Rattle.device_requests.specs.declared.answer.Act.{Act}
 use Rattle.device_requests.specs.declared.answer.Act.TheVariants.{Reboot, FactoryReset, RegUpdate, Disable}
-use Rattle.device_requests.specs.declared.answer.Code.{Code}
+use Rattle.device_requests.specs.declared.ruling.Ruling.{Ruling}
 use Rattle.device_requests.specs.Answer.{Outcome, answer_alone, bare, done_answer}
 use Rattle.device_requests.specs.Client.{Client, with_stored}
 use Rattle.device_requests.specs.Targets.{is_resource, resource_place}
@@ -51,7 +51,7 @@ after_execute stored path =
     else stored
 
 -- a refusal changes nothing; else it is done, and the device acts
-abbrev pub execute_unless : Option Code → Client → Path → Outcome
-execute_unless (Some code) client path = answer_alone client (bare code)
+abbrev pub execute_unless : Option Ruling → Client → Path → Outcome
+execute_unless (Some ruling) client path = answer_alone client (bare ruling)
 execute_unless None client path =
     record { answer = done_answer (act_of path); client = with_stored client (after_execute client.store path) }

@@ -4,7 +4,7 @@ use Rattle.object_defs.specs.declared.path.Path.{Path}
 use Rattle.object_defs.specs.declared.path.Path.TheVariants.{Object, Instance}
 use Rattle.instance_store.specs.Stored.{Stored, instances_of}
 use Rattle.lwm2m_payloads.specs.Nodes.{shown_in}
-use Rattle.device_requests.specs.declared.answer.Code.TheVariants.{Unauthorized, NotFound}
+use Rattle.device_requests.specs.declared.ruling.Ruling.TheVariants.{Right, Security, Target}
 use Rattle.device_requests.specs.Access.{may_read, reads}
 use Rattle.device_requests.specs.Answer.{bare}
 use Rattle.device_requests.specs.Client.{Client, with_stored}
@@ -15,8 +15,8 @@ use Rattle.device_requests.specs.Targets.{resources_defined}
 abbrev pub UnreadableIsRefused : Type 0
 UnreadableIsRefused =
     (client : Client) (server : ℕ) (path : Path) (accept : Option ℕ) → may_read client server path ≡ false
-    → (read_answer client server path accept ≡ bare Unauthorized)
-    ⊎ (read_answer client server path accept ≡ bare NotFound)
+    → (read_answer client server path accept ≡ bare Security)
+    ⊎ ((read_answer client server path accept ≡ bare Target) ⊎ (read_answer client server path accept ≡ bare Right))
 
 -- a store with the same instances of an object, the same R on each, and the same values in those on which the server
 -- has R

@@ -10,8 +10,8 @@ use Rattle.object_defs.specs.declared.path.Path.{Path}
 use Rattle.object_defs.specs.declared.path.Path.TheVariants.{Object, Instance, Resource, Part}
 use Rattle.instance_store.specs.Stored.{Stored, has_instance}
 use Rattle.lwm2m_payloads.specs.declared.given.Mode.{Mode}
-use Rattle.device_requests.specs.declared.answer.Code.{Code}
-use Rattle.device_requests.specs.declared.answer.Code.TheVariants.{BadRequest, MethodNotAllowed, InternalServerError}
+use Rattle.device_requests.specs.declared.ruling.Ruling.{Ruling}
+use Rattle.device_requests.specs.declared.ruling.Ruling.TheVariants.{Limit, Payload, State}
 use Rattle.device_requests.specs.declared.write.NewValues.{NewValues}
 use Rattle.device_requests.specs.Answer.{Outcome}
 use Rattle.device_requests.specs.Client.{Client}
@@ -53,18 +53,18 @@ has_place stored (Resource o i r) = has_instance stored (place_of o i)
 has_place stored (Part o i r n) = has_instance stored (place_of o i)
 
 -- the last rules of a Write, once the format of its payload is served
-abbrev pub value_rules : Client → Mode → Path → Option NewValues → List (Bool × Code)
+abbrev pub value_rules : Client → Mode → Path → Option NewValues → List (Bool × Ruling)
 value_rules client mode path values =
-    (not (is_some values), BadRequest)
-    ∷ (is_refused_now client.store (event_of path values), MethodNotAllowed)
+    (not (is_some values), Payload)
+    ∷ (is_refused_now client.store (event_of path values), State)
     ∷ (
       unless_taken (event_of path values) (exceeds (mode_at mode path) client.catalog client.store path values),
-      InternalServerError,
+      Limit,
     )
     ∷ []
 
 -- what is given is written, where none of these rules refuses it
-abbrev pub give : List (Bool × Code) → Client → Mode → Path → Option NewValues → Outcome
+abbrev pub give : List (Bool × Ruling) → Client → Mode → Path → Option NewValues → Outcome
 give rules client mode path values =
     write_unless (first_line rules) client (after_write_with_event (mode_at mode path) client path values
     (event_of path values))

@@ -18,9 +18,10 @@ use Rattle.lwm2m_payloads.specs.Given.{resource_given}
 use Rattle.lwm2m_payloads.specs.Nodes.{value_payload}
 use Rattle.device_requests.specs.declared.answer.Answer.{Answer}
 use Rattle.device_requests.specs.declared.answer.Code.{Code}
-use Rattle.device_requests.specs.declared.answer.Code.TheVariants.{Changed, BadOption, NotFound, MethodNotAllowed}
-use Rattle.device_requests.specs.declared.answer.Code.TheVariants.{InternalServerError}
+use Rattle.device_requests.specs.declared.answer.Code.TheVariants.{Changed}
 use Rattle.device_requests.specs.declared.operation.Operation.{Operation}
+use Rattle.device_requests.specs.declared.ruling.Ruling.{Ruling}
+use Rattle.device_requests.specs.declared.ruling.Ruling.TheVariants.{Limit, Method, NoPath, Options}
 use Rattle.device_requests.specs.Access.{may_read}
 use Rattle.device_requests.specs.Answer.{bare, code_byte, content, is_change}
 use Rattle.device_requests.specs.Discover.{linked_paths}
@@ -30,25 +31,26 @@ use Rattle.device_requests.specs.Options.{accept_of, has_query, has_unrecognized
 use Rattle.device_requests.specs.Outcomes.{read_answer, write_outcome}
 use Rattle.device_requests.specs.Refusals.{is_oversized, rules_of}
 use Rattle.device_requests.specs.Request.{outcome_of, purpose_of}
+use Rattle.device_requests.specs.Ruling.{code_of}
 use Rattle.device_requests.specs.Client.{Client, with_stored}
 use Rattle.object_defs.specs.declared.definition.ObjectDef.{ObjectDef}
 use Rattle.device_requests.specs.Targets.{exists}
 
 -- the rules from the operation on
-abbrev pub lines_by : Client → ℕ → Message → Path → Option Operation → List (Bool × Code)
-lines_by client server m path None = (true, MethodNotAllowed) ∷ []
+abbrev pub lines_by : Client → ℕ → Message → Path → Option Operation → List (Bool × Ruling)
+lines_by client server m path None = (true, Method) ∷ []
 lines_by client server m path (Some operation) = rules_of client server path (purpose_of m operation)
 
 -- the rules from the path on
-abbrev pub lines_on : Client → ℕ → Message → Option Path → List (Bool × Code)
-lines_on client server m None = (true, NotFound) ∷ []
+abbrev pub lines_on : Client → ℕ → Message → Option Path → List (Bool × Ruling)
+lines_on client server m None = (true, NoPath) ∷ []
 lines_on client server m (Some path) =
     lines_by client server m path (operation_of m.code (accept_of m.options) (has_query m.options) path)
 
 -- all the rules of requests, in their order, of which the last is their success
-abbrev pub request_lines : Client → ℕ → Message → List (Bool × Code)
+abbrev pub request_lines : Client → ℕ → Message → List (Bool × Ruling)
 request_lines client server m =
-    (has_unrecognized_critical m.options, BadOption) ∷ lines_on client server m (path_of (segments_of m.options))
+    (has_unrecognized_critical m.options, Options) ∷ lines_on client server m (path_of (segments_of m.options))
 
 -- a response code of class 4 or 5 (RFC 7252 section 5.9)
 abbrev pub is_refusal : Code → Bool
@@ -63,22 +65,24 @@ pub record KeepsFrame (old new : Client) : Type 0 where
 abbrev pub RequestsKeepFrame : Type 0
 RequestsKeepFrame = (client : Client) (server : ℕ) (m : Message) → KeepsFrame client (outcome_of client server m).client
 
--- the answer's code is that of the first rule that holds
+-- the answer is that of the first rule that holds
 abbrev pub FirstLineAnswers : Type 0
 FirstLineAnswers =
     (client : Client) (server : ℕ) (m : Message)
-    → first_line (request_lines client server m) ≡ Some (outcome_of client server m).answer.code
+    → first_line (request_lines client server m) ≡ Some (outcome_of client server m).answer.ruling
 
 -- a refusal changes nothing
 abbrev pub RefusalKeeps : Type 0
 RefusalKeeps =
-    (client : Client) (server : ℕ) (m : Message) → is_refusal (outcome_of client server m).answer.code ≡ true
+    (client : Client) (server : ℕ) (m : Message)
+    → is_refusal (code_of (outcome_of client server m).answer.ruling) ≡ true
     → (outcome_of client server m).client ≡ client
 
 -- so does each other request whose answer does not say that it changed something
 abbrev pub ChangesAreSaid : Type 0
 ChangesAreSaid =
-    (client : Client) (server : ℕ) (m : Message) → is_change (outcome_of client server m).answer.code ≡ false
+    (client : Client) (server : ℕ) (m : Message)
+    → is_change (code_of (outcome_of client server m).answer.ruling) ≡ false
     → (outcome_of client server m).client ≡ client
 
 -- a code alone, with neither option nor payload, after which the device does not act
@@ -91,13 +95,14 @@ pub record IsCodeAlone (answer : Answer) : Type 0 where
 -- the answer of a refusal
 abbrev pub RefusalIsCodeAlone : Type 0
 RefusalIsCodeAlone =
-    (client : Client) (server : ℕ) (m : Message) → is_refusal (outcome_of client server m).answer.code ≡ true
+    (client : Client) (server : ℕ) (m : Message)
+    → is_refusal (code_of (outcome_of client server m).answer.ruling) ≡ true
     → IsCodeAlone (outcome_of client server m).answer
 
 -- a payload in a format; 5.00 where it has more than 1,024 bytes
 abbrev pub content_within : Format → List ℕ → Answer
 content_within format payload =
-    if is_oversized payload then bare InternalServerError else content (format_number format) payload
+    if is_oversized payload then bare Limit else content (format_number format) payload
 
 -- the payload gives this value, and a Read of the resource then answers it in each format that is served, to each
 -- server that may read it
@@ -118,7 +123,7 @@ abbrev pub WrittenIsRead : Type 0
 WrittenIsRead =
     (client : Client) (server o i r : ℕ) (d : ResourceDef) (number : Option ℕ) (payload : List ℕ)
     → definition_of client.catalog o r ≡ Some d → d.multiple ≡ false → can_read d.ops ≡ true → o ≢ 5
-    → (write_outcome client server Replace (Resource o i r) number payload).answer.code ≡ Changed
+    → code_of (write_outcome client server Replace (Resource o i r) number payload).answer.ruling ≡ Changed
     → IsReadBack client o i r d number payload
     (write_outcome client server Replace (Resource o i r) number payload).client.store
 

@@ -18,6 +18,7 @@ pub mod Outcomes
 pub mod Read
 pub mod Refusals
 pub mod Request
+pub mod Ruling
 pub mod Targets
 pub mod Write
 pub mod WriteAttributes

@@ -2,7 +2,6 @@
 use Rattle.std.specs.Prelude.{ℕ, ◌==◌, Bool, true, false, Option, None, Some, Result, Ok, Err, if◌then◌else◌}
 use Rattle.coap_codec.specs.Message.{Message}
 use Rattle.object_defs.specs.declared.path.Path.{Path}
-use Rattle.device_requests.specs.declared.answer.Code.{Code}
 use Rattle.device_requests.specs.declared.observe.Interest.{Interest}
 use Rattle.device_requests.specs.declared.observe.Interest.TheVariants.{Register, Cancel}
 use Rattle.device_requests.specs.declared.operation.Operation.{Operation}
@@ -10,6 +9,7 @@ use Rattle.device_requests.specs.declared.operation.Operation.TheVariants.{Read,
 use Rattle.device_requests.specs.declared.operation.Operation.TheVariants.{WriteReplace, WritePartial, Create, Execute}
 use Rattle.device_requests.specs.declared.operation.Operation.TheVariants.{Delete}
 use Rattle.device_requests.specs.declared.request.Request.{Request}
+use Rattle.device_requests.specs.declared.ruling.Ruling.{Ruling}
 use Rattle.device_requests.specs.Request.{request_of}
 
 abbrev pub is_read : Operation → Bool
@@ -33,8 +33,8 @@ abbrev pub interest_at : Request → Option Interest
 interest_at r = if is_read r.operation then interest_in r.observe r.path r.accept else None
 
 -- a message that is refused as it is read asks nothing
-abbrev pub interest_for : Result Request Code → Option Interest
-interest_for (Err code) = None
+abbrev pub interest_for : Result Request Ruling → Option Interest
+interest_for (Err ruling) = None
 interest_for (Ok r) = interest_at r
 
 -- what a request asks of the observation of its server and token

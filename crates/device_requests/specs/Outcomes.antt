@@ -1,5 +1,5 @@
--- What each operation answers and changes: the code of the first rule of the table that refuses it (`Refusals`), and
--- nothing changes; else it is done.
+-- What each operation answers and changes: the first rule of the table that refuses it (`Refusals`) answers its code,
+-- and nothing changes; else it is done.
 use Rattle.std.specs.Prelude.{ℕ, List, Option}
 use Rattle.object_defs.specs.Path.{object_in}
 use Rattle.object_defs.specs.declared.path.Path.{Path}

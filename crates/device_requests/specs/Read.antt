@@ -14,7 +14,7 @@ use Rattle.lwm2m_payloads.specs.declared.format.Format.{Format}
 use Rattle.lwm2m_payloads.specs.Formats.{format_number, extent_of, format_for}
 use Rattle.lwm2m_payloads.specs.Nodes.{shown_in, nodes_of, object_nodes, value_payload}
 use Rattle.device_requests.specs.declared.answer.Answer.{Answer}
-use Rattle.device_requests.specs.declared.answer.Code.TheVariants.{NotAcceptable}
+use Rattle.device_requests.specs.declared.ruling.Ruling.TheVariants.{Accept}
 use Rattle.device_requests.specs.Access.{shown_instances}
 use Rattle.device_requests.specs.Answer.{bare, content}
 use Rattle.device_requests.specs.Client.{Client}
@@ -56,5 +56,5 @@ read_payload client server path accept =
 
 -- a payload with its format
 abbrev pub content_in : Option Format → List ℕ → Answer
-content_in None payload = bare NotAcceptable
+content_in None payload = bare Accept
 content_in (Some format) payload = content (format_number format) payload

@@ -23,11 +23,11 @@ use Rattle.lwm2m_payloads.specs.Formats.{format_number}
 use Rattle.lwm2m_payloads.specs.Scanning.{are_arguments}
 use Rattle.lwm2m_payloads.specs.declared.format.Format.TheVariants.{PlainText, Tlv}
 use Rattle.lwm2m_payloads.specs.declared.given.Mode.{Mode}
-use Rattle.device_requests.specs.declared.answer.Code.{Code}
-use Rattle.device_requests.specs.declared.answer.Code.TheVariants.{Created, Deleted, Changed, Content, BadRequest}
-use Rattle.device_requests.specs.declared.answer.Code.TheVariants.{Unauthorized, NotFound, MethodNotAllowed}
-use Rattle.device_requests.specs.declared.answer.Code.TheVariants.{NotAcceptable, UnsupportedContentFormat}
-use Rattle.device_requests.specs.declared.answer.Code.TheVariants.{InternalServerError}
+use Rattle.device_requests.specs.declared.ruling.Ruling.{Ruling}
+use Rattle.device_requests.specs.declared.ruling.Ruling.TheVariants.{Security, Target, Right, Operation, Accept}
+use Rattle.device_requests.specs.declared.ruling.Ruling.TheVariants.{ContentFormat}
+use Rattle.device_requests.specs.declared.ruling.Ruling.TheVariants.{Payload, State, Limit, Created, Deleted, Changed}
+use Rattle.device_requests.specs.declared.ruling.Ruling.TheVariants.{Content}
 use Rattle.device_requests.specs.Access.{may_read, rights_on}
 use Rattle.device_requests.specs.Client.{Client}
 use Rattle.device_requests.specs.Create.{lacks_room, newborn}
@@ -152,9 +152,9 @@ lacks_format catalog path (to_execute format payload) = not (is_plain format)
 lacks_format catalog path purpose = false
 
 -- Accept names what is read, Content-Format what is given
-abbrev pub format_refusal : Purpose → Code
-format_refusal (to_read accept) = NotAcceptable
-format_refusal purpose = UnsupportedContentFormat
+abbrev pub format_ruling : Purpose → Ruling
+format_ruling (to_read accept) = Accept
+format_ruling purpose = ContentFormat
 
 -- ---- 11: what is given
 
@@ -210,31 +210,31 @@ is_too_much client server path purpose = false
 -- ---- the rules in their order
 
 -- the rules that refuse an operation at a path. The first, 6, is that of the Security object
-abbrev pub refusals_of : Client → ℕ → Path → Purpose → List (Bool × Code)
+abbrev pub refusals_of : Client → ℕ → Path → Purpose → List (Bool × Ruling)
 refusals_of client server path purpose =
-    (object_in path == security_object, Unauthorized)
-    ∷ (lacks_target client path purpose, NotFound)
-    ∷ (lacks_right client server path purpose, Unauthorized)
-    ∷ (lacks_operation client.catalog path purpose, MethodNotAllowed)
-    ∷ (lacks_format client.catalog path purpose, format_refusal purpose)
-    ∷ (is_invalid client server path purpose, BadRequest)
-    ∷ (is_out_of_turn client path purpose, MethodNotAllowed)
-    ∷ (is_too_much client server path purpose, InternalServerError)
+    (object_in path == security_object, Security)
+    ∷ (lacks_target client path purpose, Target)
+    ∷ (lacks_right client server path purpose, Right)
+    ∷ (lacks_operation client.catalog path purpose, Operation)
+    ∷ (lacks_format client.catalog path purpose, format_ruling purpose)
+    ∷ (is_invalid client server path purpose, Payload)
+    ∷ (is_out_of_turn client path purpose, State)
+    ∷ (is_too_much client server path purpose, Limit)
     ∷ []
 
--- the code of the first rule that refuses it, where one does
-abbrev pub refusal_of : Client → ℕ → Path → Purpose → Option Code
+-- the first rule that refuses it, where one does
+abbrev pub refusal_of : Client → ℕ → Path → Purpose → Option Ruling
 refusal_of client server path purpose = first_line (refusals_of client server path purpose)
 
--- the code of an operation that is done
-abbrev pub done_code : Purpose → Code
-done_code (to_read accept) = Content
-done_code to_discover = Content
-done_code (to_create format payload) = Created
-done_code to_delete = Deleted
-done_code purpose = Changed
+-- the success of an operation
+abbrev pub done_ruling : Purpose → Ruling
+done_ruling (to_read accept) = Content
+done_ruling to_discover = Content
+done_ruling (to_create format payload) = Created
+done_ruling to_delete = Deleted
+done_ruling purpose = Changed
 
 -- the rules with one more at the end, by which what is not refused is done
-abbrev pub rules_of : Client → ℕ → Path → Purpose → List (Bool × Code)
+abbrev pub rules_of : Client → ℕ → Path → Purpose → List (Bool × Ruling)
 rules_of client server path purpose =
-    refusals_of client server path purpose ++ (true, done_code purpose) ∷ []
+    refusals_of client server path purpose ++ (true, done_ruling purpose) ∷ []

@@ -3,13 +3,13 @@ use Rattle.std.specs.Prelude.{◌≡◌, ◌↔◌, ℕ, false, Option, None, So
 use Rattle.coap_codec.specs.Message.{Message}
 use Rattle.object_defs.specs.declared.path.Path.{Path}
 use Rattle.lwm2m_payloads.specs.declared.given.Mode.TheVariants.{Replace, Update}
-use Rattle.device_requests.specs.declared.answer.Code.{Code}
-use Rattle.device_requests.specs.declared.answer.Code.TheVariants.{BadOption, NotFound, MethodNotAllowed}
 use Rattle.device_requests.specs.declared.operation.Operation.{Operation}
 use Rattle.device_requests.specs.declared.operation.Operation.TheVariants.{Read, Discover, WriteAttributes}
 use Rattle.device_requests.specs.declared.operation.Operation.TheVariants.{WriteReplace, WritePartial, Create, Execute}
 use Rattle.device_requests.specs.declared.operation.Operation.TheVariants.{Delete}
 use Rattle.device_requests.specs.declared.request.Request.{Request}
+use Rattle.device_requests.specs.declared.ruling.Ruling.{Ruling}
+use Rattle.device_requests.specs.declared.ruling.Ruling.TheVariants.{Options, NoPath, Method}
 use Rattle.device_requests.specs.Answer.{Outcome, answer_alone, bare}
 use Rattle.device_requests.specs.Operation.{operation_of}
 use Rattle.device_requests.specs.Options.{accept_of, content_format_of, has_query, has_unrecognized_critical}
@@ -33,21 +33,21 @@ request_with m path operation =
     }
 
 -- a method that is not an operation at the path is Method Not Allowed
-abbrev pub request_by : Message → Path → Option Operation → Result Request Code
-request_by m path None = Err MethodNotAllowed
+abbrev pub request_by : Message → Path → Option Operation → Result Request Ruling
+request_by m path None = Err Method
 request_by m path (Some operation) = Ok (request_with m path operation)
 
 -- a Uri-Path that is not a path is Not Found
-abbrev pub request_on : Message → Option Path → Result Request Code
-request_on m None = Err NotFound
+abbrev pub request_on : Message → Option Path → Result Request Ruling
+request_on m None = Err NoPath
 request_on m (Some path) =
     request_by m path (operation_of m.code (accept_of m.options) (has_query m.options) path)
 
--- what a request asks for, or the code that refuses it; an option that must be understood and isn't is refused first
+-- what a request asks for, or the rule that refuses it; an option that must be understood and isn't is refused first
 -- (RFC 7252 section 5.4.1)
-abbrev pub request_of : Message → Result Request Code
+abbrev pub request_of : Message → Result Request Ruling
 request_of m =
-    if has_unrecognized_critical m.options then Err BadOption else request_on m (path_of (segments_of m.options))
+    if has_unrecognized_critical m.options then Err Options else request_on m (path_of (segments_of m.options))
 
 -- the options of a message are understood, and this request is what they say, with the method
 pub record AsksFor (m : Message) (r : Request) : Type 0 where
@@ -88,8 +88,8 @@ abbrev pub outcome_at : Client → ℕ → Message → Request → Outcome
 outcome_at client server m r = outcome_by client server m r r.operation
 
 -- a message that is refused as it is read changes nothing
-abbrev pub outcome_for : Client → ℕ → Message → Result Request Code → Outcome
-outcome_for client server m (Err code) = answer_alone client (bare code)
+abbrev pub outcome_for : Client → ℕ → Message → Result Request Ruling → Outcome
+outcome_for client server m (Err ruling) = answer_alone client (bare ruling)
 outcome_for client server m (Ok r) = outcome_at client server m r
 
 -- what a request answers and changes

@@ -27,8 +27,8 @@ use Rattle.lwm2m_payloads.specs.Given.{instance_given, resource_given, part_give
 use Rattle.lwm2m_payloads.specs.Results.{result_map}
 use Rattle.device_requests.specs.declared.write.NewValues.{NewValues}
 use Rattle.device_requests.specs.declared.write.NewValues.TheVariants.{Several, One}
-use Rattle.device_requests.specs.declared.answer.Code.{Code}
-use Rattle.device_requests.specs.declared.answer.Code.TheVariants.{Changed}
+use Rattle.device_requests.specs.declared.ruling.Ruling.{Ruling}
+use Rattle.device_requests.specs.declared.ruling.Ruling.TheVariants.{Changed}
 use Rattle.device_requests.specs.Answer.{Outcome, answer_alone, bare}
 use Rattle.device_requests.specs.Read.{format_at}
 use Rattle.device_requests.specs.Client.{Client, with_stored}
@@ -136,8 +136,8 @@ event_of path (Some values) =
     else None
 
 -- a refusal changes nothing; else what is given is written
-abbrev pub write_unless : Option Code → Client → Stored → Outcome
-write_unless (Some code) client stored = answer_alone client (bare code)
+abbrev pub write_unless : Option Ruling → Client → Stored → Outcome
+write_unless (Some ruling) client stored = answer_alone client (bare ruling)
 write_unless None client stored = record { answer = bare Changed; client = with_stored client stored }
 
 -- the store after a Write that is not refused: a Package is not kept, it is for the firmware, and so is a Package

@@ -14,8 +14,8 @@ use Rattle.object_defs.specs.declared.definition.ObjectDef.{ObjectDef}
 use Rattle.object_defs.specs.declared.definition.ResourceDef.{ResourceDef}
 use Rattle.object_defs.specs.declared.path.Path.{Path}
 use Rattle.object_defs.specs.declared.path.Path.TheVariants.{Object, Instance, Resource, Part}
-use Rattle.device_requests.specs.declared.answer.Code.{Code}
-use Rattle.device_requests.specs.declared.answer.Code.TheVariants.{Changed, BadRequest}
+use Rattle.device_requests.specs.declared.ruling.Ruling.{Ruling}
+use Rattle.device_requests.specs.declared.ruling.Ruling.TheVariants.{Changed, Payload}
 use Rattle.device_requests.specs.Answer.{Outcome, answer_alone, bare}
 use Rattle.device_requests.specs.Client.{Client, with_attributes}
 
@@ -60,7 +60,7 @@ attributes_given client server path queries =
     option_and_then (new_numbers client.attributes server path) (changes_given client.catalog path queries)
 
 -- a refusal changes nothing; else the attributes are these
-abbrev pub annotate_unless : Option Code → Client → Option Numbers → Outcome
-annotate_unless (Some code) client given = answer_alone client (bare code)
-annotate_unless None client None = answer_alone client (bare BadRequest)
+abbrev pub annotate_unless : Option Ruling → Client → Option Numbers → Outcome
+annotate_unless (Some ruling) client given = answer_alone client (bare ruling)
+annotate_unless None client None = answer_alone client (bare Payload)
 annotate_unless None client (Some m) = record { answer = bare Changed; client = with_attributes client m }

@@ -1,7 +1,9 @@
 ghost use Rattle.std.specs.Prelude.{◌≡◌, [], None, Some};
 ghost use Rattle.device_requests.specs.Answer.{bare, code_byte, content, created_answer, done_answer, is_change};
-ghost use Rattle.device_requests.specs.Answer.{is_bad_option, is_content};
+ghost use Rattle.device_requests.specs.Answer.{is_content};
+ghost use Rattle.device_requests.specs.Ruling.{code_of};
 
+use crate::ruling::Ruling;
 use object_defs::InstancePath;
 use octets::Bytes;
 use std::alloc::Global;
@@ -73,13 +75,6 @@ impl Code {
             | Code::InternalServerError => false,
         }
     }
-
-    /// Whether it is 4.02.
-    pub(crate) fn is_bad_option(self) -> bool
-        ensures { result ≡ is_bad_option self }
-    {
-        matches!(self, Code::BadOption)
-    }
 }
 
 /// What a device does beside sending.
@@ -97,11 +92,12 @@ pub enum Act {
     Missed,
 }
 
-/// The answer to a request: its code, Location-Path, Content-Format and payload, and what the device does then.
+/// The answer to a request: the rule that decided it, Location-Path, Content-Format and payload, and what the device
+/// does then.
 #[derive(Clone, Drop)]
 pub struct Answer {
-    /// The code.
-    pub code: Code,
+    /// The rule that decided it, with its code.
+    pub ruling: Ruling,
     /// The instance that was created, or none.
     pub location: Option<InstancePath>,
     /// The number of the payload's format, or none where there is no payload.
@@ -113,19 +109,26 @@ pub struct Answer {
 }
 
 impl Answer {
+    /// The code.
+    pub fn code(&self) -> Code
+        ensures { result ≡ code_of self.now.ruling }
+    {
+        self.ruling.code()
+    }
+
     /// Whether the answer is the content of its target: its code is 2.05.
     pub fn is_content(&self) -> bool
         ensures { result ≡ is_content self.now }
     {
-        matches!(self.code, Code::Content)
+        matches!(self.ruling, Ruling::Content)
     }
 
     /// A code alone, with neither option nor payload.
-    pub(crate) fn bare(alloc: Global, code: Code) -> Answer
-        ensures { result ≡ bare code }
+    pub(crate) fn bare(alloc: Global, ruling: Ruling) -> Answer
+        ensures { result ≡ bare ruling }
     {
         Answer {
-            code,
+            ruling,
             location: None,
             format: None,
             payload: Bytes::new(alloc),
@@ -138,7 +141,7 @@ impl Answer {
         ensures { result ≡ content format payload }
     {
         Answer {
-            code: Code::Content,
+            ruling: Ruling::Content,
             location: None,
             format: Some(format),
             payload,
@@ -151,7 +154,7 @@ impl Answer {
         ensures { result ≡ done_answer act }
     {
         Answer {
-            code: Code::Changed,
+            ruling: Ruling::Changed,
             location: None,
             format: None,
             payload: Bytes::new(alloc),
@@ -164,7 +167,7 @@ impl Answer {
         ensures { result ≡ created_answer place }
     {
         Answer {
-            code: Code::Created,
+            ruling: Ruling::Created,
             location: Some(place),
             format: None,
             payload: Bytes::new(alloc),

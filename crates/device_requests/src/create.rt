@@ -3,12 +3,13 @@
 ghost use Rattle.std.specs.Prelude.{◌≡◌, ◌≢◌, ◌∷◌, [], true, false, length, not, ok_or, IfOk, OnErr, OnOk, Some};
 ghost use Rattle.std.specs.Option.{is_some};
 ghost use Rattle.std.specs.Result.{result_err};
-ghost use Rattle.device_requests.specs.Answer.{Leaves, takes_memory};
+ghost use Rattle.device_requests.specs.Answer.{Leaves};
 ghost use Rattle.device_requests.specs.Create.{create_unless, creation_lack, lacks_room, newborn, newborn_from};
 ghost use Rattle.device_requests.specs.Create.{newborn_judged, number_fault};
 ghost use Rattle.device_requests.specs.Outcomes.{create_outcome};
 ghost use Rattle.device_requests.specs.Client.{with_stored};
 ghost use Rattle.device_requests.specs.Refusals.{is_fixed, is_tlv};
+ghost use Rattle.device_requests.specs.Ruling.{code_of, takes_memory};
 ghost use Rattle.device_requests.specs.Targets.{place_of, resources_defined};
 ghost use Rattle.device_instances.specs.Creations.{with_created};
 ghost use Rattle.device_instances.specs.Numbers.{number_for};
@@ -20,6 +21,7 @@ ghost use Rattle.object_defs.specs.Path.{object_in};
 
 use crate::answer::{Answer, Code};
 use crate::client::Client;
+use crate::ruling::Ruling;
 use crate::targets::{defined, exists, is_fixed};
 use device_instances::{NoRoom, lack_of_room, number_for};
 use instance_store::{Store, StoreFault};
@@ -177,13 +179,13 @@ impl Client {
         requires free { has_instance self.old.store place ≡ false }
         ensures outcome { IfOk result (λ a. let new = Some (record { number = place.instance; given = given }) in
             Leaves a self.new (create_unless (first_line
-            ((lacks_room self.old place.object new, Code.InternalServerError) ∷ []))
+            ((lacks_room self.old place.object new, Ruling.Limit) ∷ []))
             self.old server place.object new)) }
         ensures room { OnErr result (lacks_room self.old place.object
             (Some (record { number = place.instance; given = given })) ≡ false) }
     {
         if self.lack_of_room(place, &given).is_some() {
-            return Ok(Answer::bare(self.alloc, Code::InternalServerError));
+            return Ok(Answer::bare(self.alloc, Ruling::Limit));
         }
         self.make(server, place, given)?;
         Ok(Answer::created(self.alloc, place))
@@ -193,12 +195,12 @@ impl Client {
     fn create_in(&mut self, server: u16, object: u16, payload: &[u8]) -> Result<Answer, AllocError>
         requires { object ≢ access_control_object }
         ensures { IfOk result (λ a. let new = newborn self.old object payload.now in
-            Leaves a self.new (create_unless (first_line ((not (is_some new), Code.BadRequest)
-            ∷ (lacks_room self.old object new, Code.InternalServerError) ∷ [])) self.old server object new)) }
+            Leaves a self.new (create_unless (first_line ((not (is_some new), Ruling.Payload)
+            ∷ (lacks_room self.old object new, Ruling.Limit) ∷ [])) self.old server object new)) }
     {
         let judged = newborn_judged(self.alloc, &self.catalog, &self.store, object, payload)?;
         let Ok(new) = judged else {
-            return Ok(Answer::bare(self.alloc, Code::BadRequest));
+            return Ok(Answer::bare(self.alloc, Ruling::Payload));
         };
         let instance = new.number;
         self.place(server, InstancePath { object, instance }, new.given)
@@ -217,25 +219,25 @@ impl Client {
 
         // Only what the payload gives takes memory.
         ensures may_lack_memory { OnErr result
-            (takes_memory (create_outcome self.old server path number payload.now).answer.code ≡ true) }
+            (takes_memory (create_outcome self.old server path number payload.now).answer.ruling ≡ true) }
         ensures allowed { OnErr result
-            ((create_outcome self.old server path number payload.now).answer.code ≢ Code.MethodNotAllowed) }
+            (code_of (create_outcome self.old server path number payload.now).answer.ruling ≢ Code.MethodNotAllowed) }
         ensures makes { OnErr result (is_fixed (object_in path) ≡ false) }
     {
         if path.object() == SECURITY {
-            return Ok(Answer::bare(self.alloc, Code::Unauthorized));
+            return Ok(Answer::bare(self.alloc, Ruling::Security));
         }
         if !exists(&self.catalog, &self.store, path) {
-            return Ok(Answer::bare(self.alloc, Code::NotFound));
+            return Ok(Answer::bare(self.alloc, Ruling::Target));
         }
         if !self.rights(server, path).create {
-            return Ok(Answer::bare(self.alloc, Code::Unauthorized));
+            return Ok(Answer::bare(self.alloc, Ruling::Right));
         }
         if is_fixed(path.object()) {
-            return Ok(Answer::bare(self.alloc, Code::MethodNotAllowed));
+            return Ok(Answer::bare(self.alloc, Ruling::Operation));
         }
         if !is_tlv(number) {
-            return Ok(Answer::bare(self.alloc, Code::UnsupportedContentFormat));
+            return Ok(Answer::bare(self.alloc, Ruling::ContentFormat));
         }
         self.create_in(server, path.object(), payload)
     }

@@ -12,8 +12,9 @@ ghost use Rattle.device_requests.specs.Outcomes.{delete_outcome};
 ghost use Rattle.device_requests.specs.Refusals.{is_fixed, refusal_of, to_delete};
 ghost use Rattle.device_requests.specs.Targets.{place_of};
 
-use crate::answer::{Answer, Code};
+use crate::answer::Answer;
 use crate::client::Client;
+use crate::ruling::Ruling;
 use crate::targets::{exists, is_fixed};
 use instance_store::Store;
 use notifier::Attributes;
@@ -75,20 +76,20 @@ fn delete_at(
 
 impl Client {
     /// What refuses a Delete.
-    fn delete_refusal(&self, server: u16, path: Path) -> Option<Code>
+    fn delete_refusal(&self, server: u16, path: Path) -> Option<Ruling>
         ensures { result ≡ refusal_of self.now server path to_delete }
     {
         if path.object() == SECURITY {
-            return Some(Code::Unauthorized);
+            return Some(Ruling::Security);
         }
         if !exists(&self.catalog, &self.store, path) {
-            return Some(Code::NotFound);
+            return Some(Ruling::Target);
         }
         if !self.rights(server, path).delete {
-            return Some(Code::Unauthorized);
+            return Some(Ruling::Right);
         }
         if is_fixed(path.object()) {
-            return Some(Code::MethodNotAllowed);
+            return Some(Ruling::Operation);
         }
         None
     }
@@ -103,10 +104,10 @@ impl Client {
         ensures takes { OnErr result (is_fixed (object_in path) ≡ false) }
     {
         match self.delete_refusal(server, path) {
-            Some(code) => Ok(Answer::bare(self.alloc, code)),
+            Some(ruling) => Ok(Answer::bare(self.alloc, ruling)),
             None => {
                 delete_at(self.alloc, &mut self.store, &mut self.attributes, path)?;
-                Ok(Answer::bare(self.alloc, Code::Deleted))
+                Ok(Answer::bare(self.alloc, Ruling::Deleted))
             }
         }
     }

@@ -3,7 +3,6 @@
 ghost use Rattle.std.specs.Prelude.{◌≡◌, ◌++◌, ◌∷◌, [], true, false, IfOk, OnErr, OnOk, string_bytes};
 ghost use Rattle.std.specs.List.{filter, flat_map};
 ghost use Rattle.lwm2m_payloads.specs.Nodes.{within_limit};
-ghost use Rattle.device_requests.specs.Answer.{takes_memory};
 ghost use Rattle.device_requests.specs.Discover.{attribute_text, attributes_text, dimension, dimension_text};
 ghost use Rattle.device_requests.specs.Discover.{existing_resources, fraction_text, inherits_at, instance_paths};
 ghost use Rattle.device_requests.specs.Discover.{is_period, link, link_parameters, linked_paths, links_text};
@@ -11,11 +10,13 @@ ghost use Rattle.device_requests.specs.Discover.{more_links, name_text, number_t
 ghost use Rattle.device_requests.specs.Discover.{shown_number, thousandths_text, unsigned_text};
 ghost use Rattle.device_requests.specs.Inside.{beginning};
 ghost use Rattle.device_requests.specs.Outcomes.{discover_answer};
+ghost use Rattle.device_requests.specs.Ruling.{takes_memory};
 ghost use Rattle.device_requests.specs.Targets.{exists};
 
-use crate::answer::{Answer, Code};
+use crate::answer::Answer;
 use crate::client::Client;
 use crate::operation::LINK_FORMAT;
+use crate::ruling::Ruling;
 use crate::targets::{defined, definition_at, exists, is_multiple, resource_place};
 use instance_store::Store;
 use notifier::{Attributes, Name};
@@ -346,13 +347,13 @@ impl Client {
     /// The answer to a Discover.
     pub(crate) fn discover(&self, server: u16, path: Path) -> Result<Answer, AllocError>
         ensures answer { IfOk result (λ a. a ≡ discover_answer self.now server path) }
-        ensures may_lack_memory { OnErr result (takes_memory (discover_answer self.now server path).code ≡ true) }
+        ensures may_lack_memory { OnErr result (takes_memory (discover_answer self.now server path).ruling ≡ true) }
     {
         if path.object() == SECURITY {
-            return Ok(Answer::bare(self.alloc, Code::Unauthorized));
+            return Ok(Answer::bare(self.alloc, Ruling::Security));
         }
         if !exists(&self.catalog, &self.store, path) {
-            return Ok(Answer::bare(self.alloc, Code::NotFound));
+            return Ok(Answer::bare(self.alloc, Ruling::Target));
         }
         let listing = Listing {
             alloc: self.alloc,
@@ -360,7 +361,7 @@ impl Client {
             server,
         };
         match listing.links(path)? {
-            None => Ok(Answer::bare(self.alloc, Code::InternalServerError)),
+            None => Ok(Answer::bare(self.alloc, Ruling::Limit)),
             Some(payload) => Ok(Answer::content(LINK_FORMAT, payload)),
         }
     }

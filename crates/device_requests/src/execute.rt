@@ -15,8 +15,9 @@ ghost use Rattle.device_requests.specs.Outcomes.{execute_outcome};
 ghost use Rattle.device_requests.specs.Refusals.{is_executable, is_plain, is_untimely, refusal_of, to_execute};
 ghost use Rattle.device_requests.specs.Targets.{definition_at, is_resource};
 
-use crate::answer::{Act, Answer, Code};
+use crate::answer::{Act, Answer};
 use crate::client::Client;
+use crate::ruling::Ruling;
 use crate::targets::{definition_at, exists_as, is_resource, resource_place};
 use device_firmware::{FirmwareEvent, take, takes};
 use instance_store::{Store, StoreFault};
@@ -134,19 +135,19 @@ fn execute_at(alloc: Global, store: &mut Store, path: Path) -> Result<(), AllocE
 
 impl Client {
     /// What refuses the arguments of an Execute, or the Execute as untimely.
-    fn argument_refusal(&self, path: Path, number: Option<u16>, payload: &[u8]) -> Option<Code>
-        ensures { result ≡ first_line ((not (is_plain number), Code.UnsupportedContentFormat)
-            ∷ (not (are_arguments payload.now), Code.BadRequest)
-            ∷ (is_untimely self.now.store path, Code.MethodNotAllowed) ∷ []) }
+    fn argument_refusal(&self, path: Path, number: Option<u16>, payload: &[u8]) -> Option<Ruling>
+        ensures { result ≡ first_line ((not (is_plain number), Ruling.ContentFormat)
+            ∷ (not (are_arguments payload.now), Ruling.Payload)
+            ∷ (is_untimely self.now.store path, Ruling.State) ∷ []) }
     {
         if !is_plain(number) {
-            return Some(Code::UnsupportedContentFormat);
+            return Some(Ruling::ContentFormat);
         }
         if !are_arguments(payload) {
-            return Some(Code::BadRequest);
+            return Some(Ruling::Payload);
         }
         if is_untimely(&self.store, path) {
-            return Some(Code::MethodNotAllowed);
+            return Some(Ruling::State);
         }
         None
     }
@@ -158,21 +159,21 @@ impl Client {
         path: Path,
         number: Option<u16>,
         payload: &[u8],
-    ) -> Option<Code>
+    ) -> Option<Ruling>
         ensures { result ≡ refusal_of self.now server path (to_execute number payload.now) }
     {
         if path.object() == SECURITY {
-            return Some(Code::Unauthorized);
+            return Some(Ruling::Security);
         }
         let definition = definition_at(&self.catalog, path);
         if !exists_as(&self.catalog, &self.store, path, definition) {
-            return Some(Code::NotFound);
+            return Some(Ruling::Target);
         }
         if !self.rights(server, path).execute {
-            return Some(Code::Unauthorized);
+            return Some(Ruling::Right);
         }
         if !is_executable(definition) {
-            return Some(Code::MethodNotAllowed);
+            return Some(Ruling::Operation);
         }
         self.argument_refusal(path, number, payload)
     }
@@ -196,7 +197,7 @@ impl Client {
         ensures executable { OnErr result (is_executable (definition_at self.old.catalog path) ≡ true) }
     {
         match self.execute_refusal(server, path, number, payload) {
-            Some(code) => Ok(Answer::bare(self.alloc, code)),
+            Some(ruling) => Ok(Answer::bare(self.alloc, ruling)),
             None => {
                 execute_at(self.alloc, &mut self.store, path)?;
                 Ok(Answer::done(self.alloc, act_of(path)))

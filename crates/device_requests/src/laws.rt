@@ -18,8 +18,8 @@ pub fn requests_are_said()
     ensures { RequestsAreSaid }
 {}
 
-/// The code of each answer is that of the first rule that applies, of which the last is success. So each request has
-/// exactly one answer.
+/// The rule of each answer is the first one that applies, of which the last is success. So each request has exactly one
+/// answer.
 pub fn first_line_answers()
     ensures { FirstLineAnswers }
 {}
@@ -36,20 +36,20 @@ pub fn refusals_change_nothing()
 
 /// Which of two neighbouring rules decides if both refuse a request, for all operations alike:
 ///
-/// - `options`: an unrecognized critical option is 4.02, whatever the path and the method are.
-/// - `paths`: a Uri-Path that is not a path is 4.04, whatever the method is.
-/// - `methods`: a method that has no operation at this kind of path is 4.05, at object 0 too, and whether or not the
-///   target exists.
-/// - `security`: object 0 is 4.01, whether or not the target exists.
-/// - `targets`: a target that does not exist, outside object 0, is 4.04, whatever the rights are.
+/// - `options`: an unrecognized critical option is `Options`, 4.02, whatever the path and the method are.
+/// - `paths`: a Uri-Path that is not a path is `NoPath`, 4.04, whatever the method is.
+/// - `methods`: a method that has no operation at this kind of path is `Method`, 4.05, at object 0 too, and whether or
+///   not the target exists.
+/// - `security`: object 0 is `Security`, 4.01, whether or not the target exists.
+/// - `targets`: a target that does not exist, outside object 0, is `Target`, 4.04, whatever the rights are.
 /// - `rights`: a target that exists is 4.01 without the right, whether or not it has the operation, and whatever the
 ///   format and the payload are.
-/// - `operations`: a target that does not have the operation is 4.05, unless it is 4.01 or 4.04, whatever the format
-///   and the payload are.
-/// - `formats`: a format that is not served is 4.06 for a Read and otherwise 4.15, unless it is 4.01, 4.04 or 4.05,
-///   whatever the payload is, or the length of what would be shown.
-/// - `payloads`: a payload, queries or arguments that are not valid are 4.00 if the target has the operation, unless it
-///   is 4.01, 4.04 or 4.15, whatever the state of the firmware is.
+/// - `operations`: a target that does not have the operation is `Operation`, 4.05, unless it is `Security`, `Target` or
+///   `Right`, whatever the format and the payload are.
+/// - `formats`: a format that is not served is `Accept`, 4.06, for a Read and otherwise `ContentFormat`, 4.15, unless
+///   it is one of these or `Operation`, whatever the payload is, or the length of what would be shown.
+/// - `payloads`: a payload, queries or arguments that are not valid are `Payload`, 4.00, if the target has the
+///   operation, unless it is `Security`, `Target`, `Right` or the format, whatever the state of the firmware is.
 pub fn refusals_come_in_order()
     ensures options { OptionsComeFirst }
     ensures paths { PathsPrecedeMethods }
@@ -62,10 +62,11 @@ pub fn refusals_come_in_order()
     ensures payloads { PayloadsPrecedeStates }
 {}
 
-/// Of requests whose options, path and method are not refused. `table`: whatever the operation, the code is that of the
-/// first rule of one table. `reason`: 4.01 is only for object 0 or a right that is missing, 4.04 for a target that does
-/// not exist, 4.05 for one that does not have the operation or a firmware that does not take it now, 4.06 and 4.15 for
-/// the format, 4.00 for the payload, the queries or the arguments, 5.00 for the limits of what is stored or shown.
+/// Of requests whose options, path and method are not refused. `table`: whatever the operation, the first rule of one
+/// table decides. `reason`: `Security` is only for object 0, `Target` for a target that does not exist, `Right` for a
+/// right that is missing, `Operation` for a target that does not have the operation, `Accept` and `ContentFormat` for
+/// the format, `Payload` for the payload, the queries or the arguments, `State` for a firmware that does not take it
+/// now, `Limit` for the limits of what is stored or shown.
 ///
 /// The outcome of a request is defined by this table. That a condition of it is OMA's is for a reader to judge, and for
 /// the laws of `laws_requests`.

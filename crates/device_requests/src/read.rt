@@ -7,14 +7,16 @@ ghost use Rattle.lwm2m_values.specs.Value.{text_of};
 ghost use Rattle.lwm2m_payloads.specs.declared.format.Format.{Format};
 ghost use Rattle.lwm2m_payloads.specs.Nodes.{value_payload, within_limit};
 ghost use Rattle.device_requests.specs.Access.{shown_instances};
-ghost use Rattle.device_requests.specs.Answer.{content, takes_memory};
+ghost use Rattle.device_requests.specs.Answer.{content};
 ghost use Rattle.device_requests.specs.Outcomes.{read_answer};
 ghost use Rattle.device_requests.specs.Read.{object_payload, one_payload, payload_in, values_payload};
 ghost use Rattle.device_requests.specs.Refusals.{can_be_read, is_oversized};
+ghost use Rattle.device_requests.specs.Ruling.{code_of, takes_memory};
 ghost use Rattle.device_requests.specs.Targets.{definition_at, exists};
 
 use crate::answer::{Answer, Code};
 use crate::client::Client;
+use crate::ruling::Ruling;
 use crate::targets::{defined, definition_at, exists_as, is_multiple, is_readable, resource_place};
 use access_control::shown_instances;
 use instance_store::Store;
@@ -182,33 +184,34 @@ impl Client {
         ensures answer { IfOk result (λ a. a ≡ read_answer self.now server path accept) }
 
         // Only a payload takes memory.
-        ensures may_lack_memory { OnErr result (takes_memory (read_answer self.now server path accept).code ≡ true) }
-        ensures allowed { OnErr result ((read_answer self.now server path accept).code ≢ Code.MethodNotAllowed) }
+        ensures may_lack_memory { OnErr result (takes_memory (read_answer self.now server path accept).ruling ≡ true) }
+        ensures allowed { OnErr result (code_of (read_answer self.now server path
+            accept).ruling ≢ Code.MethodNotAllowed) }
         ensures readable { OnErr result (can_be_read self.now.catalog path ≡ true) }
     {
         if path.object() == SECURITY {
-            return Ok(Answer::bare(self.alloc, Code::Unauthorized));
+            return Ok(Answer::bare(self.alloc, Ruling::Security));
         }
         let definition = definition_at(&self.catalog, path);
         let single = self.single_value(path, definition);
         if single.is_none() && !exists_as(&self.catalog, &self.store, path, definition) {
-            return Ok(Answer::bare(self.alloc, Code::NotFound));
+            return Ok(Answer::bare(self.alloc, Ruling::Target));
         }
         if !self.may_read(server, path) {
-            return Ok(Answer::bare(self.alloc, Code::Unauthorized));
+            return Ok(Answer::bare(self.alloc, Ruling::Right));
         }
         if !can_be_read(&self.catalog, path, definition) {
-            return Ok(Answer::bare(self.alloc, Code::MethodNotAllowed));
+            return Ok(Answer::bare(self.alloc, Ruling::Operation));
         }
         let Some(format) = format_for(path, definition, accept) else {
-            return Ok(Answer::bare(self.alloc, Code::NotAcceptable));
+            return Ok(Answer::bare(self.alloc, Ruling::Accept));
         };
         let payload = match single {
             Some((resource, value)) => write_single(self.alloc, format, resource, value),
             None => self.shown(server, path, definition, format),
         }?;
         match payload {
-            None => Ok(Answer::bare(self.alloc, Code::InternalServerError)),
+            None => Ok(Answer::bare(self.alloc, Ruling::Limit)),
             Some(payload) => Ok(Answer::content(format.number(), payload)),
         }
     }

@@ -1,17 +1,19 @@
 //! What a request asks for, read once from its options, and what it answers and changes.
 
 ghost use Rattle.std.specs.Prelude.{◌≡◌, true, false, IfErr, IfOk, IsOk, OnErr, OnOk};
-ghost use Rattle.device_requests.specs.Answer.{Leaves, is_bad_option, takes_memory};
+ghost use Rattle.device_requests.specs.Answer.{Leaves};
 ghost use Rattle.device_requests.specs.Observe.{interest_of};
 ghost use Rattle.device_requests.specs.Options.{has_unrecognized_critical};
 ghost use Rattle.device_requests.specs.Refusals.{lacks_operation};
 ghost use Rattle.device_requests.specs.Request.{outcome_at, outcome_of, purpose_of, request_of};
+ghost use Rattle.device_requests.specs.Ruling.{is_of_options, takes_memory};
 
-use crate::answer::{Answer, Code};
+use crate::answer::Answer;
 use crate::client::Client;
 use crate::observe::{Interest, interest_at};
 use crate::operation::{Operation, select};
 use crate::options::{path_of, request_options};
+use crate::ruling::Ruling;
 use coap_codec::Message;
 use lwm2m_payloads::Mode;
 use object_defs::Path;
@@ -35,23 +37,24 @@ pub struct Request {
 }
 
 impl Request {
-    /// What a message asks for, or the code that refuses it: 4.02 where an option that must be
-    /// understood is not, 4.04 where its Uri-Path is not a path, 4.05 where its method is not an
+    /// What a message asks for, or the rule that refuses it: `Options` where an option that must be
+    /// understood is not, `NoPath` where its Uri-Path is not a path, `Method` where its method is not an
     /// operation there, in this order.
-    pub fn read(message: &Message) -> Result<Request, Code>
+    pub fn read(message: &Message) -> Result<Request, Ruling>
         ensures request { result ≡ request_of message.now }
         ensures understood { OnOk result (has_unrecognized_critical message.now.options ≡ false) }
-        ensures rejected { IfErr result (λ code. is_bad_option code ≡ has_unrecognized_critical message.now.options) }
+        ensures rejected { IfErr result
+            (λ ruling. is_of_options ruling ≡ has_unrecognized_critical message.now.options) }
     {
         let options = message.options().as_slice();
         let Some(found) = request_options(options) else {
-            return Err(Code::BadOption);
+            return Err(Ruling::Options);
         };
         let Some(path) = path_of(options) else {
-            return Err(Code::NotFound);
+            return Err(Ruling::NoPath);
         };
         let Some(operation) = select(message.code(), found.accept, found.has_query, path) else {
-            return Err(Code::MethodNotAllowed);
+            return Err(Ruling::Method);
         };
         Ok(Request {
             path,
@@ -85,7 +88,7 @@ impl Client {
     ) -> Result<Answer, AllocError>
         ensures outcome { IfOk result (λ a. Leaves a self.new (outcome_at self.old server message.now request)) }
         ensures may_lack_memory { OnErr result
-            (takes_memory (outcome_at self.old server message.now request).answer.code ≡ true) }
+            (takes_memory (outcome_at self.old server message.now request).answer.ruling ≡ true) }
         ensures has { OnErr result
             (lacks_operation self.old.catalog request.path (purpose_of message.now request.operation) ≡ false) }
     {
@@ -114,9 +117,8 @@ impl Client {
     /// whether a critical option is not recognized (`rejected`).
     ///
     /// No refusal of an option, a path, a method, a server, an operation that the target does not have or a format
-    /// takes memory (`request`, `has`); those that may are listed by code, and of 4.05 only that of a firmware that
-    /// does not take a Package, a Package URI or an Update now (`may_lack_memory`). What is managed after an allocation
-    /// failed is open.
+    /// takes memory (`request`, `has`); those that may are listed by rule (`may_lack_memory`). What is managed after an
+    /// allocation failed is open.
     pub fn answer(&mut self, server: u16, message: &Message) -> Result<RequestResult, AllocError>
         ensures outcome { IfOk result (λ h. Leaves h.answer self.new (outcome_of self.old server message.now)) }
         ensures interest { IfOk result (λ h. h.interest ≡ interest_of message.now) }
@@ -127,14 +129,14 @@ impl Client {
         ensures request { OnErr result (IsOk (request_of message.now)) }
         ensures has { OnErr result (IfOk (request_of message.now) (λ r.
             lacks_operation self.old.catalog r.path (purpose_of message.now r.operation) ≡ false)) }
-        ensures may_lack_memory { OnErr result (takes_memory (outcome_of self.old server message.now).answer.code
+        ensures may_lack_memory { OnErr result (takes_memory (outcome_of self.old server message.now).answer.ruling
             ≡ true) }
     {
         match Request::read(message) {
-            Err(code) => Ok(RequestResult {
-                answer: Answer::bare(self.alloc, code),
+            Err(ruling) => Ok(RequestResult {
+                answer: Answer::bare(self.alloc, ruling),
                 interest: None,
-                is_rejected: code.is_bad_option(),
+                is_rejected: ruling.is_of_options(),
             }),
             Ok(request) => {
                 let answer = self.perform(server, message, request)?;

@@ -7,18 +7,20 @@ ghost use Rattle.device_firmware.specs.Firmware.{firmware_after, is_ready};
 ghost use Rattle.instance_store.specs.Stored.{has_instance, instance_of};
 ghost use Rattle.lwm2m_payloads.specs.Changes.{has_too_many, instance_written, is_kept_as};
 ghost use Rattle.object_defs.specs.Lines.{first_line};
-ghost use Rattle.device_requests.specs.Answer.{Leaves, takes_memory};
+ghost use Rattle.device_requests.specs.Answer.{Leaves};
 ghost use Rattle.device_requests.specs.Read.{format_at};
 ghost use Rattle.device_requests.specs.Inside.{give, has_place, value_rules};
 ghost use Rattle.device_requests.specs.Outcomes.{write_outcome};
 ghost use Rattle.device_requests.specs.Refusals.{can_be_written, is_target, is_writable};
+ghost use Rattle.device_requests.specs.Ruling.{takes_memory};
 ghost use Rattle.device_requests.specs.Write.{event_of, given_to_part, given_to_resource};
 ghost use Rattle.device_requests.specs.Write.{mode_at, new_values, package_in, resource_excess};
 ghost use Rattle.device_requests.specs.Write.{resource_written, uri_in, values_exceed, values_excess, values_given};
 ghost use Rattle.device_requests.specs.Write.{values_judged, values_written, write_excess, write_unless};
 
-use crate::answer::{Answer, Code};
+use crate::answer::Answer;
 use crate::client::Client;
+use crate::ruling::Ruling;
 use crate::targets::{
     defined, definition_at, is_multiple, is_readable, is_resource, resource_place,
 };
@@ -384,21 +386,21 @@ impl Client {
         requires { has_place self.old.store path ≡ true }
         ensures { IfOk result (λ a. Leaves a self.new
             (write_unless (first_line
-            ((values_exceed mode self.old.catalog self.old.store path values, Code.InternalServerError) ∷ []))
+            ((values_exceed mode self.old.catalog self.old.store path values, Ruling.Limit) ∷ []))
             self.old (values_written mode self.old.catalog self.old.store path values))) }
     {
         if values_excess(mode, &self.catalog, &self.store, path, &values)?.is_some() {
-            return Ok(Answer::bare(self.alloc, Code::InternalServerError));
+            return Ok(Answer::bare(self.alloc, Ruling::Limit));
         }
         write_at(mode, &self.catalog, &mut self.store, path, values)?;
-        Ok(Answer::bare(self.alloc, Code::Changed))
+        Ok(Answer::bare(self.alloc, Ruling::Changed))
     }
 
     /// Applies to the firmware what was written, if its State allows that.
     fn turn(&mut self, event: FirmwareEvent) -> Result<Answer, AllocError>
         ensures outcome { IfOk result (λ a. Leaves a self.new
             (write_unless (first_line
-            ((not (is_some (firmware_after self.old.store event)), Code.MethodNotAllowed) ∷ []))
+            ((not (is_some (firmware_after self.old.store event)), Ruling.State) ∷ []))
             self.old (unwrap_or (firmware_after self.old.store event) self.old.store))) }
 
         // Only if its State allows it, and what changes is not all held.
@@ -406,9 +408,9 @@ impl Client {
         ensures may_lack_memory { OnErr result (is_ready self.old.store event ≡ false) }
     {
         if take(self.alloc, &mut self.store, event)? {
-            return Ok(Answer::bare(self.alloc, Code::Changed));
+            return Ok(Answer::bare(self.alloc, Ruling::Changed));
         }
-        Ok(Answer::bare(self.alloc, Code::MethodNotAllowed))
+        Ok(Answer::bare(self.alloc, Ruling::State))
     }
 
     /// Writes what a payload of a format gives in an instance that is there, where its values are good.
@@ -424,7 +426,7 @@ impl Client {
             Leaves a self.new (give (value_rules self.old mode path values) self.old mode path values)) }
     {
         let Ok(values) = values_judged(self.alloc, &self.catalog, path, payload, format)? else {
-            return Ok(Answer::bare(self.alloc, Code::BadRequest));
+            return Ok(Answer::bare(self.alloc, Ruling::Payload));
         };
         match event_of(path, &values)? {
             Some(event) => self.turn(event),
@@ -444,12 +446,12 @@ impl Client {
         requires { has_place self.old.store path ≡ true }
         ensures outcome { IfOk result (λ a. let values = new_values self.old path number payload.now in
             Leaves a self.new (give
-            ((not (is_some (format_at self.old.catalog path number)), Code.UnsupportedContentFormat)
+            ((not (is_some (format_at self.old.catalog path number)), Ruling.ContentFormat)
             ∷ value_rules self.old mode path values) self.old mode path values)) }
         ensures may_lack_memory { OnErr result (is_some (format_at self.old.catalog path number) ≡ true) }
     {
         let Some(format) = format_for(path, definition_at(&self.catalog, path), number) else {
-            return Ok(Answer::bare(self.alloc, Code::UnsupportedContentFormat));
+            return Ok(Answer::bare(self.alloc, Ruling::ContentFormat));
         };
         self.write_in(mode, path, format, payload)
     }
@@ -469,20 +471,20 @@ impl Client {
 
         // Only what the payload gives takes memory.
         ensures may_lack_memory { OnErr result
-            (takes_memory (write_outcome self.old server mode path number payload.now).answer.code ≡ true) }
+            (takes_memory (write_outcome self.old server mode path number payload.now).answer.ruling ≡ true) }
         ensures allowed { OnErr result (can_be_written self.old.catalog path ≡ true) }
     {
         if path.object() == SECURITY {
-            return Ok(Answer::bare(self.alloc, Code::Unauthorized));
+            return Ok(Answer::bare(self.alloc, Ruling::Security));
         }
         if !is_target(&self.catalog, &self.store, path) {
-            return Ok(Answer::bare(self.alloc, Code::NotFound));
+            return Ok(Answer::bare(self.alloc, Ruling::Target));
         }
         if !self.rights(server, path).write {
-            return Ok(Answer::bare(self.alloc, Code::Unauthorized));
+            return Ok(Answer::bare(self.alloc, Ruling::Right));
         }
         if !can_be_written(&self.catalog, path) {
-            return Ok(Answer::bare(self.alloc, Code::MethodNotAllowed));
+            return Ok(Answer::bare(self.alloc, Ruling::Operation));
         }
         self.write_payload(mode, path, number, payload)
     }

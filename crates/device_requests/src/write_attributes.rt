@@ -4,15 +4,17 @@ ghost use Rattle.std.specs.Prelude.{◌≡◌, ◌≢◌, ◌∷◌, [], true, n
 ghost use Rattle.std.specs.Option.{is_some};
 ghost use Rattle.notifier.specs.Query.{BeginsWithChange, changes_of, reading_of};
 ghost use Rattle.object_defs.specs.Lines.{first_line};
-ghost use Rattle.device_requests.specs.Answer.{Leaves, takes_memory};
+ghost use Rattle.device_requests.specs.Answer.{Leaves};
 ghost use Rattle.device_requests.specs.Options.{queries_of};
 ghost use Rattle.device_requests.specs.Outcomes.{attributes_outcome};
 ghost use Rattle.device_requests.specs.Refusals.{annotates, annotates_at};
+ghost use Rattle.device_requests.specs.Ruling.{takes_memory};
 ghost use Rattle.device_requests.specs.WriteAttributes.{new_numbers, annotate_unless, changes_given, changes_or_none};
 ghost use Rattle.device_requests.specs.WriteAttributes.{is_numeric, is_numeric_kind, level_at};
 
-use crate::answer::{Answer, Code};
+use crate::answer::Answer;
 use crate::client::Client;
+use crate::ruling::Ruling;
 use crate::targets::{definition_at, exists};
 use access_control::Rights;
 use coap_codec::Opt;
@@ -146,7 +148,7 @@ impl Client {
     ) -> Result<Answer, AllocError>
         ensures outcome { IfOk result (λ a. let given = new_numbers self.old.attributes server path changes.now in
             Leaves a self.new
-            (annotate_unless (first_line ((not (is_some given), Code.BadRequest) ∷ [])) self.old given)) }
+            (annotate_unless (first_line ((not (is_some given), Ruling.Payload) ∷ [])) self.old given)) }
 
         // Only changes after which the numbers agree take memory.
         ensures may_lack_memory { OnErr result (is_some (new_numbers self.old.attributes server path changes.now)
@@ -154,8 +156,8 @@ impl Client {
         ensures only_with_changes { OnErr result (changes.now ≢ []) }
     {
         match self.attributes.write(server, path, changes) {
-            Ok(()) => Ok(Answer::bare(self.alloc, Code::Changed)),
-            Err(WriteFault::Inconsistent) => Ok(Answer::bare(self.alloc, Code::BadRequest)),
+            Ok(()) => Ok(Answer::bare(self.alloc, Ruling::Changed)),
+            Err(WriteFault::Inconsistent) => Ok(Answer::bare(self.alloc, Ruling::Payload)),
             Err(WriteFault::Memory) => Err(AllocError),
         }
     }
@@ -172,22 +174,22 @@ impl Client {
 
         // Only what the queries set takes memory.
         ensures may_lack_memory { OnErr result (takes_memory
-            (attributes_outcome self.old server path (queries_of options.now)).answer.code ≡ true) }
+            (attributes_outcome self.old server path (queries_of options.now)).answer.ruling ≡ true) }
         ensures begins { OnErr result
             (BeginsWithChange (level_at self.old.catalog path) (queries_of options.now)) }
     {
         if path.object() == SECURITY {
-            return Ok(Answer::bare(self.alloc, Code::Unauthorized));
+            return Ok(Answer::bare(self.alloc, Ruling::Security));
         }
         if !exists(&self.catalog, &self.store, path) {
-            return Ok(Answer::bare(self.alloc, Code::NotFound));
+            return Ok(Answer::bare(self.alloc, Ruling::Target));
         }
         let rights = self.rights(server, path);
         if !annotates_at(rights, path) {
-            return Ok(Answer::bare(self.alloc, Code::Unauthorized));
+            return Ok(Answer::bare(self.alloc, Ruling::Right));
         }
         let Some(changes) = changes_given(self.alloc, &self.catalog, path, options)? else {
-            return Ok(Answer::bare(self.alloc, Code::BadRequest));
+            return Ok(Answer::bare(self.alloc, Ruling::Payload));
         };
         self.annotate(server, path, changes.as_slice())
     }
