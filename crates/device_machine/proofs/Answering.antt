@@ -6,7 +6,7 @@ use Rattle.device_requests.specs.Options.{has_unrecognized_critical, segments_of
 use Rattle.coap_codec.specs.Message.{Message, spelling}
 use Rattle.coap_codec.specs.declared.kind.Kind.TheVariants.{Con, Non, Ack}
 use Rattle.device_requests.specs.Answer.{Outcome}
-use Rattle.device_requests.specs.declared.answer.Code.TheVariants.{BadOption}
+use Rattle.device_requests.specs.declared.ruling.Ruling.TheVariants.{Options}
 use Rattle.device_requests.specs.Request.{outcome_for, outcome_of, request_on}
 use Rattle.device_machine.specs.Observing.{observe_result}
 use Rattle.device_machine.specs.State.{Machine, with_client}
@@ -41,7 +41,7 @@ acknowledged f server bytes m fresh k =
       kind_is = refl;
       mid_is = refl;
       token = refl;
-      said = outcome.answer.code;
+      said = outcome.answer.ruling;
       code = refl;
       line = says f.kept.client server m;
     }
@@ -72,7 +72,7 @@ answered_non f server bytes m fresh k h =
       kind_is = refl;
       mid_is = refl;
       token = refl;
-      said = outcome.answer.code;
+      said = outcome.answer.ruling;
       code = refl;
       line = says f.kept.client server m;
     }
@@ -82,4 +82,4 @@ rejected_non f server bytes m fresh k h =
     ap (λ r. r.outputs) (first_non f server bytes m fresh k)
     ∙ replied_non f server m (outcome_of f.kept.client server m) true k h
     ∙ ap (λ b. outputs_of_act (outcome_for f.kept.client server m
-    (if b then Err BadOption else request_on m (path_of (segments_of m.options)))).answer.act) h
+    (if b then Err Options else request_on m (path_of (segments_of m.options)))).answer.act) h

@@ -16,7 +16,7 @@ use Rattle.device_requests.specs.Answer.{Outcome, is_content}
 use Rattle.device_requests.specs.Observe.{interest_for, interest_of}
 use Rattle.device_requests.specs.Options.{has_unrecognized_critical, segments_of, path_of}
 use Rattle.device_requests.specs.Request.{outcome_of, request_on}
-use Rattle.device_requests.specs.declared.answer.Code.TheVariants.{BadOption}
+use Rattle.device_requests.specs.declared.ruling.Ruling.TheVariants.{Options}
 use Rattle.device_requests.specs.declared.answer.Answer.{Answer}
 use Rattle.device_requests.specs.declared.observe.Interest.{Interest}
 use Rattle.device_requests.specs.declared.observe.Interest.TheVariants.{Register}
@@ -78,7 +78,7 @@ noted_is k server m path accept answer i c l =
 understood : (m : Message) (i : Interest) → interest_of m ≡ Some i → has_unrecognized_critical m.options ≡ false
 understood m i =
     elim (has_unrecognized_critical m.options) as
-    (λ b. interest_for (if b then Err BadOption else request_on m (path_of (segments_of m.options))) ≡ Some i
+    (λ b. interest_for (if b then Err Options else request_on m (path_of (segments_of m.options))) ≡ Some i
     → b ≡ false) [
       | true ↦ λ h. cc
       | false ↦ λ h. refl

@@ -26,6 +26,7 @@ use Rattle.device_machine.specs.Reactions.{kept_after, on_message, on_outcome, o
 use Rattle.device_machine.specs.Reactions.{reply_to}
 use Rattle.device_machine.specs.Laws.{CancelsEnd, IsFresh, OnlyRecords, ResetsEnd}
 use Rattle.device_requests.specs.Laws.{is_refusal}
+use Rattle.device_requests.specs.Ruling.{code_of}
 use Rattle.device_machine.proofs.Living.{clock_after}
 use Rattle.device_machine.proofs.Repeating.{first_con, first_non, client_after, reached}
 
@@ -45,12 +46,12 @@ not_content InternalServerError h = refl
 
 -- what a refusal leaves of the observations
 refused_left : (k : DeviceState) (server : ℕ) (m : Message) (answer : Answer) (interest : Option Interest)
-    → is_refusal answer.code ≡ true
+    → is_refusal (code_of answer.ruling) ≡ true
     → (noted_by k server m answer interest).left
     ≡ (if is_some interest then without_cancelled k.observations server m.token else k.observations)
 refused_left k server m answer None h = refl
 refused_left k server m answer (Some Cancel) h = refl
-refused_left k server m answer (Some (Register path accept)) h = rw (not_content answer.code h) refl
+refused_left k server m answer (Some (Register path accept)) h = rw (not_content (code_of answer.ruling) h) refl
 
 pub observations_after : (k : DeviceState) (kind : Kind) (reply : Option Message)
     → (kept_after k kind reply).observations ≡ k.observations
@@ -61,7 +62,7 @@ observations_after k Ack reply = refl
 observations_after k Rst reply = refl
 
 only_records : (f : Machine) (server : ℕ) (m : Message) (outcome : Outcome) → outcome.client ≡ f.kept.client
-    → is_refusal outcome.answer.code ≡ true
+    → is_refusal (code_of outcome.answer.ruling) ≡ true
     → OnlyRecords f server m (on_outcome f server m outcome).flat
 only_records f server m outcome h r =
     let before = with_client f.kept outcome.client in
@@ -79,7 +80,7 @@ only_records f server m outcome h r =
 -- a fresh request that is refused
 pub refused : (f : Machine) (server : ℕ) (bytes : List ℕ) (m : Message) → IsFresh f server bytes m → (m.kind ≡ Con)
     ⊎ (m.kind ≡ Non)
-    → is_refusal (outcome_of f.kept.client server m).answer.code ≡ true
+    → is_refusal (code_of (outcome_of f.kept.client server m).answer.ruling) ≡ true
     → OnlyRecords f server m (reaction_to f (Recv server bytes)).flat
 refused f server bytes m fresh (inl k) h =
     subst (λ r. OnlyRecords f server m r.flat) (sym (first_con f server bytes m fresh k))

@@ -7,7 +7,7 @@ use Rattle.coap_codec.specs.Reading.{reading_of}
 use Rattle.coap_codec.specs.declared.option.Opt.{Opt}
 use Rattle.coap_codec.specs.declared.kind.Kind.{Kind}
 use Rattle.coap_codec.specs.declared.kind.Kind.TheVariants.{Con, Non, Ack, Rst}
-use Rattle.device_requests.specs.declared.answer.Code.{Code}
+use Rattle.device_requests.specs.declared.ruling.Ruling.{Ruling}
 use Rattle.device_machine.specs.declared.event.Event.TheVariants.{Recv, Tick}
 use Rattle.device_machine.specs.declared.output.Output.{Output}
 use Rattle.device_machine.specs.declared.output.Output.TheVariants.{Send, Act}
@@ -32,6 +32,7 @@ use Rattle.device_machine.specs.State.{Machine, lifetime, with_observations}
 use Rattle.device_requests.specs.Client.{has_account}
 use Rattle.device_requests.specs.Options.{has_unrecognized_critical}
 use Rattle.device_requests.specs.Laws.{is_refusal, request_lines}
+use Rattle.device_requests.specs.Ruling.{code_of}
 use Rattle.device_machine.specs.Reactions.{Reaction, outputs_of_act, outputs_of, flat_after, is_request}
 use Rattle.device_machine.specs.Reactions.{flat_after_seconds, reaction_to, repeat_of, send_of, silence}
 
@@ -74,7 +75,7 @@ NonConfirmableRepeats =
     ≡ flat_after_seconds (flat_after f (Recv server bytes)) seconds)
 
 -- a request gets one datagram, after which the device may act: a message of this type and message ID, with its token,
--- whose code is that of the first line that applies
+-- whose code is that of the first rule that applies
 pub record IsAnswered (f : Machine) (server : ℕ) (bytes : List ℕ) (m : Message) (kind : Kind) (mid : ℕ) : Type 0 where
   pub reply : Message
   pub act : Option Deed
@@ -82,8 +83,8 @@ pub record IsAnswered (f : Machine) (server : ℕ) (bytes : List ℕ) (m : Messa
   pub kind_is : reply.kind ≡ kind
   pub mid_is : reply.mid ≡ mid
   pub token : reply.token ≡ m.token
-  pub said : Code
-  pub code : reply.code ≡ code_byte said
+  pub said : Ruling
+  pub code : reply.code ≡ code_byte (code_of said)
   pub line : first_line (request_lines f.kept.client server m) ≡ Some said
 
 -- a confirmable request is answered by an acknowledgement with its message ID (RFC 7252 section 5.2.1)
@@ -121,7 +122,7 @@ abbrev pub RefusedChangesNothing : Type 0
 RefusedChangesNothing =
     (f : Machine) (server : ℕ) (bytes : List ℕ) (m : Message) → IsFresh f server bytes m → (m.kind ≡ Con)
     ⊎ (m.kind ≡ Non)
-    → is_refusal (outcome_of f.kept.client server m).answer.code ≡ true
+    → is_refusal (code_of (outcome_of f.kept.client server m).answer.ruling) ≡ true
     → OnlyRecords f server m (flat_after f (Recv server bytes))
 
 -- after a Read that says Observe 1 there is no observation of its name, whatever it was answered (RFC 7641 section

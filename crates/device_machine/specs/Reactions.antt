@@ -29,6 +29,7 @@ use Rattle.device_requests.specs.Answer.{Outcome, code_byte}
 use Rattle.device_requests.specs.Client.{has_account, with_stored}
 use Rattle.device_requests.specs.Options.{has_unrecognized_critical}
 use Rattle.device_requests.specs.Request.{outcome_of}
+use Rattle.device_requests.specs.Ruling.{code_of}
 use Rattle.device_machine.specs.declared.recorded.Recorded.{Recorded}
 use Rattle.notifier.specs.Observed.{with_acknowledged, without_reset}
 use Rattle.device_notifications.specs.Message.{format_options, observe_options}
@@ -80,7 +81,7 @@ abbrev pub response : Kind → ℕ → List ℕ → Option ℕ → Answer → Me
 response kind mid token number answer =
     record {
       kind = kind;
-      code = code_byte answer.code;
+      code = code_byte (code_of answer.ruling);
       mid = mid;
       token = token;
       options = answer_options number answer.location answer.format;

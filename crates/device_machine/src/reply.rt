@@ -9,7 +9,8 @@ ghost use Rattle.device_notifications.specs.Message.{format_options};
 ghost use Rattle.device_requests.specs.Answer.{code_byte, content};
 ghost use Rattle.device_requests.specs.declared.answer.Answer.{Answer as Said};
 ghost use Rattle.device_machine.specs.declared.output.Output.TheVariants.{Send};
-ghost use Rattle.device_machine.specs.Reactions.{answer_options, location_options, reset, response, sent_to, reply_with};
+ghost use Rattle.device_machine.specs.Reactions.{answer_options, location_options, reset, response, sent_to};
+ghost use Rattle.device_machine.specs.Reactions.{reply_with};
 
 use crate::output::{Output, Outputs};
 use coap_codec::option_number::{CONTENT_FORMAT, LOCATION_PATH, OBSERVE};
@@ -102,7 +103,7 @@ fn answer_datagram(
     requires { length token.now ≤ 8 }
     ensures { IfOk result (λ b. b ≡ spelling (response kind mid token.now number answer.now)) }
 {
-    begin(buffer, kind, answer.code, mid, token)?;
+    begin(buffer, kind, answer.code(), mid, token)?;
     put_answer_options(alloc, buffer, number, answer.location, answer.format)?;
     put_payload(buffer, answer.payload.as_slice())?;
     Bytes::from_slice(alloc, buffer.as_slice())

@@ -14,6 +14,7 @@ use Rattle.notifier.specs.declared.observation.Observation.{Observation}
 use Rattle.notifier.specs.declared.observation.Timer.{Timer}
 use Rattle.device_requests.specs.Answer.{code_byte}
 use Rattle.device_requests.specs.Client.{Client}
+use Rattle.device_requests.specs.Ruling.{code_of}
 use Rattle.device_requests.specs.declared.answer.Answer.{Answer}
 use Rattle.device_notifications.specs.declared.datagram.Datagram.{Datagram}
 use Rattle.device_notifications.specs.Laws.{IsLater, IsLaterOneOf, IsMessageOf, IsOfOneOf, is_con}
@@ -31,7 +32,7 @@ same_message kind o p mid number answer server token = λ j. record {
   server = server j;
   bytes = spelling (record {
     kind = kind;
-    code = code_byte answer.code;
+    code = code_byte (code_of answer.ruling);
     mid = mid;
     token = token j;
     options = observe_options number ++ format_options answer.format;

@@ -24,6 +24,7 @@ use Rattle.notifier.specs.declared.pending.Pending.TheVariants.{Idle, Changed, G
 use Rattle.device_requests.specs.Answer.{code_byte, is_content}
 use Rattle.device_requests.specs.Client.{Client, with_stored}
 use Rattle.device_requests.specs.Depending.{AgreeWhere, is_of_rights, is_read_by}
+use Rattle.device_requests.specs.Ruling.{code_of}
 use Rattle.device_requests.specs.Targets.{is_multiple, resource_place}
 use Rattle.device_requests.specs.declared.answer.Answer.{Answer}
 use Rattle.device_requests.proofs.Depending.{SameIn, same_answer, same_list, single_in}
@@ -93,7 +94,7 @@ outlook_by client o answer pmin pmax number =
           o.report.payload answer.payload then Changed else Idle;
       pmin = pmin;
       pmax = pmax;
-    } else record { pending = Gone (code_byte answer.code); pmin = pmin; pmax = pmax }
+    } else record { pending = Gone (code_byte (code_of answer.ruling)); pmin = pmin; pmax = pmax }
 
 pub stays_said : OthersDoNotReach
 stays_said client stored o h =

@@ -8,6 +8,7 @@ use Rattle.coap_codec.specs.declared.option.Opt.{Opt}
 use Rattle.notifier.specs.declared.observation.Observation.{Observation}
 use Rattle.notifier.specs.declared.observation.Timer.{Timer}
 use Rattle.device_requests.specs.Answer.{code_byte}
+use Rattle.device_requests.specs.Ruling.{code_of}
 use Rattle.device_requests.specs.declared.answer.Answer.{Answer}
 use Rattle.device_notifications.specs.declared.datagram.Datagram.{Datagram}
 
@@ -23,7 +24,7 @@ abbrev pub notification : Kind → Observation → ℕ → Option ℕ → Answer
 notification kind o mid number answer =
     record {
       kind = kind;
-      code = code_byte answer.code;
+      code = code_byte (code_of answer.ruling);
       mid = mid;
       token = o.token;
       options = observe_options number ++ format_options answer.format;

@@ -13,6 +13,7 @@ use Rattle.notifier.specs.declared.pending.Pending.TheVariants.{Idle, Changed, G
 use Rattle.object_defs.specs.declared.path.Path.{Path}
 use Rattle.device_requests.specs.Answer.{code_byte, is_content}
 use Rattle.device_requests.specs.Client.{Client}
+use Rattle.device_requests.specs.Ruling.{code_of}
 use Rattle.device_requests.specs.declared.answer.Answer.{Answer}
 use Rattle.device_notifications.specs.Period.{pmin_of, pmax_of}
 use Rattle.device_notifications.specs.Second.{present_answer, triggers_on}
@@ -30,7 +31,7 @@ content_outlook client server path report payload =
 abbrev pub outlook_on : Client → Observation → Answer → Outlook
 outlook_on client o answer =
     if is_content answer then content_outlook client o.server o.path o.report answer.payload
-    else outlook_with client o.server o.path (Gone (code_byte answer.code))
+    else outlook_with client o.server o.path (Gone (code_byte (code_of answer.ruling)))
 
 -- what an observation's present answer is, and its periods
 abbrev pub outlook_of : Client → Observation → Outlook

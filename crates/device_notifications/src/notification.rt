@@ -48,7 +48,7 @@ fn notification(
     let options = options_of(alloc, number, answer.format)?;
     let token = observation.token.clone()?;
     let payload = answer.payload.clone()?;
-    Ok(Message::of_parts(kind, answer.code.byte(), mid, token, options, payload))
+    Ok(Message::of_parts(kind, answer.code().byte(), mid, token, options, payload))
 }
 
 /// That message, on its way to the observation's server.

@@ -68,7 +68,7 @@ fn outlook_of(client: &Client, observation: &Observation) -> Result<Outlook, All
     let path = observation.path;
     let answer = client.read(server, path, observation.accept)?;
     if !answer.is_content() {
-        return Ok(outlook_with(client, server, path, Pending::Gone(answer.code.byte())));
+        return Ok(outlook_with(client, server, path, Pending::Gone(answer.code().byte())));
     }
     Ok(content_outlook(
         client,

@@ -11,11 +11,6 @@ use Rattle.lwm2m_payloads.specs.declared.format.Format.{Format}
 use Rattle.lwm2m_payloads.specs.declared.given.Mode.{Mode}
 use Rattle.lwm2m_payloads.specs.declared.given.Mode.TheVariants.{Replace, Update}
 use Rattle.device_requests.specs.declared.answer.Answer.{Answer}
-use Rattle.device_requests.specs.declared.answer.Code.{Code}
-use Rattle.device_requests.specs.declared.answer.Code.TheVariants.{Created, Deleted, BadRequest}
-use Rattle.device_requests.specs.declared.answer.Code.TheVariants.{UnsupportedContentFormat, Changed, Content}
-use Rattle.device_requests.specs.declared.answer.Code.TheVariants.{Unauthorized, BadOption, NotFound, MethodNotAllowed}
-use Rattle.device_requests.specs.declared.answer.Code.TheVariants.{NotAcceptable, InternalServerError}
 use Rattle.device_requests.specs.declared.operation.Operation.{Operation}
 use Rattle.device_requests.specs.declared.operation.Operation.TheVariants.{Read, Discover, WriteAttributes}
 use Rattle.device_requests.specs.declared.operation.Operation.TheVariants.{WriteReplace, WritePartial, Create, Execute}
@@ -26,6 +21,8 @@ use Rattle.device_requests.specs.WriteAttributes.{annotate_unless, attributes_gi
 use Rattle.device_requests.specs.Answer.{content, refused_or}
 use Rattle.object_defs.specs.Lines.{first_line}
 use Rattle.device_requests.specs.declared.create.Newborn.{Newborn}
+use Rattle.device_requests.specs.declared.ruling.Ruling.{Ruling}
+use Rattle.device_requests.specs.declared.ruling.Ruling.TheVariants as rule
 use Rattle.device_requests.specs.Create.{create_unless, lacks_room, newborn}
 use Rattle.device_requests.specs.Targets.{exists}
 use Rattle.device_requests.specs.Delete.{delete_unless}
@@ -45,26 +42,26 @@ use Rattle.device_requests.specs.Write.{after_write_with_event, event_of, mode_a
 use Rattle.device_requests.specs.Client.{Client}
 use Rattle.device_requests.specs.Laws.{lines_by, lines_on, request_lines}
 
--- the code is that of the first rule that holds
-abbrev Says : Answer → List (Bool × Code) → Type 0
-Says answer lines = first_line lines ≡ Some answer.code
+-- the answer is that of the first rule that holds
+abbrev Says : Answer → List (Bool × Ruling) → Type 0
+Says answer lines = first_line lines ≡ Some answer.ruling
 
 -- rules with one after them that always holds
-ended : (lines : List (Bool × Code)) (code : Code) → first_line (lines ++ (true, code) ∷ [])
-    ≡ Some (unwrap_or (first_line lines) code)
-ended [] code = refl
-ended (line ∷ lines) code =
-    elim line.0 as (λ b. cond b (Some line.1) (first_line (lines ++ (true, code) ∷ []))
-    ≡ Some (unwrap_or (cond b (Some line.1) (first_line lines)) code)) [
+ended : (lines : List (Bool × Ruling)) (last : Ruling) → first_line (lines ++ (true, last) ∷ [])
+    ≡ Some (unwrap_or (first_line lines) last)
+ended [] last = refl
+ended (line ∷ lines) last =
+    elim line.0 as (λ b. cond b (Some line.1) (first_line (lines ++ (true, last) ∷ []))
+    ≡ Some (unwrap_or (cond b (Some line.1) (first_line lines)) last)) [
       | true ↦ refl
-      | false ↦ ended lines code
+      | false ↦ ended lines last
     ]
 
 read_says : (a b s c long : Bool) (format : Option Format) (payload : List ℕ)
-    → let lines : List (Bool × Code) =
-    (a, Unauthorized) ∷ (b, NotFound) ∷ (s, Unauthorized) ∷ (c, MethodNotAllowed)
-    ∷ (not (is_some format), NotAcceptable) ∷ (long, InternalServerError) ∷ [] in
-    Says (refused_or (first_line lines) (content_in format payload)) (lines ++ (true, Content) ∷ [])
+    → let lines : List (Bool × Ruling) =
+    (a, rule.Security) ∷ (b, rule.Target) ∷ (s, rule.Right) ∷ (c, rule.Operation)
+    ∷ (not (is_some format), rule.Accept) ∷ (long, rule.Limit) ∷ [] in
+    Says (refused_or (first_line lines) (content_in format payload)) (lines ++ (true, rule.Content) ∷ [])
 read_says true b s c long format payload = refl
 read_says false true s c long format payload = refl
 read_says false false true c long format payload = refl
@@ -73,31 +70,31 @@ read_says false false false false long None payload = refl
 read_says false false false false true (Some format) payload = refl
 read_says false false false false false (Some format) payload = refl
 
-refused_code : (code : Option Code) (format : ℕ) (payload : List ℕ) → unwrap_or code Content
-    ≡ (refused_or code (content format payload)).code
-refused_code None format payload = refl
-refused_code (Some code) format payload = refl
+refused_ruling : (ruling : Option Ruling) (format : ℕ) (payload : List ℕ) → unwrap_or ruling rule.Content
+    ≡ (refused_or ruling (content format payload)).ruling
+refused_ruling None format payload = refl
+refused_ruling (Some ruling) format payload = refl
 
-write_code : (code : Option Code) (client : Client) (stored : Stored) → unwrap_or code Changed
-    ≡ (write_unless code client stored).answer.code
-write_code None client stored = refl
-write_code (Some code) client stored = refl
+write_ruling : (ruling : Option Ruling) (client : Client) (stored : Stored) → unwrap_or ruling rule.Changed
+    ≡ (write_unless ruling client stored).answer.ruling
+write_ruling None client stored = refl
+write_ruling (Some ruling) client stored = refl
 
-execute_code : (code : Option Code) (client : Client) (path : Path) → unwrap_or code Changed
-    ≡ (execute_unless code client path).answer.code
-execute_code None client path = refl
-execute_code (Some code) client path = refl
+execute_ruling : (ruling : Option Ruling) (client : Client) (path : Path) → unwrap_or ruling rule.Changed
+    ≡ (execute_unless ruling client path).answer.ruling
+execute_ruling None client path = refl
+execute_ruling (Some ruling) client path = refl
 
-delete_code : (code : Option Code) (client : Client) (path : Path) → unwrap_or code Deleted
-    ≡ (delete_unless code client path).answer.code
-delete_code None client path = refl
-delete_code (Some code) client path = refl
+delete_ruling : (ruling : Option Ruling) (client : Client) (path : Path) → unwrap_or ruling rule.Deleted
+    ≡ (delete_unless ruling client path).answer.ruling
+delete_ruling None client path = refl
+delete_ruling (Some ruling) client path = refl
 
 create_says : (a b c d e room : Bool) (client : Client) (server o : ℕ) (new : Option Newborn)
-    → let lines : List (Bool × Code) =
-    (a, Unauthorized) ∷ (b, NotFound) ∷ (c, Unauthorized) ∷ (d, MethodNotAllowed) ∷ (e, UnsupportedContentFormat)
-    ∷ (not (is_some new), BadRequest) ∷ (room, InternalServerError) ∷ [] in
-    Says (create_unless (first_line lines) client server o new).answer (lines ++ (true, Created) ∷ [])
+    → let lines : List (Bool × Ruling) =
+    (a, rule.Security) ∷ (b, rule.Target) ∷ (c, rule.Right) ∷ (d, rule.Operation) ∷ (e, rule.ContentFormat)
+    ∷ (not (is_some new), rule.Payload) ∷ (room, rule.Limit) ∷ [] in
+    Says (create_unless (first_line lines) client server o new).answer (lines ++ (true, rule.Created) ∷ [])
 create_says true b c d e room client server o new = refl
 create_says false true c d e room client server o new = refl
 create_says false false true d e room client server o new = refl
@@ -108,9 +105,9 @@ create_says false false false false false true client server o (Some n) = refl
 create_says false false false false false false client server o (Some n) = refl
 
 attributes_says : (a b c : Bool) (client : Client) (given : Option Numbers)
-    → let lines : List (Bool × Code) =
-    (a, Unauthorized) ∷ (b, NotFound) ∷ (c, Unauthorized) ∷ (not (is_some given), BadRequest) ∷ [] in
-    Says (annotate_unless (first_line lines) client given).answer (lines ++ (true, Changed) ∷ [])
+    → let lines : List (Bool × Ruling) =
+    (a, rule.Security) ∷ (b, rule.Target) ∷ (c, rule.Right) ∷ (not (is_some given), rule.Payload) ∷ [] in
+    Says (annotate_unless (first_line lines) client given).answer (lines ++ (true, rule.Changed) ∷ [])
 attributes_says true b c client given = refl
 attributes_says false true c client given = refl
 attributes_says false false true client given = refl
@@ -120,15 +117,15 @@ attributes_says false false false client (Some m) = refl
 discover_says : (client : Client) (server : ℕ) (path : Path)
     → Says (discover_answer client server path) (rules_of client server path to_discover)
 discover_says client server path =
-    ended (refusals_of client server path to_discover) Content
-    ∙ ap Some (refused_code (refusal_of client server path to_discover) 40 (discover_payload client server path))
+    ended (refusals_of client server path to_discover) rule.Content
+    ∙ ap Some (refused_ruling (refusal_of client server path to_discover) 40 (discover_payload client server path))
 
 write_says : (client : Client) (server : ℕ) (mode : Mode) (path : Path) (number : Option ℕ) (payload : List ℕ)
     → Says (write_outcome client server mode path number payload).answer
     (rules_of client server path (to_write mode number payload))
 write_says client server mode path number payload =
-    ended (refusals_of client server path (to_write mode number payload)) Changed
-    ∙ ap Some (write_code (refusal_of client server path (to_write mode number payload)) client
+    ended (refusals_of client server path (to_write mode number payload)) rule.Changed
+    ∙ ap Some (write_ruling (refusal_of client server path (to_write mode number payload)) client
     (after_write_with_event (mode_at mode path) client path (new_values client path number payload)
     (event_of path (new_values client path number payload))))
 
@@ -156,11 +153,11 @@ says_at client server m path Create =
     (not (is_tlv (content_format_of m.options))) (lacks_room client o new) client server o new
 says_at client server m path Execute =
     let purpose = to_execute (content_format_of m.options) m.payload in
-    ended (refusals_of client server path purpose) Changed
-    ∙ ap Some (execute_code (refusal_of client server path purpose) client path)
+    ended (refusals_of client server path purpose) rule.Changed
+    ∙ ap Some (execute_ruling (refusal_of client server path purpose) client path)
 says_at client server m path Delete =
-    ended (refusals_of client server path to_delete) Deleted
-    ∙ ap Some (delete_code (refusal_of client server path to_delete) client path)
+    ended (refusals_of client server path to_delete) rule.Deleted
+    ∙ ap Some (delete_ruling (refusal_of client server path to_delete) client path)
 
 says_by : (client : Client) (server : ℕ) (m : Message) (path : Path) (operation : Option Operation)
     → Says (outcome_for client server m (request_by m path operation)).answer
@@ -174,15 +171,15 @@ says_on client server m None = refl
 says_on client server m (Some path) =
     says_by client server m path (operation_of m.code (accept_of m.options) (has_query m.options) path)
 
-says_if : (b : Bool) (client : Client) (server : ℕ) (m : Message) (request : Result Request Code)
-    (lines : List (Bool × Code)) → Says (outcome_for client server m request).answer lines
-    → Says (outcome_for client server m (if b then Err BadOption else request)).answer ((b, BadOption) ∷ lines)
+says_if : (b : Bool) (client : Client) (server : ℕ) (m : Message) (request : Result Request Ruling)
+    (lines : List (Bool × Ruling)) → Says (outcome_for client server m request).answer lines
+    → Says (outcome_for client server m (if b then Err rule.Options else request)).answer ((b, rule.Options) ∷ lines)
 says_if true client server m request lines h = refl
 says_if false client server m request lines h = h
 
--- the answer's code is that of the first rule that holds
+-- the answer is that of the first rule that holds
 pub says : (client : Client) (server : ℕ) (m : Message) → first_line (request_lines client server m)
-    ≡ Some (outcome_of client server m).answer.code
+    ≡ Some (outcome_of client server m).answer.ruling
 says client server m =
     let path = path_of (segments_of m.options) in
     says_if (has_unrecognized_critical m.options) client server m (request_on m path)

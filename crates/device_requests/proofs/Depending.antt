@@ -34,8 +34,7 @@ use Rattle.access_control.specs.declared.letters.Rights.{Rights}
 use Rattle.lwm2m_payloads.specs.Nodes.{Pairs, instance_node, is_shown, nodes_of}
 use Rattle.lwm2m_payloads.specs.declared.format.Format.{Format}
 use Rattle.device_requests.specs.declared.answer.Answer.{Answer}
-use Rattle.device_requests.specs.declared.answer.Code.TheVariants.{Unauthorized, NotFound, MethodNotAllowed}
-use Rattle.device_requests.specs.declared.answer.Code.TheVariants.{NotAcceptable, InternalServerError}
+use Rattle.device_requests.specs.declared.ruling.Ruling.TheVariants as rule
 use Rattle.device_requests.specs.Access.{may_read, reads}
 use Rattle.device_requests.specs.Answer.{refused_or}
 use Rattle.device_requests.specs.Client.{Client, with_stored}
@@ -212,9 +211,9 @@ same_payload client stored server (Part o i r n) format c h =
 abbrev pub read_by : Client → Path → Option ℕ → Bool → Bool → List ℕ → Answer
 read_by client path accept exists_there may payload =
     let format = format_at client.catalog path accept in
-    refused_or (first_line ((object_in path == 0, Unauthorized) ∷ (not exists_there, NotFound)
-    ∷ (not may, Unauthorized) ∷ (not (can_be_read client.catalog path), MethodNotAllowed)
-    ∷ (not (is_some format), NotAcceptable) ∷ (is_oversized payload, InternalServerError) ∷ []))
+    refused_or (first_line ((object_in path == 0, rule.Security) ∷ (not exists_there, rule.Target)
+    ∷ (not may, rule.Right) ∷ (not (can_be_read client.catalog path), rule.Operation)
+    ∷ (not (is_some format), rule.Accept) ∷ (is_oversized payload, rule.Limit) ∷ []))
     (content_in format payload)
 
 pub same_answer : ReadsDependOnTheirValues

@@ -13,9 +13,8 @@ use Rattle.instance_store.specs.Stored.{instances_of}
 use Rattle.lwm2m_payloads.specs.Nodes.{instance_node, nodes_of}
 use Rattle.lwm2m_values.specs.Tree.{instance}
 use Rattle.device_requests.specs.declared.answer.Answer.{Answer}
-use Rattle.device_requests.specs.declared.answer.Code.{Code}
-use Rattle.device_requests.specs.declared.answer.Code.TheVariants.{Unauthorized, NotFound, MethodNotAllowed}
-use Rattle.device_requests.specs.declared.answer.Code.TheVariants.{NotAcceptable, InternalServerError}
+use Rattle.device_requests.specs.declared.ruling.Ruling.{Ruling}
+use Rattle.device_requests.specs.declared.ruling.Ruling.TheVariants as rule
 use Rattle.device_requests.specs.Access.{may_read, reads}
 use Rattle.device_requests.specs.Answer.{bare, refused_or}
 use Rattle.device_requests.specs.Hiding.{UnreadableIsHidden, UnreadableIsRefused}
@@ -24,20 +23,20 @@ use Rattle.device_requests.specs.Read.{content_in, format_at, read_payload}
 use Rattle.device_requests.specs.Refusals.{can_be_read, is_oversized}
 use Rattle.device_requests.specs.Targets.{exists, resources_defined}
 
-stopped : (a b s : Bool) (lines : List (Bool × Code)) (answer : Answer) → s ≡ false
-    → let said = refused_or (first_line ((a, Unauthorized) ∷ (b, NotFound) ∷ (not s, Unauthorized) ∷ lines)) answer in
-    (said ≡ bare Unauthorized) ⊎ (said ≡ bare NotFound)
+stopped : (a b s : Bool) (lines : List (Bool × Ruling)) (answer : Answer) → s ≡ false
+    → let said = refused_or (first_line ((a, rule.Security) ∷ (b, rule.Target) ∷ (not s, rule.Right) ∷ lines)) answer in
+    (said ≡ bare rule.Security) ⊎ ((said ≡ bare rule.Target) ⊎ (said ≡ bare rule.Right))
 stopped true b s lines answer h = inl refl
-stopped false true s lines answer h = inr refl
+stopped false true s lines answer h = inr (inl refl)
 stopped false false true lines answer h = cc
-stopped false false false lines answer h = inl refl
+stopped false false false lines answer h = inr (inr refl)
 
 pub refused : UnreadableIsRefused
 refused client server path accept h =
     stopped (object_in path == 0) (not (exists client.catalog client.store path)) (may_read client server path)
-    ((not (can_be_read client.catalog path), MethodNotAllowed)
-    ∷ (not (is_some (format_at client.catalog path accept)), NotAcceptable)
-    ∷ (is_oversized (read_payload client server path accept), InternalServerError) ∷ [])
+    ((not (can_be_read client.catalog path), rule.Operation)
+    ∷ (not (is_some (format_at client.catalog path accept)), rule.Accept)
+    ∷ (is_oversized (read_payload client server path accept), rule.Limit) ∷ [])
     (content_in (format_at client.catalog path accept) (read_payload client server path accept)) h
 
 -- maps that agree on what passes
@@ -58,9 +57,9 @@ answer_with client o accept may payload =
     let format = format_at client.catalog (Object o) accept in
     let shown = unwrap_or (option_map (λ f. payload) format) [] in
     refused_or (first_line (
-    (o == 0, Unauthorized) ∷ (not (is_some (object_of client.catalog o)), NotFound) ∷ (not may, Unauthorized)
-    ∷ (false, MethodNotAllowed)
-    ∷ (not (is_some format), NotAcceptable) ∷ (is_oversized shown, InternalServerError) ∷ []))
+    (o == 0, rule.Security) ∷ (not (is_some (object_of client.catalog o)), rule.Target) ∷ (not may, rule.Right)
+    ∷ (false, rule.Operation)
+    ∷ (not (is_some format), rule.Accept) ∷ (is_oversized shown, rule.Limit) ∷ []))
     (content_in format shown)
 
 abbrev payload_with : ℕ → List ℕ → (ℕ → Bool) → (ℕ → Tree) → List ℕ

@@ -6,8 +6,6 @@ use Rattle.instance_store.specs.Stored.{Stored}
 use Rattle.object_defs.specs.declared.path.Path.{Path}
 use Rattle.lwm2m_payloads.specs.declared.given.Mode.{Mode}
 use Rattle.lwm2m_payloads.specs.declared.given.Mode.TheVariants.{Replace, Update}
-use Rattle.device_requests.specs.declared.answer.Code.{Code}
-use Rattle.device_requests.specs.declared.answer.Code.TheVariants.{BadOption}
 use Rattle.device_requests.specs.declared.operation.Operation.{Operation}
 use Rattle.device_requests.specs.declared.operation.Operation.TheVariants.{Read, Discover, WriteAttributes}
 use Rattle.device_requests.specs.declared.operation.Operation.TheVariants.{WriteReplace, WritePartial, Create, Execute}
@@ -18,6 +16,8 @@ use Rattle.device_requests.specs.WriteAttributes.{annotate_unless, attributes_gi
 use Rattle.device_requests.specs.Client.{Client}
 use Rattle.object_defs.specs.Path.{object_in}
 use Rattle.device_requests.specs.declared.create.Newborn.{Newborn}
+use Rattle.device_requests.specs.declared.ruling.Ruling.{Ruling}
+use Rattle.device_requests.specs.declared.ruling.Ruling.TheVariants as rule
 use Rattle.device_requests.specs.Create.{create_unless, newborn}
 use Rattle.device_requests.specs.Delete.{delete_unless}
 use Rattle.device_requests.specs.Execute.{execute_unless}
@@ -30,10 +30,10 @@ use Rattle.device_requests.specs.Request.{outcome_at, outcome_for, outcome_of, r
 use Rattle.device_requests.specs.Write.{after_write_with_event, event_of, mode_at, new_values, write_unless}
 use Rattle.device_requests.specs.Laws.{KeepsFrame}
 
-unless_keeps : (code : Option Code) (client : Client) (stored : Stored)
-    → KeepsFrame client (write_unless code client stored).client
+unless_keeps : (ruling : Option Ruling) (client : Client) (stored : Stored)
+    → KeepsFrame client (write_unless ruling client stored).client
 unless_keeps None client stored = record { accounts = refl; catalog = refl }
-unless_keeps (Some code) client stored = record { accounts = refl; catalog = refl }
+unless_keeps (Some ruling) client stored = record { accounts = refl; catalog = refl }
 
 same : (client : Client) → KeepsFrame client client
 same client = record { accounts = refl; catalog = refl }
@@ -45,27 +45,27 @@ write_keeps client server mode path number payload =
     (after_write_with_event (mode_at mode path) client path (new_values client path number payload)
     (event_of path (new_values client path number payload)))
 
-create_keeps : (code : Option Code) (client : Client) (server o : ℕ) (new : Option Newborn)
-    → KeepsFrame client (create_unless code client server o new).client
+create_keeps : (ruling : Option Ruling) (client : Client) (server o : ℕ) (new : Option Newborn)
+    → KeepsFrame client (create_unless ruling client server o new).client
 create_keeps None client server o None = record { accounts = refl; catalog = refl }
 create_keeps None client server o (Some n) = record { accounts = refl; catalog = refl }
-create_keeps (Some code) client server o new = record { accounts = refl; catalog = refl }
+create_keeps (Some ruling) client server o new = record { accounts = refl; catalog = refl }
 
-execute_keeps : (code : Option Code) (client : Client) (path : Path)
-    → KeepsFrame client (execute_unless code client path).client
+execute_keeps : (ruling : Option Ruling) (client : Client) (path : Path)
+    → KeepsFrame client (execute_unless ruling client path).client
 execute_keeps None client path = record { accounts = refl; catalog = refl }
-execute_keeps (Some code) client path = record { accounts = refl; catalog = refl }
+execute_keeps (Some ruling) client path = record { accounts = refl; catalog = refl }
 
-delete_keeps : (code : Option Code) (client : Client) (path : Path)
-    → KeepsFrame client (delete_unless code client path).client
+delete_keeps : (ruling : Option Ruling) (client : Client) (path : Path)
+    → KeepsFrame client (delete_unless ruling client path).client
 delete_keeps None client path = record { accounts = refl; catalog = refl }
-delete_keeps (Some code) client path = record { accounts = refl; catalog = refl }
+delete_keeps (Some ruling) client path = record { accounts = refl; catalog = refl }
 
-attributes_keep : (code : Option Code) (client : Client) (given : Option Numbers)
-    → KeepsFrame client (annotate_unless code client given).client
+attributes_keep : (ruling : Option Ruling) (client : Client) (given : Option Numbers)
+    → KeepsFrame client (annotate_unless ruling client given).client
 attributes_keep None client None = record { accounts = refl; catalog = refl }
 attributes_keep None client (Some m) = record { accounts = refl; catalog = refl }
-attributes_keep (Some code) client given = record { accounts = refl; catalog = refl }
+attributes_keep (Some ruling) client given = record { accounts = refl; catalog = refl }
 
 keeps_at : (client : Client) (server : ℕ) (m : Message) (path : Path) (operation : Operation)
     → KeepsFrame client (outcome_at client server m (request_with m path operation)).client
@@ -97,9 +97,9 @@ keeps_on client server m None = same client
 keeps_on client server m (Some path) =
     keeps_by client server m path (operation_of m.code (accept_of m.options) (has_query m.options) path)
 
-keeps_if : (b : Bool) (client : Client) (server : ℕ) (m : Message) (request : Result Request Code)
+keeps_if : (b : Bool) (client : Client) (server : ℕ) (m : Message) (request : Result Request Ruling)
     → KeepsFrame client (outcome_for client server m request).client
-    → KeepsFrame client (outcome_for client server m (if b then Err BadOption else request)).client
+    → KeepsFrame client (outcome_for client server m (if b then Err rule.Options else request)).client
 keeps_if true client server m request k = same client
 keeps_if false client server m request k = k
 

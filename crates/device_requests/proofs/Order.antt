@@ -2,17 +2,17 @@
 use Rattle.std.proofs.Common.{◌≡◌, ℕ, Bool, true, false, cond, ◌==◌, List, [], ◌∷◌, Option, None, Some}
 use Rattle.std.proofs.Common.{Err, inl, inr, refl, sym, ap, ◌∙◌}
 use Rattle.std.specs.Bool.{if◌then◌else◌}
-use Rattle.std.proofs.lemmas.Bool.{ne_eqb, or_left, or_right}
+use Rattle.std.proofs.lemmas.Bool.{ne_eqb}
 use Rattle.coap_codec.specs.Message.{Message}
 use Rattle.object_defs.specs.Lines.{first_line}
 use Rattle.object_defs.specs.Path.{object_in}
 use Rattle.object_defs.specs.declared.path.Path.{Path}
-use Rattle.device_requests.specs.declared.answer.Code.{Code}
-use Rattle.device_requests.specs.declared.answer.Code.TheVariants.{BadRequest, Unauthorized, BadOption, NotFound}
-use Rattle.device_requests.specs.declared.answer.Code.TheVariants.{MethodNotAllowed, InternalServerError}
 use Rattle.device_requests.specs.declared.observe.Interest.{Interest}
 use Rattle.device_requests.specs.declared.operation.Operation.{Operation}
 use Rattle.device_requests.specs.declared.operation.Operation.TheVariants.{Read}
+use Rattle.device_requests.specs.declared.ruling.Ruling.{Ruling}
+use Rattle.device_requests.specs.declared.ruling.Ruling.TheVariants as rule
+use Rattle.device_requests.specs.declared.answer.Code.TheVariants.{Unauthorized}
 use Rattle.device_requests.specs.Client.{Client}
 use Rattle.device_requests.specs.Laws.{IsAmong, lines_by, lines_on, request_lines}
 use Rattle.device_requests.specs.Observe.{interest_for}
@@ -23,10 +23,11 @@ use Rattle.device_requests.specs.Order.{OnlyReadsObserve, OperationsPrecedeForma
 use Rattle.device_requests.specs.Order.{PathsPrecedeMethods, PayloadsPrecedeStates, RefusalsHaveReasons}
 use Rattle.device_requests.specs.Order.{RightsPrecedeOperations, SecurityPrecedesTargets, TargetsPrecedeRights}
 use Rattle.device_requests.specs.Order.{has_reason}
-use Rattle.device_requests.specs.Refusals.{Purpose, done_code, format_refusal, is_invalid, is_out_of_turn, is_too_much}
+use Rattle.device_requests.specs.Refusals.{Purpose, done_ruling, format_ruling, is_invalid, is_out_of_turn, is_too_much}
 use Rattle.device_requests.specs.Refusals.{lacks_format, lacks_operation, lacks_right, lacks_target, rules_of}
 use Rattle.device_requests.specs.Refusals.{to_create, to_delete, to_discover, to_read}
 use Rattle.device_requests.specs.Request.{outcome_of, purpose_of, request_by, request_on}
+use Rattle.device_requests.specs.Ruling.{code_of}
 use Rattle.device_requests.proofs.Answering.{says}
 
 -- the rules of a request whose options are understood
@@ -34,7 +35,7 @@ when_understood : (client : Client) (server : ℕ) (m : Message) → has_unrecog
     → first_line (request_lines client server m)
     ≡ first_line (lines_on client server m (path_of (segments_of m.options)))
 when_understood client server m h =
-    ap (λ (b : Bool). first_line ((b, BadOption) ∷ lines_on client server m (path_of (segments_of m.options)))) h
+    ap (λ (b : Bool). first_line ((b, rule.Options) ∷ lines_on client server m (path_of (segments_of m.options)))) h
 
 -- those of one whose Uri-Path is this path
 addressed : (client : Client) (server : ℕ) (m : Message) (path : Path) → has_unrecognized_critical m.options ≡ false
@@ -51,54 +52,55 @@ one_table client server m path operation asks =
     ∙ ap (λ (o : Option Operation). first_line (lines_by client server m path o)) asks.means)
     ∙ says client server m
 
-told : (said code : Code) → Some said ≡ Some code → said ≡ code
-told said code h = cc
+told : (said ruling : Ruling) → Some said ≡ Some ruling → said ≡ ruling
+told said ruling h = cc
 
 pub options_first : OptionsComeFirst
 options_first client server m h =
-    sym (told BadOption (outcome_of client server m).answer.code
-    (sym (ap (λ (b : Bool). first_line ((b, BadOption)
+    sym (told rule.Options (outcome_of client server m).answer.ruling
+    (sym (ap (λ (b : Bool). first_line ((b, rule.Options)
     ∷ lines_on client server m (path_of (segments_of m.options)))) h)
     ∙ says client server m))
 
 pub paths_second : PathsPrecedeMethods
 paths_second client server m h k =
-    sym (told NotFound (outcome_of client server m).answer.code
+    sym (told rule.NoPath (outcome_of client server m).answer.ruling
     (sym (when_understood client server m h ∙ ap (λ (p : Option Path). first_line (lines_on client server m p)) k)
     ∙ says client server m))
 
 pub methods_third : MethodsPrecedeObjects
 methods_third client server m path h k o =
-    sym (told MethodNotAllowed (outcome_of client server m).answer.code
+    sym (told rule.Method (outcome_of client server m).answer.ruling
     (sym (addressed client server m path h k
     ∙ ap (λ (none : Option Operation). first_line (lines_by client server m path none)) o)
     ∙ says client server m))
 
--- what the rules from object 0 to the payload say of the code of an answer
-record IsOrdered (a b c d e f : Bool) (format code : Code) : Type 0 where
-  security : a ≡ true → code ≡ Unauthorized
-  target : a ≡ false → b ≡ true → code ≡ NotFound
-  right : b ≡ false → c ≡ true → code ≡ Unauthorized
-  operation : d ≡ true → IsAmong code (Unauthorized ∷ NotFound ∷ MethodNotAllowed ∷ [])
-  served : e ≡ true → IsAmong code (Unauthorized ∷ NotFound ∷ MethodNotAllowed ∷ format ∷ [])
-  payload : d ≡ false → f ≡ true → IsAmong code (Unauthorized ∷ NotFound ∷ format ∷ BadRequest ∷ [])
+-- what the rules from object 0 to the payload say of the rule of an answer
+record IsOrdered (a b c d e f : Bool) (format ruling : Ruling) : Type 0 where
+  security : a ≡ true → ruling ≡ rule.Security
+  target : a ≡ false → b ≡ true → ruling ≡ rule.Target
+  right : b ≡ false → c ≡ true → code_of ruling ≡ Unauthorized
+  operation : d ≡ true → IsAmong ruling (rule.Security ∷ rule.Target ∷ rule.Right ∷ rule.Operation ∷ [])
+  served : e ≡ true → IsAmong ruling (rule.Security ∷ rule.Target ∷ rule.Right ∷ rule.Operation ∷ format ∷ [])
+  payload : d ≡ false → f ≡ true
+      → IsAmong ruling (rule.Security ∷ rule.Target ∷ rule.Right ∷ format ∷ rule.Payload ∷ [])
 
-ordered : (a b c d e f : Bool) (format code : Code) (lines : List (Bool × Code))
-    → first_line ((a, Unauthorized) ∷ (b, NotFound) ∷ (c, Unauthorized) ∷ (d, MethodNotAllowed) ∷ (e, format)
-    ∷ (f, BadRequest) ∷ lines) ≡ Some code
-    → IsOrdered a b c d e f format code
-ordered true b c d e f format code lines h =
-    let is = told Unauthorized code h in
+ordered : (a b c d e f : Bool) (format ruling : Ruling) (lines : List (Bool × Ruling))
+    → first_line ((a, rule.Security) ∷ (b, rule.Target) ∷ (c, rule.Right) ∷ (d, rule.Operation) ∷ (e, format)
+    ∷ (f, rule.Payload) ∷ lines) ≡ Some ruling
+    → IsOrdered a b c d e f format ruling
+ordered true b c d e f format ruling lines h =
+    let is = told rule.Security ruling h in
     record {
       security = λ p. sym is;
       target = λ p q. cc;
-      right = λ p q. sym is;
+      right = λ p q. sym (ap code_of is);
       operation = λ p. inl is;
       served = λ p. inl is;
       payload = λ p q. inl is;
     }
-ordered false true c d e f format code lines h =
-    let is = told NotFound code h in
+ordered false true c d e f format ruling lines h =
+    let is = told rule.Target ruling h in
     record {
       security = λ p. cc;
       target = λ p q. sym is;
@@ -107,47 +109,47 @@ ordered false true c d e f format code lines h =
       served = λ p. inr (inl is);
       payload = λ p q. inr (inl is);
     }
-ordered false false true d e f format code lines h =
-    let is = told Unauthorized code h in
+ordered false false true d e f format ruling lines h =
+    let is = told rule.Right ruling h in
     record {
       security = λ p. cc;
       target = λ p q. cc;
-      right = λ p q. sym is;
-      operation = λ p. inl is;
-      served = λ p. inl is;
-      payload = λ p q. inl is;
+      right = λ p q. sym (ap code_of is);
+      operation = λ p. inr (inr (inl is));
+      served = λ p. inr (inr (inl is));
+      payload = λ p q. inr (inr (inl is));
     }
-ordered false false false true e f format code lines h =
-    let is = told MethodNotAllowed code h in
+ordered false false false true e f format ruling lines h =
+    let is = told rule.Operation ruling h in
     record {
       security = λ p. cc;
       target = λ p q. cc;
       right = λ p q. cc;
-      operation = λ p. inr (inr (inl is));
-      served = λ p. inr (inr (inl is));
+      operation = λ p. inr (inr (inr (inl is)));
+      served = λ p. inr (inr (inr (inl is)));
       payload = λ p q. cc;
     }
-ordered false false false false true f format code lines h =
-    let is = told format code h in
+ordered false false false false true f format ruling lines h =
+    let is = told format ruling h in
     record {
       security = λ p. cc;
       target = λ p q. cc;
       right = λ p q. cc;
       operation = λ p. cc;
-      served = λ p. inr (inr (inr (inl is)));
-      payload = λ p q. inr (inr (inl is));
+      served = λ p. inr (inr (inr (inr (inl is))));
+      payload = λ p q. inr (inr (inr (inl is)));
     }
-ordered false false false false false true format code lines h =
-    let is = told BadRequest code h in
+ordered false false false false false true format ruling lines h =
+    let is = told rule.Payload ruling h in
     record {
       security = λ p. cc;
       target = λ p q. cc;
       right = λ p q. cc;
       operation = λ p. cc;
       served = λ p. cc;
-      payload = λ p q. inr (inr (inr (inl is)));
+      payload = λ p q. inr (inr (inr (inr (inl is))));
     }
-ordered false false false false false false format code lines h =
+ordered false false false false false false format ruling lines h =
     record {
       security = λ p. cc;
       target = λ p q. cc;
@@ -161,14 +163,14 @@ order : (client : Client) (server : ℕ) (m : Message) (path : Path) (operation 
     → let purpose = purpose_of m operation in
     IsOrdered (object_in path == 0) (lacks_target client path purpose) (lacks_right client server path purpose)
     (lacks_operation client.catalog path purpose) (lacks_format client.catalog path purpose)
-    (is_invalid client server path purpose) (format_refusal purpose) (outcome_of client server m).answer.code
+    (is_invalid client server path purpose) (format_ruling purpose) (outcome_of client server m).answer.ruling
 order client server m path operation asks =
     let purpose = purpose_of m operation in
     ordered (object_in path == 0) (lacks_target client path purpose) (lacks_right client server path purpose)
     (lacks_operation client.catalog path purpose) (lacks_format client.catalog path purpose)
-    (is_invalid client server path purpose) (format_refusal purpose) (outcome_of client server m).answer.code
-    ((is_out_of_turn client path purpose, MethodNotAllowed)
-    ∷ (is_too_much client server path purpose, InternalServerError) ∷ (true, done_code purpose) ∷ [])
+    (is_invalid client server path purpose) (format_ruling purpose) (outcome_of client server m).answer.ruling
+    ((is_out_of_turn client path purpose, rule.State)
+    ∷ (is_too_much client server path purpose, rule.Limit) ∷ (true, done_ruling purpose) ∷ [])
     (one_table client server m path operation asks)
 
 pub security_fourth : SecurityPrecedesTargets
@@ -191,30 +193,30 @@ formats_eighth client server m path operation asks h = (order client server m pa
 pub payloads_ninth : PayloadsPrecedeStates
 payloads_ninth client server m path operation asks h k = (order client server m path operation asks).payload h k
 
--- where a rule holds, its code has this property
-abbrev Each : (Code → Bool) → List (Bool × Code) → Type 0
+-- where a rule holds, it has this property
+abbrev Each : (Ruling → Bool) → List (Bool × Ruling) → Type 0
 Each p [] = Unit {0}
 Each p (line ∷ lines) = (line.0 ≡ true → p line.1 ≡ true) × Each p lines
 
--- so has the code that the rules give
-each_told : (p : Code → Bool) (lines : List (Bool × Code)) (code : Code) → Each p lines
-    → first_line lines ≡ Some code → p code ≡ true
-each_told p [] code e h = cc
-each_told p (line ∷ lines) code e h =
-    elim line.0 as (λ b. (b ≡ true → p line.1 ≡ true) → cond b (Some line.1) (first_line lines) ≡ Some code
-    → p code ≡ true) [
-      | true ↦ λ k said. sym (ap p (told line.1 code said)) ∙ k refl
-      | false ↦ λ k said. each_told p lines code e.1 said
+-- so has the first that holds
+each_told : (p : Ruling → Bool) (lines : List (Bool × Ruling)) (ruling : Ruling) → Each p lines
+    → first_line lines ≡ Some ruling → p ruling ≡ true
+each_told p [] ruling e h = cc
+each_told p (line ∷ lines) ruling e h =
+    elim line.0 as (λ b. (b ≡ true → p line.1 ≡ true) → cond b (Some line.1) (first_line lines) ≡ Some ruling
+    → p ruling ≡ true) [
+      | true ↦ λ k said. sym (ap p (told line.1 ruling said)) ∙ k refl
+      | false ↦ λ k said. each_told p lines ruling e.1 said
     ] e.0 h
 
 format_reason : (client : Client) (server : ℕ) (path : Path) (purpose : Purpose)
     → lacks_format client.catalog path purpose ≡ true
-    → has_reason client server path purpose (format_refusal purpose) ≡ true
+    → has_reason client server path purpose (format_ruling purpose) ≡ true
 format_reason client server path (to_read accept) h = h
 format_reason client server path purpose h = h
 
 done_reason : (client : Client) (server : ℕ) (path : Path) (purpose : Purpose)
-    → has_reason client server path purpose (done_code purpose) ≡ true
+    → has_reason client server path purpose (done_ruling purpose) ≡ true
 done_reason client server path (to_read accept) = refl
 done_reason client server path to_discover = refl
 done_reason client server path (to_create format payload) = refl
@@ -224,32 +226,11 @@ done_reason client server path purpose = refl
 pub reasons : RefusalsHaveReasons
 reasons client server m path operation asks =
     let purpose = purpose_of m operation in
+    let format = format_reason client server path purpose in
+    let done = done_reason client server path purpose in
     each_told (has_reason client server path purpose) (rules_of client server path purpose)
-    (outcome_of client server m).answer.code (
-      or_left (object_in path == 0) (lacks_right client server path purpose),
-      (
-        (λ h. h),
-        (
-          or_right (object_in path == 0) (lacks_right client server path purpose),
-          (
-            or_left (lacks_operation client.catalog path purpose) (is_out_of_turn client path purpose),
-            (
-              format_reason client server path purpose,
-              (
-                (λ h. h),
-                (
-                  or_right (lacks_operation client.catalog path purpose) (is_out_of_turn client path purpose),
-                  (
-                    (λ h. h),
-                    ((λ h. done_reason client server path purpose), tt),
-                  ),
-                ),
-              ),
-            ),
-          ),
-        ),
-      ),
-    )
+    (outcome_of client server m).answer.ruling
+    ((λ h. h), ((λ h. h), ((λ h. h), ((λ h. h), (format, ((λ h. h), ((λ h. h), ((λ h. h), ((λ h. done), tt)))))))))
     (one_table client server m path operation asks)
 
 reading : (m : Message) (path : Path) (interest : Interest) (operation : Option Operation)
@@ -264,7 +245,7 @@ reading m path interest (Some operation) e f g h = cc
 
 observing : (m : Message) (interest : Interest) (b : Bool) (path : Option Path)
     → has_unrecognized_critical m.options ≡ b → path_of (segments_of m.options) ≡ path
-    → interest_for (if b then Err BadOption else request_on m path) ≡ Some interest
+    → interest_for (if b then Err rule.Options else request_on m path) ≡ Some interest
     → AsksToRead m
 observing m interest true path e f h = cc
 observing m interest false None e f h = cc

@@ -16,7 +16,8 @@ use Rattle.instance_store.specs.Stored.{Stored, value_at, has_instance, is_full,
 use Rattle.device_instances.specs.Numbers.{instance_at, number_for}
 use Rattle.device_instances.proofs.Found.{found_free}
 use Rattle.lwm2m_payloads.proofs.Apart.{none_held}
-use Rattle.device_requests.specs.declared.answer.Code.{Code}
+use Rattle.device_requests.specs.declared.ruling.Ruling.{Ruling}
+use Rattle.device_requests.specs.declared.ruling.Ruling.TheVariants as rule
 use Rattle.device_requests.specs.Refusals.{is_target, refusal_of, refusals_of, to_delete, to_execute}
 use Rattle.device_requests.specs.Targets.{exists, place_of, resource_place, is_multiple}
 use Rattle.device_requests.specs.Client.{Client}
@@ -45,11 +46,11 @@ target_has catalog stored (Part o i r n) h =
     (and_parts (is_multiple (definition_of catalog o r)) (has_instance stored (place_of o i)) h).1
 
 -- no rule holds
-abbrev NoneHolds : List (Bool × Code) → Type 0
+abbrev NoneHolds : List (Bool × Ruling) → Type 0
 NoneHolds [] = Unit {0}
 NoneHolds (rule ∷ rules) = (rule.0 ≡ false) × NoneHolds rules
 
-none_holds : (rules : List (Bool × Code)) → first_line rules ≡ None → NoneHolds rules
+none_holds : (rules : List (Bool × Ruling)) → first_line rules ≡ None → NoneHolds rules
 none_holds [] h = tt
 none_holds (rule ∷ rules) h =
     elim rule.0 as (λ b. cond b (Some rule.1) (first_line rules) ≡ None → (b ≡ false) × NoneHolds rules) [

@@ -37,11 +37,10 @@ use Rattle.lwm2m_payloads.specs.declared.fault.PayloadFault.{PayloadFault}
 use Rattle.lwm2m_payloads.specs.declared.fault.RecordFault.{RecordFault}
 use Rattle.lwm2m_payloads.specs.declared.fault.RecordFault.TheVariants.{Form, Number}
 use Rattle.lwm2m_payloads.specs.Nodes.{value_payload}
+use Rattle.device_requests.specs.declared.ruling.Ruling.TheVariants as rule
+use Rattle.device_requests.specs.declared.answer.Code.TheVariants.{Changed}
 use Rattle.device_requests.specs.declared.write.NewValues.{NewValues}
 use Rattle.device_requests.specs.declared.write.NewValues.TheVariants.{One}
-use Rattle.device_requests.specs.declared.answer.Code.TheVariants.{Changed, Unauthorized, NotFound, MethodNotAllowed}
-use Rattle.device_requests.specs.declared.answer.Code.TheVariants.{NotAcceptable, UnsupportedContentFormat, BadRequest}
-use Rattle.device_requests.specs.declared.answer.Code.TheVariants.{InternalServerError}
 use Rattle.device_requests.specs.Access.{may_read, rights_on}
 use Rattle.device_requests.specs.Answer.{Outcome, bare, refused_or}
 use Rattle.object_defs.specs.Lines.{first_line}
@@ -50,6 +49,7 @@ use Rattle.device_requests.specs.Read.{content_in, format_at, payload_in, read_p
 use Rattle.device_requests.specs.Refusals.{can_be_written, is_oversized, is_refused_now, is_target, unless_taken}
 use Rattle.device_requests.specs.Client.{Client, with_stored}
 use Rattle.device_requests.specs.Targets.{is_readable, place_of, resource_place}
+use Rattle.device_requests.specs.Ruling.{code_of}
 use Rattle.device_requests.specs.Write.{after_write_with_event, event_of, exceeds, values_given, given_to_resource}
 use Rattle.device_requests.specs.Write.{resource_written, new_values, write_unless, after_write}
 use Rattle.device_requests.specs.Laws.{IsReadBack, WrittenIsRead, content_within}
@@ -112,9 +112,9 @@ record Passes (a b format values : Bool) (done : Outcome) (stored : Stored) : Ty
   store : done.client.store ≡ stored
 
 passes : (a b w c f g x : Bool) (client : Client) (stored : Stored)
-    → let done = write_unless (first_line ((a, Unauthorized) ∷ (b, NotFound) ∷ (w, Unauthorized) ∷ (c, MethodNotAllowed)
-    ∷ (f, UnsupportedContentFormat) ∷ (g, BadRequest) ∷ (x, InternalServerError) ∷ [])) client stored in
-    done.answer.code ≡ Changed → Passes a b f g done stored
+    → let done = write_unless (first_line ((a, rule.Security) ∷ (b, rule.Target) ∷ (w, rule.Right) ∷ (c, rule.Operation)
+    ∷ (f, rule.ContentFormat) ∷ (g, rule.Payload) ∷ (x, rule.Limit) ∷ [])) client stored in
+    code_of done.answer.ruling ≡ Changed → Passes a b f g done stored
 passes true b w c f g x client stored h = cc
 passes false true w c f g x client stored h = cc
 passes false false true c f g x client stored h = cc
@@ -127,16 +127,16 @@ passes false false false false false false false client stored h =
 
 -- by the rule of a payload's length
 by_length : (long : Bool) (format wanted : Format) (payload : List ℕ) → Some format ≡ Some wanted
-    → refused_or (if long then Some InternalServerError else None) (content_in (Some format) payload)
-    ≡ (if long then bare InternalServerError else content_in (Some wanted) payload)
+    → refused_or (if long then Some rule.Limit else None) (content_in (Some format) payload)
+    ≡ (if long then bare rule.Limit else content_in (Some wanted) payload)
 by_length true format wanted payload l = refl
 by_length false format wanted payload l = ap (λ (w : Option Format). content_in w payload) l
 
 -- no rule of a Read holds but that of its payload's length
 pub shown : (a b s c : Bool) (format : Option Format) (wanted : Format) (payload : List ℕ) → a ≡ false → b ≡ false
     → s ≡ false → c ≡ false → format ≡ Some wanted
-    → refused_or (first_line ((a, Unauthorized) ∷ (b, NotFound) ∷ (s, Unauthorized) ∷ (c, MethodNotAllowed)
-    ∷ (not (is_some format), NotAcceptable) ∷ (is_oversized payload, InternalServerError) ∷ []))
+    → refused_or (first_line ((a, rule.Security) ∷ (b, rule.Target) ∷ (s, rule.Right) ∷ (c, rule.Operation)
+    ∷ (not (is_some format), rule.Accept) ∷ (is_oversized payload, rule.Limit) ∷ []))
     (content_in format payload) ≡ content_within wanted payload
 shown true b s c format wanted payload h j m k l = cc
 shown false true s c format wanted payload h j m k l = cc
@@ -253,21 +253,21 @@ turned client server o i r number payload event =
     let path = Resource o i r in
     let values = new_values client path number payload in
     write_unless (first_line (
-    (o == 0, Unauthorized)
-    ∷ (not (is_target client.catalog client.store path), NotFound)
-    ∷ (not (rights_on client server path).write, Unauthorized)
-    ∷ (not (can_be_written client.catalog path), MethodNotAllowed)
-    ∷ (not (is_some (format_at client.catalog path number)), UnsupportedContentFormat)
-    ∷ (not (is_some values), BadRequest)
-    ∷ (is_refused_now client.store event, MethodNotAllowed)
-    ∷ (unless_taken event (exceeds Replace client.catalog client.store path values), InternalServerError)
+    (o == 0, rule.Security)
+    ∷ (not (is_target client.catalog client.store path), rule.Target)
+    ∷ (not (rights_on client server path).write, rule.Right)
+    ∷ (not (can_be_written client.catalog path), rule.Operation)
+    ∷ (not (is_some (format_at client.catalog path number)), rule.ContentFormat)
+    ∷ (not (is_some values), rule.Payload)
+    ∷ (is_refused_now client.store event, rule.State)
+    ∷ (unless_taken event (exceeds Replace client.catalog client.store path values), rule.Limit)
     ∷ [])) client (after_write_with_event Replace client path values event)
 
 pub read_back : WrittenIsRead
 read_back client server o i r d number payload defined alone readable other h =
     let path = Resource o i r in
     let values = new_values client path number payload in
-    subst (λ e. (turned client server o i r number payload e).answer.code ≡ Changed
+    subst (λ e. code_of (turned client server o i r number payload e).answer.ruling ≡ Changed
     → IsReadBack client o i r d number payload (turned client server o i r number payload e).client.store)
     (sym (no_event o i r values (ne_eqb o 5 other)))
     (λ done.

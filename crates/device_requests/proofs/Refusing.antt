@@ -5,8 +5,6 @@ use Rattle.coap_codec.specs.Message.{Message}
 use Rattle.instance_store.specs.Stored.{Stored}
 use Rattle.object_defs.specs.declared.path.Path.{Path}
 use Rattle.device_requests.specs.declared.answer.Answer.{Answer}
-use Rattle.device_requests.specs.declared.answer.Code.{Code}
-use Rattle.device_requests.specs.declared.answer.Code.TheVariants.{BadOption}
 use Rattle.device_requests.specs.declared.operation.Operation.{Operation}
 use Rattle.device_requests.specs.declared.operation.Operation.TheVariants.{Read, Discover, WriteAttributes}
 use Rattle.device_requests.specs.declared.operation.Operation.TheVariants.{WriteReplace, WritePartial, Create, Execute}
@@ -22,6 +20,8 @@ use Rattle.lwm2m_payloads.specs.declared.given.Mode.{Mode}
 use Rattle.lwm2m_payloads.specs.declared.given.Mode.TheVariants.{Replace, Update}
 use Rattle.object_defs.specs.Path.{object_in}
 use Rattle.device_requests.specs.declared.create.Newborn.{Newborn}
+use Rattle.device_requests.specs.declared.ruling.Ruling.{Ruling}
+use Rattle.device_requests.specs.declared.ruling.Ruling.TheVariants as rule
 use Rattle.device_requests.specs.Create.{create_unless, newborn}
 use Rattle.device_requests.specs.Delete.{delete_unless}
 use Rattle.device_requests.specs.Execute.{execute_unless}
@@ -32,18 +32,20 @@ use Rattle.device_requests.specs.Outcomes.{write_outcome}
 use Rattle.device_requests.specs.Refusals.{refusal_of, to_create, to_delete, to_discover, to_execute, to_read, to_write}
 use Rattle.device_requests.specs.Refusals.{to_write_attributes}
 use Rattle.device_requests.specs.Request.{outcome_at, outcome_for, outcome_of, request_by, request_on, request_with}
+use Rattle.device_requests.specs.Ruling.{code_of}
 use Rattle.device_requests.specs.Write.{after_write_with_event, event_of, mode_at, new_values, write_unless}
 use Rattle.device_requests.specs.Client.{Client}
 use Rattle.device_requests.specs.Laws.{RefusalIsCodeAlone, RefusalKeeps, is_refusal}
 
 -- a refusal is its code
 abbrev Keeps : Client → Outcome → Type 0
-Keeps client outcome = is_refusal outcome.answer.code ≡ true → outcome ≡ answer_alone client (bare outcome.answer.code)
+Keeps client outcome =
+    is_refusal (code_of outcome.answer.ruling) ≡ true → outcome ≡ answer_alone client (bare outcome.answer.ruling)
 
-unless_refused : (code : Option Code) (client : Client) (stored : Stored)
-    → Keeps client (write_unless code client stored)
+unless_refused : (ruling : Option Ruling) (client : Client) (stored : Stored)
+    → Keeps client (write_unless ruling client stored)
 unless_refused None client stored h = cc
-unless_refused (Some code) client stored h = refl
+unless_refused (Some ruling) client stored h = refl
 
 refused_write : (client : Client) (server : ℕ) (mode : Mode) (path : Path) (number : Option ℕ) (payload : List ℕ)
     → Keeps client (write_outcome client server mode path number payload)
@@ -52,36 +54,38 @@ refused_write client server mode path number payload =
     (after_write_with_event (mode_at mode path) client path (new_values client path number payload)
     (event_of path (new_values client path number payload)))
 
-refused_create : (code : Option Code) (client : Client) (server o : ℕ) (new : Option Newborn)
-    → Keeps client (create_unless code client server o new)
+refused_create : (ruling : Option Ruling) (client : Client) (server o : ℕ) (new : Option Newborn)
+    → Keeps client (create_unless ruling client server o new)
 refused_create None client server o None h = refl
 refused_create None client server o (Some n) h = cc
-refused_create (Some code) client server o new h = refl
+refused_create (Some ruling) client server o new h = refl
 
-refused_execute : (code : Option Code) (client : Client) (path : Path) → Keeps client (execute_unless code client path)
+refused_execute : (ruling : Option Ruling) (client : Client) (path : Path)
+    → Keeps client (execute_unless ruling client path)
 refused_execute None client path h = cc
-refused_execute (Some code) client path h = refl
+refused_execute (Some ruling) client path h = refl
 
-refused_delete : (code : Option Code) (client : Client) (path : Path) → Keeps client (delete_unless code client path)
+refused_delete : (ruling : Option Ruling) (client : Client) (path : Path)
+    → Keeps client (delete_unless ruling client path)
 refused_delete None client path h = cc
-refused_delete (Some code) client path h = refl
+refused_delete (Some ruling) client path h = refl
 
-refused_attributes : (code : Option Code) (client : Client) (given : Option Numbers)
-    → Keeps client (annotate_unless code client given)
+refused_attributes : (ruling : Option Ruling) (client : Client) (given : Option Numbers)
+    → Keeps client (annotate_unless ruling client given)
 refused_attributes None client None h = refl
 refused_attributes None client (Some m) h = cc
-refused_attributes (Some code) client given h = refl
+refused_attributes (Some ruling) client given h = refl
 
-refused_read : (code : Option Code) (client : Client) (format : Option Format) (payload : List ℕ)
-    → Keeps client (answer_alone client (refused_or code (content_in format payload)))
+refused_read : (ruling : Option Ruling) (client : Client) (format : Option Format) (payload : List ℕ)
+    → Keeps client (answer_alone client (refused_or ruling (content_in format payload)))
 refused_read None client None payload h = refl
 refused_read None client (Some format) payload h = cc
-refused_read (Some code) client format payload h = refl
+refused_read (Some ruling) client format payload h = refl
 
-refused_discover : (code : Option Code) (client : Client) (payload : List ℕ)
-    → Keeps client (answer_alone client (refused_or code (content 40 payload)))
+refused_discover : (ruling : Option Ruling) (client : Client) (payload : List ℕ)
+    → Keeps client (answer_alone client (refused_or ruling (content 40 payload)))
 refused_discover None client payload h = cc
-refused_discover (Some code) client payload h = refl
+refused_discover (Some ruling) client payload h = refl
 
 refused_at : (client : Client) (server : ℕ) (m : Message) (path : Path) (operation : Operation)
     → Keeps client (outcome_at client server m (request_with m path operation))
@@ -117,9 +121,9 @@ refused_on client server m None h = refl
 refused_on client server m (Some path) h =
     refused_by client server m path (operation_of m.code (accept_of m.options) (has_query m.options) path) h
 
-refused_if : (b : Bool) (client : Client) (server : ℕ) (m : Message) (request : Result Request Code)
+refused_if : (b : Bool) (client : Client) (server : ℕ) (m : Message) (request : Result Request Ruling)
     → Keeps client (outcome_for client server m request)
-    → Keeps client (outcome_for client server m (if b then Err BadOption else request))
+    → Keeps client (outcome_for client server m (if b then Err rule.Options else request))
 refused_if true client server m request k h = refl
 refused_if false client server m request k h = k h
 

@@ -21,23 +21,25 @@ use Rattle.device_requests.specs.Outcomes.{write_outcome}
 use Rattle.device_requests.specs.Refusals.{refusal_of, to_create, to_delete, to_execute, to_write}
 use Rattle.device_requests.specs.Refusals.{to_write_attributes}
 use Rattle.device_requests.specs.Request.{outcome_at, outcome_for, request_by, request_on, request_with}
+use Rattle.device_requests.specs.Ruling.{code_of}
 use Rattle.device_requests.specs.Write.{after_write_with_event, event_of, mode_at, new_values, write_unless}
 use Rattle.device_requests.specs.WriteAttributes.{annotate_unless, attributes_given}
-use Rattle.device_requests.specs.declared.answer.Code.{Code}
-use Rattle.device_requests.specs.declared.answer.Code.TheVariants.{BadOption}
 use Rattle.device_requests.specs.declared.operation.Operation.{Operation}
 use Rattle.device_requests.specs.declared.operation.Operation.TheVariants.{Read, Discover, WriteAttributes}
 use Rattle.device_requests.specs.declared.operation.Operation.TheVariants.{WriteReplace, WritePartial, Create, Execute}
 use Rattle.device_requests.specs.declared.operation.Operation.TheVariants.{Delete}
 use Rattle.device_requests.specs.declared.request.Request.{Request}
+use Rattle.device_requests.specs.declared.ruling.Ruling.{Ruling}
+use Rattle.device_requests.specs.declared.ruling.Ruling.TheVariants as rule
 use Rattle.device_requests.specs.Laws.{ChangesAreSaid}
 
 abbrev Keeps : Client → Outcome → Type 0
-Keeps client outcome = is_change outcome.answer.code ≡ false → outcome.client ≡ client
+Keeps client outcome = is_change (code_of outcome.answer.ruling) ≡ false → outcome.client ≡ client
 
-written : (code : Option Code) (client : Client) (stored : Stored) → Keeps client (write_unless code client stored)
+written : (ruling : Option Ruling) (client : Client) (stored : Stored)
+    → Keeps client (write_unless ruling client stored)
 written None client stored h = cc
-written (Some code) client stored h = refl
+written (Some ruling) client stored h = refl
 
 write : (client : Client) (server : ℕ) (mode : Mode) (path : Path) (number : Option ℕ) (payload : List ℕ)
     → Keeps client (write_outcome client server mode path number payload)
@@ -46,25 +48,25 @@ write client server mode path number payload =
     (after_write_with_event (mode_at mode path) client path (new_values client path number payload)
     (event_of path (new_values client path number payload)))
 
-created : (code : Option Code) (client : Client) (server o : ℕ) (new : Option Newborn)
-    → Keeps client (create_unless code client server o new)
+created : (ruling : Option Ruling) (client : Client) (server o : ℕ) (new : Option Newborn)
+    → Keeps client (create_unless ruling client server o new)
 created None client server o None h = refl
 created None client server o (Some n) h = cc
-created (Some code) client server o new h = refl
+created (Some ruling) client server o new h = refl
 
-executed : (code : Option Code) (client : Client) (path : Path) → Keeps client (execute_unless code client path)
+executed : (ruling : Option Ruling) (client : Client) (path : Path) → Keeps client (execute_unless ruling client path)
 executed None client path h = cc
-executed (Some code) client path h = refl
+executed (Some ruling) client path h = refl
 
-deleted : (code : Option Code) (client : Client) (path : Path) → Keeps client (delete_unless code client path)
+deleted : (ruling : Option Ruling) (client : Client) (path : Path) → Keeps client (delete_unless ruling client path)
 deleted None client path h = cc
-deleted (Some code) client path h = refl
+deleted (Some ruling) client path h = refl
 
-annotated : (code : Option Code) (client : Client) (given : Option Numbers)
-    → Keeps client (annotate_unless code client given)
+annotated : (ruling : Option Ruling) (client : Client) (given : Option Numbers)
+    → Keeps client (annotate_unless ruling client given)
 annotated None client None h = refl
 annotated None client (Some m) h = cc
-annotated (Some code) client given h = refl
+annotated (Some ruling) client given h = refl
 
 at_path : (client : Client) (server : ℕ) (m : Message) (path : Path) (operation : Operation)
     → Keeps client (outcome_at client server m (request_with m path operation))
@@ -96,9 +98,9 @@ by_path client server m None h = refl
 by_path client server m (Some path) h =
     by_operation client server m path (operation_of m.code (accept_of m.options) (has_query m.options) path) h
 
-by_options : (b : Bool) (client : Client) (server : ℕ) (m : Message) (request : Result Request Code)
+by_options : (b : Bool) (client : Client) (server : ℕ) (m : Message) (request : Result Request Ruling)
     → Keeps client (outcome_for client server m request)
-    → Keeps client (outcome_for client server m (if b then Err BadOption else request))
+    → Keeps client (outcome_for client server m (if b then Err rule.Options else request))
 by_options true client server m request k h = refl
 by_options false client server m request k h = k h
 

@@ -7,7 +7,7 @@ use Rattle.coap_codec.specs.declared.kind.Kind.TheVariants.{Con, Non, Ack, Rst}
 use Rattle.coap_codec.specs.Message.{Message}
 use Rattle.object_defs.specs.declared.path.Path.{Path}
 use Rattle.object_defs.specs.declared.path.Path.TheVariants.{Object, Instance, Resource, Part}
-use Rattle.device_requests.specs.declared.answer.Code.{Code}
+use Rattle.device_requests.specs.declared.ruling.Ruling.{Ruling}
 use Rattle.device_requests.specs.declared.operation.Operation.{Operation}
 use Rattle.device_requests.specs.declared.operation.Operation.TheVariants as operation
 use Rattle.device_requests.specs.declared.request.Request.{Request}
@@ -89,8 +89,8 @@ has_details d v m r =
 -- ---- messages
 
 -- a request that a message makes is the one that is asked for
-abbrev pub is_request : AskedRequest → Message → Result Request Code → Bool
-is_request asked m (Err code) = false
+abbrev pub is_request : AskedRequest → Message → Result Request Ruling → Bool
+is_request asked m (Err ruling) = false
 is_request asked m (Ok r) =
     is_path r.path asked.path && (is_verb asked.verb r.operation r.observe && has_details asked.details asked.verb m r)
 

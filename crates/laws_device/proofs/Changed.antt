@@ -23,7 +23,6 @@ use Rattle.device_requests.specs.Observe.{interest_for, interest_in, interest_of
 use Rattle.device_requests.specs.Order.{Asks}
 use Rattle.device_requests.specs.Request.{outcome_of, request_with}
 use Rattle.device_requests.specs.declared.answer.Answer.{Answer}
-use Rattle.device_requests.specs.declared.answer.Code.{Code}
 use Rattle.device_requests.specs.declared.observe.Interest.{Interest}
 use Rattle.device_requests.specs.declared.observe.Interest.TheVariants.{Cancel, Register}
 use Rattle.device_requests.specs.declared.operation.Operation.{Operation}
@@ -31,6 +30,7 @@ use Rattle.device_requests.specs.declared.operation.Operation.TheVariants.{Read,
 use Rattle.device_requests.specs.declared.operation.Operation.TheVariants.{WriteReplace, WritePartial, Create, Execute}
 use Rattle.device_requests.specs.declared.operation.Operation.TheVariants.{Delete}
 use Rattle.device_requests.specs.declared.request.Request.{Request}
+use Rattle.device_requests.specs.declared.ruling.Ruling.{Ruling}
 use Rattle.device_requests.proofs.ReadBack.{value_there}
 use Rattle.laws_requests.specs.Done.{Changes, DoneIsChanged}
 use Rattle.laws_requests.specs.Taken.{IsTaken}
@@ -127,7 +127,7 @@ asks_nothing : (m : Message) (path : Path) (operation : Operation) → Asks m pa
     → interest_of m ≡ None
 asks_nothing m path operation asks h =
     let r = request_with m path operation in
-    ap (λ (x : Result Request Code). interest_for x) (asked m path operation asks)
+    ap (λ (x : Result Request Ruling). interest_for x) (asked m path operation asks)
     ∙ ap (λ (b : Bool). if b then interest_in r.observe r.path r.accept else None) (not_read operation h)
 
 -- ---- a request

@@ -18,40 +18,40 @@ use Rattle.device_requests.specs.Refusals.{refusal_of, to_create, to_delete, to_
 use Rattle.device_requests.specs.Request.{outcome_at, outcome_for, outcome_of, request_by, request_on, request_with}
 use Rattle.device_requests.specs.Write.{write_unless}
 use Rattle.device_requests.specs.WriteAttributes.{annotate_unless, attributes_given}
-use Rattle.device_requests.specs.declared.answer.Code.{Code}
-use Rattle.device_requests.specs.declared.answer.Code.TheVariants.{BadOption}
 use Rattle.device_requests.specs.declared.operation.Operation.{Operation}
 use Rattle.device_requests.specs.declared.operation.Operation.TheVariants.{Read, Discover, WriteAttributes}
 use Rattle.device_requests.specs.declared.operation.Operation.TheVariants.{WriteReplace, WritePartial, Create, Execute}
 use Rattle.device_requests.specs.declared.operation.Operation.TheVariants.{Delete}
 use Rattle.device_requests.specs.declared.request.Request.{Request}
+use Rattle.device_requests.specs.declared.ruling.Ruling.{Ruling}
+use Rattle.device_requests.specs.declared.ruling.Ruling.TheVariants as rule
 
-unless_keeps : (code : Option Code) (client : Client) (stored : Stored)
-    → (write_unless code client stored).client.notify ≡ client.notify
+unless_keeps : (ruling : Option Ruling) (client : Client) (stored : Stored)
+    → (write_unless ruling client stored).client.notify ≡ client.notify
 unless_keeps None client stored = refl
-unless_keeps (Some code) client stored = refl
+unless_keeps (Some ruling) client stored = refl
 
-create_keeps : (code : Option Code) (client : Client) (server o : ℕ) (new : Option Newborn)
-    → (create_unless code client server o new).client.notify ≡ client.notify
+create_keeps : (ruling : Option Ruling) (client : Client) (server o : ℕ) (new : Option Newborn)
+    → (create_unless ruling client server o new).client.notify ≡ client.notify
 create_keeps None client server o None = refl
 create_keeps None client server o (Some n) = refl
-create_keeps (Some code) client server o new = refl
+create_keeps (Some ruling) client server o new = refl
 
-execute_keeps : (code : Option Code) (client : Client) (path : Path)
-    → (execute_unless code client path).client.notify ≡ client.notify
+execute_keeps : (ruling : Option Ruling) (client : Client) (path : Path)
+    → (execute_unless ruling client path).client.notify ≡ client.notify
 execute_keeps None client path = refl
-execute_keeps (Some code) client path = refl
+execute_keeps (Some ruling) client path = refl
 
-delete_keeps : (code : Option Code) (client : Client) (path : Path)
-    → (delete_unless code client path).client.notify ≡ client.notify
+delete_keeps : (ruling : Option Ruling) (client : Client) (path : Path)
+    → (delete_unless ruling client path).client.notify ≡ client.notify
 delete_keeps None client path = refl
-delete_keeps (Some code) client path = refl
+delete_keeps (Some ruling) client path = refl
 
-attributes_keep : (code : Option Code) (client : Client) (given : Option Numbers)
-    → (annotate_unless code client given).client.notify ≡ client.notify
+attributes_keep : (ruling : Option Ruling) (client : Client) (given : Option Numbers)
+    → (annotate_unless ruling client given).client.notify ≡ client.notify
 attributes_keep None client None = refl
 attributes_keep None client (Some m) = refl
-attributes_keep (Some code) client given = refl
+attributes_keep (Some ruling) client given = refl
 
 keeps_at : (client : Client) (server : ℕ) (m : Message) (path : Path) (operation : Operation)
     → (outcome_at client server m (request_with m path operation)).client.notify ≡ client.notify
@@ -81,9 +81,9 @@ keeps_on client server m None = refl
 keeps_on client server m (Some path) =
     keeps_by client server m path (operation_of m.code (accept_of m.options) (has_query m.options) path)
 
-keeps_if : (b : Bool) (client : Client) (server : ℕ) (m : Message) (request : Result Request Code)
+keeps_if : (b : Bool) (client : Client) (server : ℕ) (m : Message) (request : Result Request Ruling)
     → (outcome_for client server m request).client.notify ≡ client.notify
-    → (outcome_for client server m (if b then Err BadOption else request)).client.notify ≡ client.notify
+    → (outcome_for client server m (if b then Err rule.Options else request)).client.notify ≡ client.notify
 keeps_if true client server m request k = refl
 keeps_if false client server m request k = k
 

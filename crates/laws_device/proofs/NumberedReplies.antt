@@ -25,8 +25,8 @@ use Rattle.device_requests.specs.Request.{outcome_of, request_on}
 use Rattle.device_requests.specs.declared.answer.Act.{Act as Deed}
 use Rattle.device_requests.specs.declared.answer.Act.TheVariants.{Missed}
 use Rattle.device_requests.specs.declared.answer.Answer.{Answer}
-use Rattle.device_requests.specs.declared.answer.Code.TheVariants.{BadOption}
 use Rattle.device_requests.specs.declared.observe.Interest.{Interest}
+use Rattle.device_requests.specs.declared.ruling.Ruling.TheVariants as rule
 use Rattle.device_notifications.proofs.Turns.{first_of}
 use Rattle.device_machine.specs.Laws.{IsFresh}
 use Rattle.device_machine.specs.Observing.{noted_by, replies_non, reply_mid}
@@ -190,7 +190,7 @@ non_for_non kind h = (λ e. refl, λ e. ap replies_non h)
 
 asks_none : (m : Message) → has_unrecognized_critical m.options ≡ true → interest_of m ≡ None
 asks_none m u =
-    ap (λ b. interest_for (if b then Err BadOption else request_on m (path_of (segments_of m.options)))) u
+    ap (λ b. interest_for (if b then Err rule.Options else request_on m (path_of (segments_of m.options)))) u
 
 -- the observations that are left, the one that begins among them, were sent their last messages
 noted_sent : (before : List Output) (f : Machine) (k : DeviceState) (server : ℕ) (m : Message) (number : Option ℕ)

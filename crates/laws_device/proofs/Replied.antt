@@ -24,6 +24,7 @@ use Rattle.device_requests.specs.declared.answer.Act.{Act as Deed}
 use Rattle.device_machine.specs.Laws.{IsFresh}
 use Rattle.device_machine.specs.Observing.{noted_by}
 use Rattle.device_requests.specs.Observe.{interest_of}
+use Rattle.device_requests.specs.Ruling.{code_of}
 use Rattle.device_requests.specs.declared.observe.Interest.{Interest}
 use Rattle.device_machine.specs.Reactions.{Reaction, again, claimed_mid, claims_confirmable, flat_after, outputs_of_act}
 use Rattle.device_machine.specs.Reactions.{is_request, is_same, on_datagram, on_firmware, on_message, on_request}
@@ -55,7 +56,8 @@ use Rattle.laws_device.proofs.Spelled.{Keeps, id_fits, spelled, ticks}
 answered : (kind : Kind) (mid : ℕ) (token : List ℕ) (number : Option ℕ) (answer : Answer) → mid < 65536
     → length token ≤ 8 → IsShort answer.location → IsMessage (spelling (response kind mid token number answer))
 answered kind mid token number answer h k s =
-    spelled kind answer.code mid token (answer_options number answer.location answer.format) answer.payload h k
+    spelled kind (code_of answer.ruling) mid token
+    (answer_options number answer.location answer.format) answer.payload h k
     (in_order number answer.location answer.format s)
 
 -- an empty Reset

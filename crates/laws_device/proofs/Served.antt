@@ -17,11 +17,13 @@ use Rattle.device_requests.specs.Laws.{is_refusal, lines_on, request_lines}
 use Rattle.device_requests.specs.Observe.{interest_of}
 use Rattle.device_requests.specs.Options.{has_unrecognized_critical, path_of, segments_of}
 use Rattle.device_requests.specs.Request.{outcome_of}
+use Rattle.device_requests.specs.Ruling.{code_of}
 use Rattle.device_requests.specs.declared.answer.Answer.{Answer}
-use Rattle.device_requests.specs.declared.answer.Code.{Code}
-use Rattle.device_requests.specs.declared.answer.Code.TheVariants.{BadOption}
 use Rattle.device_requests.specs.declared.observe.Interest.{Interest}
 use Rattle.device_requests.specs.declared.observe.Interest.TheVariants.{Cancel, Register}
+use Rattle.device_requests.specs.declared.ruling.Ruling.{Ruling}
+use Rattle.device_requests.specs.declared.ruling.Ruling.TheVariants as rule
+use Rattle.device_requests.specs.declared.answer.Code.{Code}
 use Rattle.device_requests.proofs.Answering.{says}
 use Rattle.device_requests.proofs.Refusing.{refused_alone, refused_keeps}
 use Rattle.device_machine.specs.Laws.{IsFresh}
@@ -191,7 +193,7 @@ left_then k server m answer number left h (registers path accept i c l) = absurd
 
 -- the reply of a refusal
 bare_is : (kind : Kind) (mid : ℕ) (token : List ℕ) (number : Option ℕ) (answer : Answer) (code : Code)
-    → number ≡ None → answer.code ≡ code → answer.location ≡ None → answer.format ≡ None → answer.payload ≡ []
+    → number ≡ None → code_of answer.ruling ≡ code → answer.location ≡ None → answer.format ≡ None → answer.payload ≡ []
     → response kind mid token number answer ≡ bare_reply kind mid token code
 bare_is kind mid token number answer code n c l f p = λ j. record {
   kind = kind;
@@ -204,7 +206,7 @@ bare_is kind mid token number answer code n c l f p = λ j. record {
 
 -- what a request leaves that is refused, where its reply and the next message ID then are these
 refused : (f : Machine) (server : ℕ) (bytes : List ℕ) (m : Message) (reply : Option Message) (next_id : ℕ)
-    (s : IsServed f server bytes m) → is_refusal (outcome_of f.kept.client server m).answer.code ≡ true
+    (s : IsServed f server bytes m) → is_refusal (code_of (outcome_of f.kept.client server m).answer.ruling) ≡ true
     → s.reply ≡ reply
     → (flat_after f (Recv server bytes)).kept.next_id ≡ next_id → IsRefused f server bytes m reply next_id
 refused f server bytes m reply next_id s h same next =
@@ -218,7 +220,8 @@ refused f server bytes m reply next_id s h same next =
           ∙ ap (λ r. f.recorded ++ record_of f.kept server m (option_map spelling r) ∷ []) same;
       next_id_is = next;
       observations = left_then (with_client f.kept outcome.client) server m outcome.answer s.number
-          (flat_after f (Recv server bytes)).kept.observations (not_content outcome.answer.code h) s.observes;
+          (flat_after f (Recv server bytes)).kept.observations
+          (not_content (code_of outcome.answer.ruling) h) s.observes;
       client = s.client ∙ refused_keeps f.kept.client server m h;
       clock = s.clock;
     }
@@ -245,15 +248,15 @@ non_none f m number answer reply next k u (acknowledges c) = absurd (other_kind 
 non_none f m number answer reply next k u (answers n h) = absurd (never_both (has_unrecognized_critical m.options) u h)
 non_none f m number answer reply next k u (rejects n h) = (refl, refl)
 
-said : (f : Machine) (server : ℕ) (m : Message) (code : Code)
-    → first_line (request_lines f.kept.client server m) ≡ Some code
-    → (outcome_of f.kept.client server m).answer.code ≡ code
-said f server m code h = same_Some _ code (sym (says f.kept.client server m) ∙ h)
+said : (f : Machine) (server : ℕ) (m : Message) (ruling : Ruling)
+    → first_line (request_lines f.kept.client server m) ≡ Some ruling
+    → code_of (outcome_of f.kept.client server m).answer.ruling ≡ code_of ruling
+said f server m ruling h = ap code_of (same_Some _ ruling (sym (says f.kept.client server m) ∙ h))
 
 bare_said : (f : Machine) (server : ℕ) (bytes : List ℕ) (m : Message) (code : Code) (kind : Kind) (mid : ℕ)
     (s : IsServed f server bytes m)
-    → is_refusal (outcome_of f.kept.client server m).answer.code ≡ true
-    → (outcome_of f.kept.client server m).answer.code ≡ code
+    → is_refusal (code_of (outcome_of f.kept.client server m).answer.ruling) ≡ true
+    → code_of (outcome_of f.kept.client server m).answer.ruling ≡ code
     → response kind mid m.token s.number (outcome_of f.kept.client server m).answer
     ≡ bare_reply kind mid m.token code
 bare_said f server bytes m code kind mid s r c =
@@ -261,43 +264,44 @@ bare_said f server bytes m code kind mid s r c =
     let alone = refused_alone f.kept.client server m r in
     bare_is kind mid m.token s.number outcome.answer code
     (unnumbered (with_client f.kept outcome.client) server m outcome.answer s.number
-    (flat_after f (Recv server bytes)).kept.observations (not_content outcome.answer.code r) s.observes)
+    (flat_after f (Recv server bytes)).kept.observations (not_content (code_of outcome.answer.ruling) r) s.observes)
     c alone.location alone.format alone.payload
 
 pub confirmable : ConfirmableRefusals
-confirmable f server bytes m code fresh k line h =
+confirmable f server bytes m ruling fresh k line h =
     let outcome = outcome_of f.kept.client server m in
     let s = served f server bytes m fresh (inl k) in
-    let c = said f server m code line in
-    let r : is_refusal outcome.answer.code ≡ true = ap is_refusal c ∙ h in
+    let c = said f server m ruling line in
+    let r : is_refusal (code_of outcome.answer.ruling) ≡ true = ap is_refusal c ∙ h in
     let is = con_reply f m s.number outcome.answer s.reply
     (flat_after f (Recv server bytes)).kept.next_id k s.replies in
-    refused f server bytes m (Some (bare_reply Ack m.mid m.token code)) f.kept.next_id s r
-    (is.0 ∙ ap Some (bare_said f server bytes m code Ack m.mid s r c)) is.1
+    refused f server bytes m (Some (bare_reply Ack m.mid m.token (code_of ruling))) f.kept.next_id s r
+    (is.0 ∙ ap Some (bare_said f server bytes m (code_of ruling) Ack m.mid s r c)) is.1
 
 pub non_confirmable : NonConfirmableRefusals
-non_confirmable f server bytes m code fresh k understood line h =
+non_confirmable f server bytes m ruling fresh k understood line h =
     let outcome = outcome_of f.kept.client server m in
     let s = served f server bytes m fresh (inr k) in
-    let c = said f server m code line in
-    let r : is_refusal outcome.answer.code ≡ true = ap is_refusal c ∙ h in
+    let c = said f server m ruling line in
+    let r : is_refusal (code_of outcome.answer.ruling) ≡ true = ap is_refusal c ∙ h in
     let is = non_answer f m s.number outcome.answer s.reply (flat_after f (Recv server bytes)).kept.next_id k understood
     s.replies in
-    refused f server bytes m (Some (bare_reply Non f.kept.next_id m.token code)) (id_after f.kept.next_id) s r
-    (is.0 ∙ ap Some (bare_said f server bytes m code Non f.kept.next_id s r c)) is.1
+    refused f server bytes m (Some (bare_reply Non f.kept.next_id m.token (code_of ruling)))
+    (id_after f.kept.next_id) s r
+    (is.0 ∙ ap Some (bare_said f server bytes m (code_of ruling) Non f.kept.next_id s r c)) is.1
 
 -- an option that is not understood is the first line
 bad_option : (f : Machine) (server : ℕ) (m : Message) → has_unrecognized_critical m.options ≡ true
-    → first_line (request_lines f.kept.client server m) ≡ Some BadOption
+    → first_line (request_lines f.kept.client server m) ≡ Some rule.Options
 bad_option f server m h =
-    ap (λ b. first_line ((b, BadOption) ∷ lines_on f.kept.client server m (path_of (segments_of m.options)))) h
+    ap (λ b. first_line ((b, rule.Options) ∷ lines_on f.kept.client server m (path_of (segments_of m.options)))) h
 
 pub rejected : NonConfirmableRejects
 rejected f server bytes m fresh k u =
     let outcome = outcome_of f.kept.client server m in
     let s = served f server bytes m fresh (inr k) in
-    let c = said f server m BadOption (bad_option f server m u) in
-    let r : is_refusal outcome.answer.code ≡ true = ap is_refusal c in
+    let c = said f server m rule.Options (bad_option f server m u) in
+    let r : is_refusal (code_of outcome.answer.ruling) ≡ true = ap is_refusal c in
     let is = non_none f m s.number outcome.answer s.reply (flat_after f (Recv server bytes)).kept.next_id k u s.replies
     in
     refused f server bytes m None f.kept.next_id s r is.0 is.1

@@ -17,6 +17,7 @@ use Rattle.notifier.specs.declared.observation.Observation.{Observation}
 use Rattle.notifier.specs.declared.observation.Timer.{Timer}
 use Rattle.device_requests.specs.Answer.{code_byte}
 use Rattle.device_requests.specs.Client.{Client}
+use Rattle.device_requests.specs.Ruling.{code_of}
 use Rattle.device_requests.specs.declared.answer.Answer.{Answer}
 use Rattle.device_requests.specs.declared.answer.Code.{Code}
 use Rattle.device_requests.specs.declared.answer.Code.TheVariants.{Created, Deleted, Changed, Content, BadRequest}
@@ -95,7 +96,8 @@ notification_options number format =
 notified : (kind : Kind) (o : Observation) (mid : ℕ) (number : Option ℕ) (answer : Answer) → HasToken o → mid < 65536
     → IsMessage (datagram_of kind o mid number answer).bytes
 notified kind o mid number answer h k =
-    spelled kind answer.code mid o.token (number_option 6 number ++ format_options answer.format) answer.payload k h
+    spelled kind (code_of answer.ruling) mid o.token
+    (number_option 6 number ++ format_options answer.format) answer.payload k h
     (notification_options number answer.format)
 
 pub id_fits : (n : ℕ) → (n + 1) % 65536 < 65536

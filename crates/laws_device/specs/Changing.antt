@@ -13,7 +13,7 @@ use Rattle.device_firmware.specs.Firmware.{outcome_in}
 use Rattle.device_firmware.specs.declared.event.FirmwareEvent.TheVariants.{Ended}
 use Rattle.device_template.specs.Values.{misses}
 use Rattle.device_requests.specs.Order.{Asks}
-use Rattle.device_requests.specs.Refusals.{done_code}
+use Rattle.device_requests.specs.Refusals.{done_ruling}
 use Rattle.device_requests.specs.Request.{outcome_of, purpose_of}
 use Rattle.device_requests.specs.declared.operation.Operation.{Operation}
 use Rattle.device_requests.specs.declared.operation.Operation.TheVariants.{Read}
@@ -45,7 +45,7 @@ abbrev pub RequestsAreDone : Type 0
 RequestsAreDone =
     (f : Machine) (server : ℕ) (bytes : List ℕ) (m : Message) (path : Path) (operation : Operation)
     → IsFresh f server bytes m → (m.kind ≡ Con) ⊎ (m.kind ≡ Non) → Asks m path operation
-    → (outcome_of f.kept.client server m).answer.code ≡ done_code (purpose_of m operation)
+    → (outcome_of f.kept.client server m).answer.ruling ≡ done_ruling (purpose_of m operation)
     → IsDone f server bytes m path operation
 
 -- ---- a value

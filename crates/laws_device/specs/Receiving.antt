@@ -13,6 +13,7 @@ use Rattle.device_requests.specs.Answer.{code_byte}
 use Rattle.device_requests.specs.Client.{Client, has_account}
 use Rattle.device_requests.specs.Options.{has_unrecognized_critical}
 use Rattle.device_requests.specs.Request.{outcome_of}
+use Rattle.device_requests.specs.Ruling.{code_of}
 use Rattle.device_requests.specs.declared.answer.Act.{Act as Deed}
 use Rattle.device_requests.specs.declared.answer.Answer.{Answer}
 use Rattle.device_machine.specs.Reactions.{Reaction, location_options, outputs_of_act, reaction_to, sent_to}
@@ -129,7 +130,7 @@ pub record IsResponse (kind : Kind) (mid : ℕ) (m : Message) (number : Option �
   pub kind_is : r.kind ≡ kind
   pub mid_is : r.mid ≡ mid
   pub token : r.token ≡ m.token
-  pub code : r.code ≡ code_byte answer.code
+  pub code : r.code ≡ code_byte (code_of answer.ruling)
   pub options : r.options
       ≡ observe_options number ++ (location_options answer.location ++ format_options answer.format)
   pub payload : r.payload ≡ answer.payload

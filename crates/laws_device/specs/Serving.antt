@@ -13,9 +13,11 @@ use Rattle.device_requests.specs.Laws.{is_refusal, request_lines}
 use Rattle.device_requests.specs.Observe.{interest_of}
 use Rattle.device_requests.specs.Options.{has_unrecognized_critical}
 use Rattle.device_requests.specs.Request.{outcome_of}
+use Rattle.device_requests.specs.Ruling.{code_of}
 use Rattle.device_requests.specs.declared.answer.Answer.{Answer}
-use Rattle.device_requests.specs.declared.answer.Code.{Code}
 use Rattle.device_requests.specs.declared.observe.Interest.TheVariants.{Cancel, Register}
+use Rattle.device_requests.specs.declared.answer.Code.{Code}
+use Rattle.device_requests.specs.declared.ruling.Ruling.{Ruling}
 use Rattle.device_machine.specs.Laws.{IsFresh}
 use Rattle.device_machine.specs.Observing.{lacks_place, new_observation}
 use Rattle.device_machine.specs.Reactions.{flat_after, outputs_of, outputs_of_act, record_of, response, sent_to}
@@ -50,17 +52,20 @@ pub record IsRefused (f : Machine) (server : ℕ) (bytes : List ℕ) (m : Messag
 -- section 5.2.1)
 abbrev pub ConfirmableRefusals : Type 0
 ConfirmableRefusals =
-    (f : Machine) (server : ℕ) (bytes : List ℕ) (m : Message) (code : Code) → IsFresh f server bytes m → m.kind ≡ Con
-    → first_line (request_lines f.kept.client server m) ≡ Some code → is_refusal code ≡ true
-    → IsRefused f server bytes m (Some (bare_reply Ack m.mid m.token code)) f.kept.next_id
+    (f : Machine) (server : ℕ) (bytes : List ℕ) (m : Message) (ruling : Ruling) → IsFresh f server bytes m
+    → m.kind ≡ Con
+    → first_line (request_lines f.kept.client server m) ≡ Some ruling → is_refusal (code_of ruling) ≡ true
+    → IsRefused f server bytes m (Some (bare_reply Ack m.mid m.token (code_of ruling))) f.kept.next_id
 
 -- a non-confirmable one: a message of the device's next message ID (section 5.2.3)
 abbrev pub NonConfirmableRefusals : Type 0
 NonConfirmableRefusals =
-    (f : Machine) (server : ℕ) (bytes : List ℕ) (m : Message) (code : Code) → IsFresh f server bytes m → m.kind ≡ Non
+    (f : Machine) (server : ℕ) (bytes : List ℕ) (m : Message) (ruling : Ruling) → IsFresh f server bytes m
+    → m.kind ≡ Non
     → has_unrecognized_critical m.options ≡ false
-    → first_line (request_lines f.kept.client server m) ≡ Some code → is_refusal code ≡ true
-    → IsRefused f server bytes m (Some (bare_reply Non f.kept.next_id m.token code)) (id_after f.kept.next_id)
+    → first_line (request_lines f.kept.client server m) ≡ Some ruling → is_refusal (code_of ruling) ≡ true
+    → IsRefused f server bytes m (Some (bare_reply Non f.kept.next_id m.token (code_of ruling)))
+    (id_after f.kept.next_id)
 
 -- one with an option that must be understood and isn't: nothing (section 5.4.1)
 abbrev pub NonConfirmableRejects : Type 0

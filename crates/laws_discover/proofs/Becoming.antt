@@ -7,14 +7,14 @@ use Rattle.object_defs.specs.declared.path.Path.{Path}
 use Rattle.object_defs.specs.Path.{object_in}
 use Rattle.instance_store.specs.Stored.{Stored}
 use Rattle.notifier.specs.Attributes.{Numbers}
-use Rattle.device_requests.specs.declared.answer.Code.{Code}
-use Rattle.device_requests.specs.declared.answer.Code.TheVariants.{BadOption}
 use Rattle.device_requests.specs.declared.operation.Operation.{Operation}
 use Rattle.device_requests.specs.declared.operation.Operation.TheVariants.{Create, Delete, Discover, Execute, Read}
 use Rattle.device_requests.specs.declared.operation.Operation.TheVariants.{WriteAttributes, WritePartial, WriteReplace}
 use Rattle.device_requests.specs.declared.request.Request.{Request}
 use Rattle.device_requests.specs.Client.{Client}
 use Rattle.device_requests.specs.declared.create.Newborn.{Newborn}
+use Rattle.device_requests.specs.declared.ruling.Ruling.{Ruling}
+use Rattle.device_requests.specs.declared.ruling.Ruling.TheVariants as rule
 use Rattle.device_requests.specs.Create.{create_unless, newborn}
 use Rattle.device_requests.specs.Delete.{attributes_after_delete, delete_unless}
 use Rattle.device_requests.specs.Execute.{execute_unless}
@@ -32,33 +32,33 @@ pub data Becomes (client : Client) (server : ℕ) : Numbers → Type 0 where
       → attributes_given client server path queries ≡ Some m → Becomes client server m
   goes : (path : Path) → Becomes client server (attributes_after_delete client path)
 
-wrote : (code : Option Code) (client : Client) (server : ℕ) (s : Stored)
-    → Becomes client server (write_unless code client s).client.attributes
+wrote : (ruling : Option Ruling) (client : Client) (server : ℕ) (s : Stored)
+    → Becomes client server (write_unless ruling client s).client.attributes
 wrote None client server s = stays
-wrote (Some code) client server s = stays
+wrote (Some ruling) client server s = stays
 
-made : (code : Option Code) (client : Client) (server o : ℕ) (new : Option Newborn)
-    → Becomes client server (create_unless code client server o new).client.attributes
+made : (ruling : Option Ruling) (client : Client) (server o : ℕ) (new : Option Newborn)
+    → Becomes client server (create_unless ruling client server o new).client.attributes
 made None client server o None = stays
 made None client server o (Some b) = stays
-made (Some code) client server o new = stays
+made (Some ruling) client server o new = stays
 
-did : (code : Option Code) (client : Client) (server : ℕ) (path : Path)
-    → Becomes client server (execute_unless code client path).client.attributes
+did : (ruling : Option Ruling) (client : Client) (server : ℕ) (path : Path)
+    → Becomes client server (execute_unless ruling client path).client.attributes
 did None client server path = stays
-did (Some code) client server path = stays
+did (Some ruling) client server path = stays
 
-took : (code : Option Code) (client : Client) (server : ℕ) (path : Path)
-    → Becomes client server (delete_unless code client path).client.attributes
+took : (ruling : Option Ruling) (client : Client) (server : ℕ) (path : Path)
+    → Becomes client server (delete_unless ruling client path).client.attributes
 took None client server path = goes path
-took (Some code) client server path = stays
+took (Some ruling) client server path = stays
 
-annotated : (code : Option Code) (client : Client) (server : ℕ) (path : Path) (queries : List (List ℕ))
+annotated : (ruling : Option Ruling) (client : Client) (server : ℕ) (path : Path) (queries : List (List ℕ))
     (given : Option Numbers) → attributes_given client server path queries ≡ given
-    → Becomes client server (annotate_unless code client given).client.attributes
+    → Becomes client server (annotate_unless ruling client given).client.attributes
 annotated None client server path queries None e = stays
 annotated None client server path queries (Some m) e = is_set path queries m e
-annotated (Some code) client server path queries given e = stays
+annotated (Some ruling) client server path queries given e = stays
 
 becomes_at : (client : Client) (server : ℕ) (m : Message) (path : Path) (operation : Operation)
     → Becomes client server (outcome_at client server m (request_with m path operation)).client.attributes
@@ -94,9 +94,9 @@ becomes_on client server m None = stays
 becomes_on client server m (Some path) =
     becomes_by client server m path (operation_of m.code (accept_of m.options) (has_query m.options) path)
 
-becomes_if : (b : Bool) (client : Client) (server : ℕ) (m : Message) (request : Result Request Code)
+becomes_if : (b : Bool) (client : Client) (server : ℕ) (m : Message) (request : Result Request Ruling)
     → Becomes client server (outcome_for client server m request).client.attributes
-    → Becomes client server (outcome_for client server m (if b then Err BadOption else request)).client.attributes
+    → Becomes client server (outcome_for client server m (if b then Err rule.Options else request)).client.attributes
 becomes_if true client server m request h = stays
 becomes_if false client server m request h = h
 

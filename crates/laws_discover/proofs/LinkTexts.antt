@@ -16,9 +16,9 @@ use Rattle.object_defs.specs.Path.{object_in}
 use Rattle.notifier.specs.declared.attribute.Name.{Name}
 use Rattle.notifier.specs.declared.attribute.Name.TheVariants.{Pmin, Pmax, Gt, Lt, St}
 use Rattle.scenario_words.specs.PathWord.{IsPath}
-use Rattle.device_requests.specs.declared.answer.Code.TheVariants.{Content, InternalServerError, NotFound}
-use Rattle.device_requests.specs.declared.answer.Code.TheVariants.{BadOption, Unauthorized}
 use Rattle.device_requests.specs.declared.operation.Operation.TheVariants.{Discover}
+use Rattle.device_requests.specs.declared.ruling.Ruling.TheVariants as rule
+use Rattle.device_requests.specs.declared.answer.Code.TheVariants.{Content}
 use Rattle.device_requests.specs.Answer.{answer_alone, content, Outcome, refused_or}
 use Rattle.device_requests.specs.Client.{Client}
 use Rattle.device_requests.specs.Discover.{attribute_text, attributes_text, dimension, dimension_text, discover_payload}
@@ -30,6 +30,7 @@ use Rattle.device_requests.specs.Options.{path_of, segments_of}
 use Rattle.device_requests.specs.Order.{Asks}
 use Rattle.device_requests.specs.Outcomes.{discover_answer}
 use Rattle.device_requests.specs.Request.{outcome_for, outcome_of, request_by, request_on}
+use Rattle.device_requests.specs.Ruling.{code_of}
 use Rattle.device_requests.specs.Targets.{exists}
 use Rattle.laws_reading.specs.Queries.{IsSignedThousandths, IsThousandths, SaysNumber}
 use Rattle.laws_discover.specs.Links.{AreChars, AreLinks, AreMoreLinks, AreParameters, attribute_parameter}
@@ -179,38 +180,40 @@ links_said client h server (p ∷ ps) are small = (
 
 -- the payload of an answer that is Content
 
-payload_is : (client : Client) (server : ℕ) (path : Path) → (discover_answer client server path).code ≡ Content
+payload_is : (client : Client) (server : ℕ) (path : Path)
+    → code_of (discover_answer client server path).ruling ≡ Content
     → (discover_answer client server path).payload ≡ discover_payload client server path
 payload_is client server path h =
     by (object_in path == security_object) (not (exists client.catalog client.store path))
     (nat_lt 1024 (length (discover_payload client server path))) h
   where
     by : (a b c : Bool)
-        → (refused_or (first_line ((a, Unauthorized) ∷ (b, NotFound) ∷ (c, InternalServerError) ∷ []))
-        (content link_format (discover_payload client server path))).code ≡ Content
-        → (refused_or (first_line ((a, Unauthorized) ∷ (b, NotFound) ∷ (c, InternalServerError) ∷ []))
+        → code_of (refused_or (first_line ((a, rule.Security) ∷ (b, rule.Target) ∷ (c, rule.Limit) ∷ []))
+        (content link_format (discover_payload client server path))).ruling ≡ Content
+        → (refused_or (first_line ((a, rule.Security) ∷ (b, rule.Target) ∷ (c, rule.Limit) ∷ []))
         (content link_format (discover_payload client server path))).payload ≡ discover_payload client server path
     by true b c e = cc e
     by false true c e = cc e
     by false false true e = cc e
     by false false false e = refl
 
-content_exists : (client : Client) (server : ℕ) (path : Path) → (discover_answer client server path).code ≡ Content
+content_exists : (client : Client) (server : ℕ) (path : Path)
+    → code_of (discover_answer client server path).ruling ≡ Content
     → exists client.catalog client.store path ≡ true
 content_exists client server path h =
     by (object_in path == security_object) (exists client.catalog client.store path)
     (nat_lt 1024 (length (discover_payload client server path))) h
   where
     by : (a b c : Bool)
-        → (refused_or (first_line ((a, Unauthorized) ∷ (not b, NotFound) ∷ (c, InternalServerError) ∷ []))
-        (content link_format (discover_payload client server path))).code ≡ Content
+        → code_of (refused_or (first_line ((a, rule.Security) ∷ (not b, rule.Target) ∷ (c, rule.Limit) ∷ []))
+        (content link_format (discover_payload client server path))).ruling ≡ Content
         → b ≡ true
     by true b c e = cc e
     by false true c e = refl
     by false false c e = cc e
 
 payload_said : LinksWhatExists → (client : Client) (server : ℕ) (path : Path) → IsWithinTypes client → IsPath path
-    → (discover_answer client server path).code ≡ Content
+    → code_of (discover_answer client server path).ruling ≡ Content
     → AreLinks (discover_answer client server path).payload
     (links_to client server (linked_paths client.catalog client.store path))
 payload_said law client server path within is h =
@@ -226,11 +229,11 @@ comes_to : (client : Client) (server : ℕ) (m : Message) (path : Path) → Asks
     → outcome_of client server m ≡ answer_alone client (discover_answer client server path)
 comes_to client server m path asks =
     ap (outcome_for client server m)
-    (ap (λ (b : Bool). if b then Err BadOption else request_on m (path_of (segments_of m.options))) asks.understood
+    (ap (λ (b : Bool). if b then Err rule.Options else request_on m (path_of (segments_of m.options))) asks.understood
     ∙ ap (request_on m) asks.goes_to ∙ ap (request_by m path) asks.means)
 
 answer_said : LinksWhatExists → (client : Client) (server : ℕ) (m : Message) (path : Path) → IsWithinTypes client
-    → Asks m path Discover → (outcome_of client server m).answer.code ≡ Content
+    → Asks m path Discover → code_of (outcome_of client server m).answer.ruling ≡ Content
     → AreLinks (outcome_of client server m).answer.payload
     (links_to client server (linked_paths client.catalog client.store path))
 answer_said law client server m path within asks h =
@@ -238,7 +241,7 @@ answer_said law client server m path within asks h =
     subst (λ (o : Outcome). AreLinks o.answer.payload
     (links_to client server (linked_paths client.catalog client.store path))) (sym same)
     (payload_said law client server path within (path_of_fits (segments_of m.options) path asks.goes_to)
-    (subst (λ (o : Outcome). o.answer.code ≡ Content) same h))
+    (subst (λ (o : Outcome). code_of o.answer.ruling ≡ Content) same h))
 
 pub discovers_are_read : LinksWhatExists → DiscoversAreRead
 discovers_are_read law client server m path within asks h ls =

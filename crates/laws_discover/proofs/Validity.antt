@@ -24,14 +24,14 @@ use Rattle.notifier.specs.Attributes.{is_consistent, key_cmp, key_of, lies_under
 use Rattle.notifier.specs.Attributes.{with_changes, without_under}
 use Rattle.notifier.specs.Query.{changes_of, stands_at}
 use Rattle.notifier.proofs.Keys.{key_exact, key_total}
-use Rattle.device_requests.specs.declared.answer.Code.{Code}
-use Rattle.device_requests.specs.declared.answer.Code.TheVariants.{BadOption}
 use Rattle.device_requests.specs.declared.operation.Operation.{Operation}
 use Rattle.device_requests.specs.declared.operation.Operation.TheVariants.{Create, Delete, Discover, Execute, Read}
 use Rattle.device_requests.specs.declared.operation.Operation.TheVariants.{WriteAttributes, WritePartial, WriteReplace}
 use Rattle.device_requests.specs.declared.request.Request.{Request}
 use Rattle.device_requests.specs.Client.{Client}
 use Rattle.device_requests.specs.declared.create.Newborn.{Newborn}
+use Rattle.device_requests.specs.declared.ruling.Ruling.{Ruling}
+use Rattle.device_requests.specs.declared.ruling.Ruling.TheVariants as rule
 use Rattle.device_requests.specs.Create.{create_unless, newborn}
 use Rattle.device_requests.specs.Delete.{after_delete, delete_unless, taken_away, without_controls}
 use Rattle.device_requests.specs.Execute.{execute_unless}
@@ -157,36 +157,36 @@ controls_valid catalog m (j ∷ js) h =
 
 -- by the operation
 
-wrote : (code : Option Code) (client : Client) (s : Stored) → HasValidAttributes client
-    → HasValidAttributes (write_unless code client s).client
+wrote : (ruling : Option Ruling) (client : Client) (s : Stored) → HasValidAttributes client
+    → HasValidAttributes (write_unless ruling client s).client
 wrote None client s h = h
-wrote (Some code) client s h = h
+wrote (Some ruling) client s h = h
 
-made : (code : Option Code) (client : Client) (server o : ℕ) (new : Option Newborn) → HasValidAttributes client
-    → HasValidAttributes (create_unless code client server o new).client
+made : (ruling : Option Ruling) (client : Client) (server o : ℕ) (new : Option Newborn) → HasValidAttributes client
+    → HasValidAttributes (create_unless ruling client server o new).client
 made None client server o None h = h
 made None client server o (Some b) h = h
-made (Some code) client server o new h = h
+made (Some ruling) client server o new h = h
 
-did : (code : Option Code) (client : Client) (path : Path) → HasValidAttributes client
-    → HasValidAttributes (execute_unless code client path).client
+did : (ruling : Option Ruling) (client : Client) (path : Path) → HasValidAttributes client
+    → HasValidAttributes (execute_unless ruling client path).client
 did None client path h = h
-did (Some code) client path h = h
+did (Some ruling) client path h = h
 
-took : (code : Option Code) (client : Client) (path : Path) → HasValidAttributes client
-    → HasValidAttributes (delete_unless code client path).client
+took : (ruling : Option Ruling) (client : Client) (path : Path) → HasValidAttributes client
+    → HasValidAttributes (delete_unless ruling client path).client
 unfolding AreValid IsValidAt
 took None client path h =
     controls_valid client.catalog (without_under client.attributes path)
     (taken_away client.store (after_delete client.store path)) (without_valid client.catalog client.attributes path h)
-took (Some code) client path h = h
+took (Some ruling) client path h = h
 
-annotated : (code : Option Code) (client : Client) (given : Option Numbers) → HasValidAttributes client
-    → GivesValid client.catalog given → HasValidAttributes (annotate_unless code client given).client
+annotated : (ruling : Option Ruling) (client : Client) (given : Option Numbers) → HasValidAttributes client
+    → GivesValid client.catalog given → HasValidAttributes (annotate_unless ruling client given).client
 unfolding AreValid GivesValid IsValidAt
 annotated None client None h gives = h
 annotated None client (Some m) h gives = gives m refl
-annotated (Some code) client given h gives = h
+annotated (Some ruling) client given h gives = h
 
 kept_at : (client : Client) (server : ℕ) (m : Message) (path : Path) (operation : Operation)
     → HasValidAttributes client
@@ -225,9 +225,9 @@ kept_on client server m None h = h
 kept_on client server m (Some path) h =
     kept_by client server m path (operation_of m.code (accept_of m.options) (has_query m.options) path) h
 
-kept_if : (b : Bool) (client : Client) (server : ℕ) (m : Message) (request : Result Request Code)
+kept_if : (b : Bool) (client : Client) (server : ℕ) (m : Message) (request : Result Request Ruling)
     → HasValidAttributes client → HasValidAttributes (outcome_for client server m request).client
-    → HasValidAttributes (outcome_for client server m (if b then Err BadOption else request)).client
+    → HasValidAttributes (outcome_for client server m (if b then Err rule.Options else request)).client
 kept_if true client server m request h k = h
 kept_if false client server m request h k = k
 

@@ -15,7 +15,7 @@ use Rattle.notifier.specs.declared.fault.QueryFault.{QueryFault}
 use Rattle.notifier.specs.Attributes.{assigned_number, is_consistent, key_cmp, key_of, Numbers, with_changes}
 use Rattle.notifier.specs.Query.{changes_of}
 use Rattle.notifier.proofs.Keys.{key_exact, key_total}
-use Rattle.device_requests.specs.declared.answer.Code.{Code}
+use Rattle.device_requests.specs.declared.ruling.Ruling.{Ruling}
 use Rattle.device_requests.specs.Client.{Client}
 use Rattle.device_requests.specs.Refusals.{refusal_of, to_write_attributes}
 use Rattle.device_requests.specs.WriteAttributes.{new_numbers, annotate_unless, attributes_given, level_at}
@@ -62,9 +62,9 @@ given_again m server path cs (Ok ds) is same w e =
         sym found ∙ ap (with_changes m server path) changes ∙ same
     by false e = cc e
 
-left_alone : (code : Option Code) (client : Client) (given : Option Numbers)
-    → ((w : Numbers) → given ≡ Some w → w ≡ client.attributes) → (annotate_unless code client given).client ≡ client
-left_alone (Some code) client given same = refl
+left_alone : (ruling : Option Ruling) (client : Client) (given : Option Numbers)
+    → ((w : Numbers) → given ≡ Some w → w ≡ client.attributes) → (annotate_unless ruling client given).client ≡ client
+left_alone (Some ruling) client given same = refl
 left_alone None client None same = refl
 left_alone None client (Some w) same = λ i. record {
   accounts = client.accounts;

@@ -17,13 +17,14 @@ use Rattle.notifier.specs.declared.attribute.Name.{Name}
 use Rattle.notifier.specs.declared.attribute.Name.TheVariants.{Pmin, Pmax, Gt, Lt, St}
 use Rattle.notifier.specs.Query.{changes_of}
 use Rattle.scenario_words.specs.PathWord.{IsPath}
-use Rattle.device_requests.specs.declared.answer.Code.TheVariants.{Content}
 use Rattle.device_requests.specs.declared.operation.Operation.TheVariants.{Discover}
+use Rattle.device_requests.specs.declared.answer.Code.TheVariants.{Content}
 use Rattle.device_requests.specs.Client.{Client}
 use Rattle.device_requests.specs.Discover.{dimension, inherits_at, linked_paths, name_text, number_text, shown_number}
 use Rattle.device_requests.specs.Order.{Asks}
 use Rattle.device_requests.specs.Outcomes.{attributes_outcome}
 use Rattle.device_requests.specs.Request.{outcome_of}
+use Rattle.device_requests.specs.Ruling.{code_of}
 use Rattle.device_requests.specs.WriteAttributes.{level_at}
 use Rattle.laws_discover.specs.Printed.{HasValidAttributes, setting}
 
@@ -121,7 +122,7 @@ pub record IsWithinTypes (client : Client) : Type 0 where
 abbrev pub DiscoversAreRead : Type 0
 DiscoversAreRead =
     (client : Client) (server : ℕ) (m : Message) (path : Path) → IsWithinTypes client → Asks m path Discover
-    → (outcome_of client server m).answer.code ≡ Content
+    → code_of (outcome_of client server m).answer.ruling ≡ Content
     → (ls : List PathLink)
     → AreLinks (outcome_of client server m).answer.payload ls
     ↔ (ls ≡ links_to client server (linked_paths client.catalog client.store path))
@@ -130,7 +131,7 @@ DiscoversAreRead =
 abbrev pub PathsAreRead : Type 0
 PathsAreRead =
     (client : Client) (server : ℕ) (m : Message) (path : Path) → IsWithinTypes client → Asks m path Discover
-    → (outcome_of client server m).answer.code ≡ Content
+    → code_of (outcome_of client server m).answer.ruling ≡ Content
     → (ls : List PathLink) → AreLinks (outcome_of client server m).answer.payload ls
     → map (λ l. l.path) ls ≡ linked_paths client.catalog client.store path
 

@@ -14,8 +14,6 @@ use Rattle.object_defs.specs.declared.path.Path.{Path}
 use Rattle.object_defs.specs.declared.path.Path.TheVariants.{Object, Instance, Resource, Part}
 use Rattle.device_requests.specs.declared.answer.Act.{Act}
 use Rattle.device_requests.specs.declared.answer.Act.TheVariants.{Reboot, FactoryReset, RegUpdate, Disable, Missed}
-use Rattle.device_requests.specs.declared.answer.Code.{Code}
-use Rattle.device_requests.specs.declared.answer.Code.TheVariants.{BadOption, Changed}
 use Rattle.device_requests.specs.declared.operation.Operation.{Operation}
 use Rattle.device_requests.specs.declared.operation.Operation.TheVariants.{Read, Discover, WriteAttributes}
 use Rattle.device_requests.specs.declared.operation.Operation.TheVariants.{WriteReplace, WritePartial, Create, Execute}
@@ -23,6 +21,9 @@ use Rattle.device_requests.specs.declared.operation.Operation.TheVariants.{Delet
 use Rattle.device_requests.specs.Answer.{Outcome, content, refused_or}
 use Rattle.device_requests.specs.Client.{Client}
 use Rattle.device_requests.specs.declared.create.Newborn.{Newborn}
+use Rattle.device_requests.specs.declared.ruling.Ruling.{Ruling}
+use Rattle.device_requests.specs.declared.ruling.Ruling.TheVariants as rule
+use Rattle.device_requests.specs.declared.answer.Code.TheVariants.{Changed}
 use Rattle.device_requests.specs.Create.{create_unless, newborn}
 use Rattle.device_requests.specs.Delete.{delete_unless}
 use Rattle.device_requests.specs.Discover.{discover_payload}
@@ -36,6 +37,7 @@ use Rattle.device_requests.specs.Read.{content_in, format_at, read_payload}
 use Rattle.device_requests.specs.Refusals.{refusal_of, to_create, to_delete, to_discover, to_execute, to_read, to_write}
 use Rattle.device_requests.specs.Refusals.{to_write_attributes}
 use Rattle.device_requests.specs.Request.{outcome_at, outcome_for, outcome_of, request_by, request_on, request_with}
+use Rattle.device_requests.specs.Ruling.{code_of}
 use Rattle.device_requests.specs.Targets.{is_resource}
 use Rattle.device_requests.specs.Write.{after_write_with_event, event_of, mode_at, new_values, write_unless}
 use Rattle.device_requests.specs.WriteAttributes.{annotate_unless, attributes_given}
@@ -86,44 +88,44 @@ acts path Missed h = absurd h
 abbrev Silent : Outcome → Type 0
 Silent outcome = outcome.answer.act ≡ None
 
-reads : (code : Option Code) (format : Option Format) (payload : List ℕ)
-    → (refused_or code (content_in format payload)).act ≡ None
+reads : (ruling : Option Ruling) (format : Option Format) (payload : List ℕ)
+    → (refused_or ruling (content_in format payload)).act ≡ None
 reads None None payload = refl
 reads None (Some format) payload = refl
-reads (Some code) format payload = refl
+reads (Some ruling) format payload = refl
 
-lists : (code : Option Code) (payload : List ℕ) → (refused_or code (content link_format payload)).act ≡ None
+lists : (ruling : Option Ruling) (payload : List ℕ) → (refused_or ruling (content link_format payload)).act ≡ None
 lists None payload = refl
-lists (Some code) payload = refl
+lists (Some ruling) payload = refl
 
-writes : (code : Option Code) (client : Client) (stored : Stored) → Silent (write_unless code client stored)
+writes : (ruling : Option Ruling) (client : Client) (stored : Stored) → Silent (write_unless ruling client stored)
 writes None client stored = refl
-writes (Some code) client stored = refl
+writes (Some ruling) client stored = refl
 
-annotates : (code : Option Code) (client : Client) (given : Option Numbers)
-    → Silent (annotate_unless code client given)
+annotates : (ruling : Option Ruling) (client : Client) (given : Option Numbers)
+    → Silent (annotate_unless ruling client given)
 annotates None client None = refl
 annotates None client (Some m) = refl
-annotates (Some code) client given = refl
+annotates (Some ruling) client given = refl
 
-creates : (code : Option Code) (client : Client) (server o : ℕ) (new : Option Newborn)
-    → Silent (create_unless code client server o new)
+creates : (ruling : Option Ruling) (client : Client) (server o : ℕ) (new : Option Newborn)
+    → Silent (create_unless ruling client server o new)
 creates None client server o None = refl
 creates None client server o (Some b) = refl
-creates (Some code) client server o new = refl
+creates (Some ruling) client server o new = refl
 
-deletes : (code : Option Code) (client : Client) (path : Path) → Silent (delete_unless code client path)
+deletes : (ruling : Option Ruling) (client : Client) (path : Path) → Silent (delete_unless ruling client path)
 deletes None client path = refl
-deletes (Some code) client path = refl
+deletes (Some ruling) client path = refl
 
-executes : (code : Option Code) (client : Client) (path : Path) (act : Act)
-    → (execute_unless code client path).answer.act ≡ Some act
-    → ((execute_unless code client path).answer.code ≡ Changed) × IsActOf path act
+executes : (ruling : Option Ruling) (client : Client) (path : Path) (act : Act)
+    → (execute_unless ruling client path).answer.act ≡ Some act
+    → (code_of (execute_unless ruling client path).answer.ruling ≡ Changed) × IsActOf path act
 executes None client path act h = (refl, named path act h)
-executes (Some code) client path act h = cc
+executes (Some ruling) client path act h = cc
 
 abbrev Acted : Operation → Path → Outcome → Act → Type 0
-Acted operation path outcome act = (operation ≡ Execute) × (outcome.answer.code ≡ Changed) × IsActOf path act
+Acted operation path outcome act = (operation ≡ Execute) × (code_of outcome.answer.ruling ≡ Changed) × IsActOf path act
 
 silent : (operation : Operation) (path : Path) (outcome : Outcome) (act : Act) → Silent outcome
     → outcome.answer.act ≡ Some act → Acted operation path outcome act
@@ -180,12 +182,12 @@ acted_by client server m act path (Some operation) understood goes means h =
       path = path;
       asks = subst (Asks m path) acted.0 asks;
       resource = acted.2;
-      done = ap (λ (o : Outcome). o.answer.code) (comes_to client server m path operation asks) ∙ acted.1;
+      done = ap (λ (o : Outcome). (code_of o.answer.ruling)) (comes_to client server m path operation asks) ∙ acted.1;
     }
 
 acted_on : (client : Client) (server : ℕ) (m : Message) (act : Act) (b : Bool) (path : Option Path)
     → has_unrecognized_critical m.options ≡ b → path_of (segments_of m.options) ≡ path
-    → (outcome_for client server m (if b then Err BadOption else request_on m path)).answer.act ≡ Some act
+    → (outcome_for client server m (if b then Err rule.Options else request_on m path)).answer.act ≡ Some act
     → IsAskedToAct client server m act
 acted_on client server m act true path critical goes h = cc
 acted_on client server m act false None understood goes h = cc
@@ -199,9 +201,9 @@ does_act client server m act a =
     let is = comes_to client server m a.path Execute a.asks in
     let number = content_format_of m.options in
     let none = unrefused client server a.path number m.payload
-    (sym (ap (λ (o : Outcome). o.answer.code) is) ∙ a.done) in
+    (sym (ap (λ (o : Outcome). (code_of o.answer.ruling)) is) ∙ a.done) in
     ap (λ (o : Outcome). o.answer.act) is
-    ∙ ap (λ (code : Option Code). (execute_unless code client a.path).answer.act) none
+    ∙ ap (λ (ruling : Option Ruling). (execute_unless ruling client a.path).answer.act) none
     ∙ acts a.path act a.resource
 
 pub acts_asked : ActsAreAsked

@@ -17,7 +17,7 @@ use Rattle.notifier.specs.Attributes.{rank, with_changes, with_number}
 use Rattle.notifier.specs.Query.{changes_of}
 use Rattle.notifier.proofs.Keys.{key_exact, key_total}
 use Rattle.notifier.proofs.AttributeLaws.{name_of_key, others_kept}
-use Rattle.device_requests.specs.declared.answer.Code.{Code}
+use Rattle.device_requests.specs.declared.ruling.Ruling.{Ruling}
 use Rattle.device_requests.specs.Laws.{is_refusal}
 use Rattle.device_requests.specs.Outcomes.{attributes_outcome}
 use Rattle.device_requests.specs.Refusals.{refusals_of, to_write_attributes}
@@ -74,14 +74,14 @@ attributes_set client server path queries h =
     let given = attributes_given client server path queries in
     let rules = refusals_of client server path (to_write_attributes queries) in
     let none = passes rules (refl, (refl, (refl, (refl, (refl, (refl, (refl, (refl, tt))))))))
-    (λ (code : Option Code). annotate_unless code client given)
+    (λ (ruling : Option Ruling). annotate_unless ruling client given)
     (λ c. refl) (ap is_refusal h) in
     let all = fails rules none in
     let cs = spelled_by client.attributes server path (changes_of [] (level_at client.catalog path) queries)
     all.1.1.1.1.1.0 in
     let is : (attributes_outcome client server path queries).client.attributes
     ≡ with_changes client.attributes server path cs.0 =
-    ap (λ (code : Option Code). (annotate_unless code client given).client.attributes) none
+    ap (λ (ruling : Option Ruling). (annotate_unless ruling client given).client.attributes) none
     ∙ ap (λ (g : Option Numbers). (annotate_unless None client g).client.attributes) cs.2 in
     record {
       changes = cs.0;

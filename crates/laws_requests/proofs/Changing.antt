@@ -24,7 +24,6 @@ use Rattle.lwm2m_payloads.specs.declared.given.Given.{Given}
 use Rattle.lwm2m_payloads.specs.declared.given.Mode.{Mode}
 use Rattle.lwm2m_payloads.specs.declared.given.Mode.TheVariants.{Replace, Update}
 use Rattle.lwm2m_payloads.proofs.Written.{given_instances, written_instances}
-use Rattle.device_requests.specs.declared.answer.Code.{Code}
 use Rattle.device_requests.specs.declared.operation.Operation.{Operation}
 use Rattle.device_requests.specs.declared.operation.Operation.TheVariants.{Read, Discover, WriteAttributes}
 use Rattle.device_requests.specs.declared.operation.Operation.TheVariants.{WriteReplace, WritePartial, Create, Execute}
@@ -32,6 +31,7 @@ use Rattle.device_requests.specs.declared.operation.Operation.TheVariants.{Delet
 use Rattle.device_requests.specs.Answer.{Outcome}
 use Rattle.device_requests.specs.Client.{Client}
 use Rattle.device_requests.specs.declared.create.Newborn.{Newborn}
+use Rattle.device_requests.specs.declared.ruling.Ruling.{Ruling}
 use Rattle.device_requests.specs.Create.{create_unless, newborn}
 use Rattle.device_requests.specs.Execute.{execute_unless, with_no_error}
 use Rattle.device_requests.specs.Options.{content_format_of, queries_of}
@@ -128,20 +128,20 @@ executed_instances false false s path = refl
 same : (client : Client) (operation : Operation) → KeepsOthers client client operation
 same client operation = record { attributes = λ h. refl; instances = λ h. refl; values = λ h. refl }
 
-annotated : (code : Option Code) (client : Client) (given : Option Numbers)
-    → KeepsOthers client (annotate_unless code client given).client WriteAttributes
+annotated : (ruling : Option Ruling) (client : Client) (given : Option Numbers)
+    → KeepsOthers client (annotate_unless ruling client given).client WriteAttributes
 annotated None client None = same client WriteAttributes
 annotated None client (Some m) = record { attributes = λ h. cc; instances = λ h. refl; values = λ h. refl }
-annotated (Some code) client given = same client WriteAttributes
+annotated (Some ruling) client given = same client WriteAttributes
 
 pub record KeepsMost (old new : Client) : Type 0 where
   pub attributes : new.attributes ≡ old.attributes
   pub instances : new.store.instances ≡ old.store.instances
 
-write_keeps : (code : Option Code) (client : Client) (s : Stored) → s.instances ≡ client.store.instances
-    → KeepsMost client (write_unless code client s).client
+write_keeps : (ruling : Option Ruling) (client : Client) (s : Stored) → s.instances ≡ client.store.instances
+    → KeepsMost client (write_unless ruling client s).client
 write_keeps None client s h = record { attributes = refl; instances = h }
-write_keeps (Some code) client s h = record { attributes = refl; instances = refl }
+write_keeps (Some ruling) client s h = record { attributes = refl; instances = refl }
 
 pub wrote : (client : Client) (server : ℕ) (mode : Mode) (path : Path) (number : Option ℕ) (payload : List ℕ)
     → KeepsMost client (write_outcome client server mode path number payload).client
@@ -151,20 +151,20 @@ wrote client server mode path number payload =
     (after_write_with_event (mode_at mode path) client path values (event_of path values))
     (left_instances (mode_at mode path) client path number payload (event_of path values))
 
-made : (code : Option Code) (client : Client) (server o : ℕ) (new : Option Newborn)
-    → (create_unless code client server o new).client.attributes ≡ client.attributes
+made : (ruling : Option Ruling) (client : Client) (server o : ℕ) (new : Option Newborn)
+    → (create_unless ruling client server o new).client.attributes ≡ client.attributes
 made None client server o None = refl
 made None client server o (Some b) = refl
-made (Some code) client server o new = refl
+made (Some ruling) client server o new = refl
 
-pub did : (code : Option Code) (client : Client) (path : Path)
-    → KeepsMost client (execute_unless code client path).client
+pub did : (ruling : Option Ruling) (client : Client) (path : Path)
+    → KeepsMost client (execute_unless ruling client path).client
 did None client path =
     record {
       attributes = refl;
       instances = executed_instances (is_resource 5 2 path) (is_resource 3 12 path) client.store path;
     }
-did (Some code) client path = record { attributes = refl; instances = refl }
+did (Some ruling) client path = record { attributes = refl; instances = refl }
 
 keeps_at : (client : Client) (server : ℕ) (m : Message) (path : Path) (operation : Operation)
     → KeepsOthers client (outcome_at client server m (request_with m path operation)).client operation

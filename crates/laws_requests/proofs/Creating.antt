@@ -33,10 +33,10 @@ use Rattle.device_instances.proofs.Controls.{control_within, not_same, one_place
 use Rattle.device_instances.proofs.Instances.{added, not_added}
 use Rattle.device_instances.proofs.Rights.{instance_is, no_entry, object_is, owner_is}
 use Rattle.device_instances.proofs.Within.{kept, written_within}
-use Rattle.device_requests.specs.declared.answer.Code.{Code}
 use Rattle.device_requests.specs.Answer.{Outcome}
 use Rattle.device_requests.specs.Client.{Client}
 use Rattle.device_requests.specs.declared.create.Newborn.{Newborn}
+use Rattle.device_requests.specs.declared.ruling.Ruling.{Ruling}
 use Rattle.device_requests.specs.Create.{create_unless, newborn, newborn_from, number_fault}
 use Rattle.device_requests.specs.Laws.{is_refusal}
 use Rattle.device_requests.specs.Refusals.{is_fixed, refusals_of, to_create}
@@ -191,10 +191,10 @@ creates_add client server o number payload h =
     let new = newborn client o payload in
     let rules = refusals_of client server (Object o) (to_create number payload) in
     let none = passes rules (refl, (refl, (refl, (refl, (refl, (refl, (refl, (refl, tt))))))))
-    (λ (code : Option Code). create_unless code client server o new) (λ c. refl) (ap is_refusal h) in
+    (λ (ruling : Option Ruling). create_unless ruling client server o new) (λ c. refl) (ap is_refusal h) in
     let all = fails rules none in
     let b = some_if_denied new all.1.1.1.1.1.0 in
     subst (λ (out : Outcome). IsCreated client server o payload out)
-    (sym (ap (λ (code : Option Code). create_unless code client server o new) none
+    (sym (ap (λ (ruling : Option Ruling). create_unless ruling client server o new) none
     ∙ ap (λ (x : Option Newborn). create_unless None client server o x) b.1))
     (made client server o payload b.0 b.1 all.1.1.1.0)

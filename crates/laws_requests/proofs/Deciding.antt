@@ -6,17 +6,17 @@ use Rattle.coap_codec.specs.Message.{Message}
 use Rattle.object_defs.specs.Lines.{first_line}
 use Rattle.object_defs.specs.Path.{object_in}
 use Rattle.object_defs.specs.declared.path.Path.{Path}
-use Rattle.device_requests.specs.declared.answer.Code.{Code}
-use Rattle.device_requests.specs.declared.answer.Code.TheVariants.{BadRequest, Unauthorized, NotFound}
-use Rattle.device_requests.specs.declared.answer.Code.TheVariants.{MethodNotAllowed, InternalServerError}
 use Rattle.device_requests.specs.declared.operation.Operation.{Operation}
+use Rattle.device_requests.specs.declared.ruling.Ruling.{Ruling}
+use Rattle.device_requests.specs.declared.ruling.Ruling.TheVariants as rule
 use Rattle.device_requests.specs.Client.{Client}
 use Rattle.device_requests.specs.Laws.{is_refusal}
 use Rattle.device_requests.specs.Order.{Asks, OneTable}
-use Rattle.device_requests.specs.Refusals.{Purpose, done_code, format_refusal, is_invalid, is_out_of_turn, is_too_much}
+use Rattle.device_requests.specs.Refusals.{Purpose, done_ruling, format_ruling, is_invalid, is_out_of_turn, is_too_much}
 use Rattle.device_requests.specs.Refusals.{lacks_format, lacks_operation, lacks_right, lacks_target, to_create}
 use Rattle.device_requests.specs.Refusals.{to_delete, to_discover, to_read}
 use Rattle.device_requests.specs.Request.{outcome_of, purpose_of}
+use Rattle.device_requests.specs.Ruling.{code_of}
 use Rattle.laws_requests.specs.Good.{GoodIsDone, IsGood, LimitsComeLast}
 
 -- no rule holds
@@ -29,32 +29,36 @@ record AreClear (a b c d e f g : Bool) : Type 0 where
   f_is : f ≡ false
   g_is : g ≡ false
 
--- what the code of an answer says of the rules
-record IsDecided (a b c d e f g h : Bool) (done code : Code) : Type 0 where
-  when_done : code ≡ done → AreClear a b c d e f g × (h ≡ false)
-  when_limit : code ≡ InternalServerError → AreClear a b c d e f g × (h ≡ true)
-  is_done : AreClear a b c d e f g → h ≡ false → code ≡ done
-  is_limit : AreClear a b c d e f g → h ≡ true → code ≡ InternalServerError
+-- the rule answers a code of a refusal
+abbrev is_refused : Ruling → Bool
+is_refused ruling = is_refusal (code_of ruling)
 
--- a code that is neither done nor 5.00, where some rule holds
-refused : (a b c d e f g h : Bool) (said done code : Code) → (AreClear a b c d e f g → ⊥) → is_refusal said ≡ true
-    → is_refusal done ≡ false → (said ≡ InternalServerError → ⊥) → Some said ≡ Some code
-    → IsDecided a b c d e f g h done code
-refused a b c d e f g h said done code some refuses succeeds other is =
-    let same = same_Some said code is in
+-- what the rule of an answer says of the others
+record IsDecided (a b c d e f g h : Bool) (done ruling : Ruling) : Type 0 where
+  when_done : ruling ≡ done → AreClear a b c d e f g × (h ≡ false)
+  when_limit : ruling ≡ rule.Limit → AreClear a b c d e f g × (h ≡ true)
+  is_done : AreClear a b c d e f g → h ≡ false → ruling ≡ done
+  is_limit : AreClear a b c d e f g → h ≡ true → ruling ≡ rule.Limit
+
+-- neither the success nor the limits, where some rule holds
+refused : (a b c d e f g h : Bool) (said done ruling : Ruling) → (AreClear a b c d e f g → ⊥) → is_refused said ≡ true
+    → is_refused done ≡ false → (said ≡ rule.Limit → ⊥) → Some said ≡ Some ruling
+    → IsDecided a b c d e f g h done ruling
+refused a b c d e f g h said done ruling some refuses succeeds other is =
+    let same = same_Some said ruling is in
     record {
-      when_done = λ p. let k : true ≡ false = sym refuses ∙ (ap is_refusal (same ∙ p) ∙ succeeds) in cc;
+      when_done = λ p. let k : true ≡ false = sym refuses ∙ (ap is_refused (same ∙ p) ∙ succeeds) in cc;
       when_limit = λ p. absurd (other (same ∙ p));
       is_done = λ clear p. absurd (some clear);
       is_limit = λ clear p. absurd (some clear);
     }
 
-limited : (done code : Code) → is_refusal done ≡ false → Some InternalServerError ≡ Some code
-    → IsDecided false false false false false false false true done code
-limited done code succeeds is =
-    let same = same_Some InternalServerError code is in
+limited : (done ruling : Ruling) → is_refused done ≡ false → Some rule.Limit ≡ Some ruling
+    → IsDecided false false false false false false false true done ruling
+limited done ruling succeeds is =
+    let same = same_Some rule.Limit ruling is in
     record {
-      when_done = λ p. let k : true ≡ false = ap is_refusal (same ∙ p) ∙ succeeds in cc;
+      when_done = λ p. let k : true ≡ false = ap is_refused (same ∙ p) ∙ succeeds in cc;
       when_limit = λ p. (
         record { a_is = refl; b_is = refl; c_is = refl; d_is = refl; e_is = refl; f_is = refl; g_is = refl },
         refl,
@@ -63,52 +67,53 @@ limited done code succeeds is =
       is_limit = λ clear p. sym same;
     }
 
-finished : (done code : Code) → is_refusal done ≡ false → Some done ≡ Some code
-    → IsDecided false false false false false false false false done code
-finished done code succeeds is =
-    let same = same_Some done code is in
+finished : (done ruling : Ruling) → is_refused done ≡ false → Some done ≡ Some ruling
+    → IsDecided false false false false false false false false done ruling
+finished done ruling succeeds is =
+    let same = same_Some done ruling is in
     record {
       when_done = λ p. (
         record { a_is = refl; b_is = refl; c_is = refl; d_is = refl; e_is = refl; f_is = refl; g_is = refl },
         refl,
       );
-      when_limit = λ p. let k : true ≡ false = sym (ap is_refusal (same ∙ p)) ∙ succeeds in cc;
+      when_limit = λ p. let k : true ≡ false = sym (ap is_refused (same ∙ p)) ∙ succeeds in cc;
       is_done = λ clear p. sym same;
       is_limit = λ clear p. cc;
     }
 
-decided : (a b c d e f g h : Bool) (format done code : Code) → is_refusal format ≡ true → is_refusal done ≡ false
-    → (format ≡ InternalServerError → ⊥)
-    → first_line ((a, Unauthorized) ∷ (b, NotFound) ∷ (c, Unauthorized) ∷ (d, MethodNotAllowed) ∷ (e, format)
-    ∷ (f, BadRequest) ∷ (g, MethodNotAllowed) ∷ (h, InternalServerError) ∷ (true, done) ∷ []) ≡ Some code
-    → IsDecided a b c d e f g h done code
-decided true b c d e f g h format done code r s o is =
-    refused true b c d e f g h Unauthorized done code (λ k. let l = k.a_is in cc) refl s (λ p. cc) is
-decided false true c d e f g h format done code r s o is =
-    refused false true c d e f g h NotFound done code (λ k. let l = k.b_is in cc) refl s (λ p. cc) is
-decided false false true d e f g h format done code r s o is =
-    refused false false true d e f g h Unauthorized done code (λ k. let l = k.c_is in cc) refl s (λ p. cc) is
-decided false false false true e f g h format done code r s o is =
-    refused false false false true e f g h MethodNotAllowed done code (λ k. let l = k.d_is in cc) refl s (λ p. cc) is
-decided false false false false true f g h format done code r s o is =
-    refused false false false false true f g h format done code (λ k. let l = k.e_is in cc) r s o is
-decided false false false false false true g h format done code r s o is =
-    refused false false false false false true g h BadRequest done code (λ k. let l = k.f_is in cc) refl s (λ p. cc) is
-decided false false false false false false true h format done code r s o is =
-    refused false false false false false false true h MethodNotAllowed done code (λ k. let l = k.g_is in cc) refl s
+decided : (a b c d e f g h : Bool) (format done ruling : Ruling) → is_refused format ≡ true → is_refused done ≡ false
+    → (format ≡ rule.Limit → ⊥)
+    → first_line ((a, rule.Security) ∷ (b, rule.Target) ∷ (c, rule.Right) ∷ (d, rule.Operation) ∷ (e, format)
+    ∷ (f, rule.Payload) ∷ (g, rule.State) ∷ (h, rule.Limit) ∷ (true, done) ∷ []) ≡ Some ruling
+    → IsDecided a b c d e f g h done ruling
+decided true b c d e f g h format done ruling r s o is =
+    refused true b c d e f g h rule.Security done ruling (λ k. let l = k.a_is in cc) refl s (λ p. cc) is
+decided false true c d e f g h format done ruling r s o is =
+    refused false true c d e f g h rule.Target done ruling (λ k. let l = k.b_is in cc) refl s (λ p. cc) is
+decided false false true d e f g h format done ruling r s o is =
+    refused false false true d e f g h rule.Right done ruling (λ k. let l = k.c_is in cc) refl s (λ p. cc) is
+decided false false false true e f g h format done ruling r s o is =
+    refused false false false true e f g h rule.Operation done ruling (λ k. let l = k.d_is in cc) refl s (λ p. cc) is
+decided false false false false true f g h format done ruling r s o is =
+    refused false false false false true f g h format done ruling (λ k. let l = k.e_is in cc) r s o is
+decided false false false false false true g h format done ruling r s o is =
+    refused false false false false false true g h rule.Payload done ruling (λ k. let l = k.f_is in cc) refl s
     (λ p. cc) is
-decided false false false false false false false true format done code r s o is = limited done code s is
-decided false false false false false false false false format done code r s o is = finished done code s is
+decided false false false false false false true h format done ruling r s o is =
+    refused false false false false false false true h rule.State done ruling (λ k. let l = k.g_is in cc) refl s
+    (λ p. cc) is
+decided false false false false false false false true format done ruling r s o is = limited done ruling s is
+decided false false false false false false false false format done ruling r s o is = finished done ruling s is
 
-format_refuses : (purpose : Purpose) → is_refusal (format_refusal purpose) ≡ true
+format_refuses : (purpose : Purpose) → is_refused (format_ruling purpose) ≡ true
 format_refuses (to_read accept) = refl
 format_refuses purpose = refl
 
-format_is_no_limit : (purpose : Purpose) → format_refusal purpose ≡ InternalServerError → ⊥
+format_is_no_limit : (purpose : Purpose) → format_ruling purpose ≡ rule.Limit → ⊥
 format_is_no_limit (to_read accept) h = cc
 format_is_no_limit purpose h = cc
 
-done_succeeds : (purpose : Purpose) → is_refusal (done_code purpose) ≡ false
+done_succeeds : (purpose : Purpose) → is_refused (done_ruling purpose) ≡ false
 done_succeeds (to_read accept) = refl
 done_succeeds to_discover = refl
 done_succeeds (to_create format payload) = refl
@@ -121,14 +126,14 @@ order : OneTable → (client : Client) (server : ℕ) (m : Message) (path : Path
     IsDecided (object_in path == 0) (lacks_target client path purpose) (lacks_right client server path purpose)
     (lacks_operation client.catalog path purpose) (lacks_format client.catalog path purpose)
     (is_invalid client server path purpose) (is_out_of_turn client path purpose)
-    (is_too_much client server path purpose) (done_code purpose) (outcome_of client server m).answer.code
+    (is_too_much client server path purpose) (done_ruling purpose) (outcome_of client server m).answer.ruling
 order one_table client server m path operation asks =
     let purpose = purpose_of m operation in
     decided (object_in path == 0) (lacks_target client path purpose) (lacks_right client server path purpose)
     (lacks_operation client.catalog path purpose) (lacks_format client.catalog path purpose)
     (is_invalid client server path purpose) (is_out_of_turn client path purpose)
-    (is_too_much client server path purpose) (format_refusal purpose) (done_code purpose)
-    (outcome_of client server m).answer.code (format_refuses purpose) (done_succeeds purpose)
+    (is_too_much client server path purpose) (format_ruling purpose) (done_ruling purpose)
+    (outcome_of client server m).answer.ruling (format_refuses purpose) (done_succeeds purpose)
     (format_is_no_limit purpose) (one_table client server m path operation asks)
 
 -- none of the rules before the limits holds

@@ -20,7 +20,7 @@ use Rattle.notifier.specs.Attributes.{Numbers, has_number, lies_under, without_u
 use Rattle.notifier.proofs.Keys.{key_exact, key_total}
 use Rattle.device_instances.specs.Deletions.{instance_in, goes_with, without_deleted}
 use Rattle.device_instances.proofs.Instances.{listed}
-use Rattle.device_requests.specs.declared.answer.Code.{Code}
+use Rattle.device_requests.specs.declared.ruling.Ruling.{Ruling}
 use Rattle.device_requests.specs.Client.{Client}
 use Rattle.device_requests.specs.Delete.{attributes_after_delete, delete_unless, taken_away, without_controls}
 use Rattle.device_requests.specs.Laws.{is_refusal}
@@ -169,8 +169,9 @@ taken client o i =
 
 pub deletes_take : DeletesTake
 deletes_take client server o i h =
-    subst (λ (code : Option Code). TakesAway client (delete_unless code client (Instance o i)).client (place_of o i))
+    subst (λ (ruling : Option Ruling). TakesAway client (delete_unless ruling client (Instance o i)).client
+    (place_of o i))
     (sym (passes (refusals_of client server (Instance o i) to_delete)
     (refl, (refl, (refl, (refl, (refl, (refl, (refl, (refl, tt))))))))
-    (λ (code : Option Code). delete_unless code client (Instance o i)) (λ c. refl) (ap is_refusal h)))
+    (λ (ruling : Option Ruling). delete_unless ruling client (Instance o i)) (λ c. refl) (ap is_refusal h)))
     (taken client o i)

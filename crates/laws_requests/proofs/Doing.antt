@@ -24,8 +24,6 @@ use Rattle.lwm2m_payloads.specs.declared.given.Given.{Given}
 use Rattle.lwm2m_payloads.specs.declared.given.Mode.{Mode}
 use Rattle.lwm2m_payloads.specs.declared.given.Mode.TheVariants.{Replace, Update}
 use Rattle.lwm2m_payloads.proofs.EachOnce.{resource_once}
-use Rattle.device_requests.specs.declared.answer.Code.{Code}
-use Rattle.device_requests.specs.declared.answer.Code.TheVariants.{Changed, Created, Deleted}
 use Rattle.device_requests.specs.declared.operation.Operation.{Operation}
 use Rattle.device_requests.specs.declared.operation.Operation.TheVariants.{Read, Discover, WriteAttributes}
 use Rattle.device_requests.specs.declared.operation.Operation.TheVariants.{WriteReplace, WritePartial, Create, Execute}
@@ -33,15 +31,18 @@ use Rattle.device_requests.specs.declared.operation.Operation.TheVariants.{Delet
 use Rattle.device_requests.specs.Answer.{Outcome}
 use Rattle.device_requests.specs.Client.{Client, with_attributes, with_stored}
 use Rattle.device_requests.specs.declared.create.Newborn.{Newborn}
+use Rattle.device_requests.specs.declared.ruling.Ruling.{Ruling}
+use Rattle.device_requests.specs.declared.answer.Code.TheVariants.{Changed, Created, Deleted}
 use Rattle.device_requests.specs.Create.{create_unless, newborn}
 use Rattle.device_requests.specs.Delete.{delete_unless}
 use Rattle.device_requests.specs.Execute.{execute_unless}
 use Rattle.device_requests.specs.Options.{content_format_of, queries_of}
 use Rattle.device_requests.specs.Outcomes.{create_outcome, delete_outcome, execute_outcome}
 use Rattle.device_requests.specs.Outcomes.{write_outcome}
-use Rattle.device_requests.specs.Refusals.{done_code, is_refused_now, refusal_of, refusals_of, to_create, to_delete}
+use Rattle.device_requests.specs.Refusals.{done_ruling, is_refused_now, refusal_of, refusals_of, to_create, to_delete}
 use Rattle.device_requests.specs.Refusals.{to_execute, to_write, to_write_attributes}
 use Rattle.device_requests.specs.Request.{outcome_at, purpose_of, request_with}
+use Rattle.device_requests.specs.Ruling.{code_of}
 use Rattle.device_requests.specs.Targets.{is_resource, place_of, resource_place}
 use Rattle.device_requests.specs.Write.{after_write, after_write_with_event, event_of, given_to_resource, mode_at}
 use Rattle.device_requests.specs.Write.{new_values, values_given, write_unless}
@@ -86,7 +87,7 @@ untaken client mode o i r payload f d given h k e =
 
 resource_stored : (client : Client) (server : ℕ) (mode : Mode) (o i r : ℕ) (number : Option ℕ) (payload : List ℕ)
     → event_of (Resource o i r) (new_values client (Resource o i r) number payload) ≡ None
-    → (write_outcome client server mode (Resource o i r) number payload).answer.code ≡ Changed
+    → code_of (write_outcome client server mode (Resource o i r) number payload).answer.ruling ≡ Changed
     → IsResourceWritten client mode o i r number payload
     (write_outcome client server mode (Resource o i r) number payload).client.store
 resource_stored client server mode o i r number payload none h =
@@ -121,7 +122,7 @@ resource_stored client server mode o i r number payload none h =
 
 firmware_takes : (client : Client) (server : ℕ) (mode : Mode) (path : Path) (number : Option ℕ) (payload : List ℕ)
     (event : FirmwareEvent) → event_of path (new_values client path number payload) ≡ Some event
-    → (write_outcome client server mode path number payload).answer.code ≡ Changed
+    → code_of (write_outcome client server mode path number payload).answer.ruling ≡ Changed
     → IsTaken client.store event (write_outcome client server mode path number payload).client.store
 firmware_takes client server mode path number payload event is h =
     let values = new_values client path number payload in
@@ -129,7 +130,7 @@ firmware_takes client server mode path number payload event is h =
     let all = fails (refusals_of client server path (to_write mode number payload)) none in
     let after = some_if_denied (firmware_after client.store event) (taken_now is all.1.1.1.1.1.1.0) in
     let stored : (write_outcome client server mode path number payload).client.store ≡ after.0 =
-    ap (λ (code : Option Code). (write_unless code client
+    ap (λ (ruling : Option Ruling). (write_unless ruling client
     (after_write_with_event (mode_at mode path) client path values (event_of path values))).client.store) none
     ∙ ap (after_write_with_event (mode_at mode path) client path values) is
     ∙ ap (λ (t : Option Stored). unwrap_or t client.store) after.1 in
@@ -143,14 +144,14 @@ firmware_takes client server mode path number payload event is h =
 -- ---- each operation
 
 writes : (client : Client) (server : ℕ) (m : Message) (mode : Mode) (path : Path)
-    → (write_outcome client server mode path (content_format_of m.options) m.payload).answer.code ≡ Changed
+    → code_of (write_outcome client server mode path (content_format_of m.options) m.payload).answer.ruling ≡ Changed
     → WritesTo client m mode path
     (write_outcome client server mode path (content_format_of m.options) m.payload).client
 writes client server m mode path h =
     let number = content_format_of m.options in
     let new = λ (p : Path). (write_outcome client server mode p number m.payload).client.store in
     let at_path = λ (p : Path) (e : path ≡ p).
-    subst (λ (q : Path). (write_outcome client server mode q number m.payload).answer.code ≡ Changed) e h in
+    subst (λ (q : Path). code_of (write_outcome client server mode q number m.payload).answer.ruling ≡ Changed) e h in
     record {
       frame = is_stored client server mode path number m.payload h;
       instances = (wrote client server mode path number m.payload).instances;
@@ -166,32 +167,32 @@ writes client server m mode path h =
           (parts_written client server mode o i r n number m.payload (at_path (Part o i r n) e));
     }
 
-annotates_only : (code : Option Code) (client : Client) (given : Option Numbers)
-    → (annotate_unless code client given).client
-    ≡ with_attributes client (annotate_unless code client given).client.attributes
+annotates_only : (ruling : Option Ruling) (client : Client) (given : Option Numbers)
+    → (annotate_unless ruling client given).client
+    ≡ with_attributes client (annotate_unless ruling client given).client.attributes
 annotates_only None client None = refl
 annotates_only None client (Some m) = refl
-annotates_only (Some code) client given = refl
+annotates_only (Some ruling) client given = refl
 
-adds_only : (code : Option Code) (client : Client) (server o : ℕ) (new : Option Newborn)
-    → (create_unless code client server o new).client
-    ≡ with_stored client (create_unless code client server o new).client.store
+adds_only : (ruling : Option Ruling) (client : Client) (server o : ℕ) (new : Option Newborn)
+    → (create_unless ruling client server o new).client
+    ≡ with_stored client (create_unless ruling client server o new).client.store
 adds_only None client server o None = refl
 adds_only None client server o (Some b) = refl
-adds_only (Some code) client server o new = refl
+adds_only (Some ruling) client server o new = refl
 
-executes_only : (code : Option Code) (client : Client) (path : Path)
-    → (execute_unless code client path).client
-    ≡ with_stored client (execute_unless code client path).client.store
+executes_only : (ruling : Option Ruling) (client : Client) (path : Path)
+    → (execute_unless ruling client path).client
+    ≡ with_stored client (execute_unless ruling client path).client.store
 executes_only None client path = refl
-executes_only (Some code) client path = refl
+executes_only (Some ruling) client path = refl
 
-removes_only : (code : Option Code) (client : Client) (path : Path)
-    → (delete_unless code client path).client
-    ≡ with_attributes (with_stored client (delete_unless code client path).client.store)
-    (delete_unless code client path).client.attributes
+removes_only : (ruling : Option Ruling) (client : Client) (path : Path)
+    → (delete_unless ruling client path).client
+    ≡ with_attributes (with_stored client (delete_unless ruling client path).client.store)
+    (delete_unless ruling client path).client.attributes
 removes_only None client path = refl
-removes_only (Some code) client path = refl
+removes_only (Some ruling) client path = refl
 
 -- a path that is no such resource of any instance
 not_there : (object resource : ℕ) (path : Path) → ((i : ℕ) → path ≢ Resource object i resource)
@@ -207,16 +208,16 @@ not_there object resource (Resource o i r) h = by (o == object) (r == resource) 
 not_there object resource (Part o i r n) h = refl
 
 executes : (client : Client) (server : ℕ) (path : Path) (number : Option ℕ) (payload : List ℕ)
-    → (execute_outcome client server path number payload).answer.code ≡ Changed
+    → code_of (execute_outcome client server path number payload).answer.ruling ≡ Changed
     → Executes client path (execute_outcome client server path number payload).client
 executes client server path number payload h =
-    let code = refusal_of client server path (to_execute number payload) in
+    let ruling = refusal_of client server path (to_execute number payload) in
     let new = λ (p : Path). (execute_outcome client server p number payload).client.store in
     let at_path = λ (p : Path) (e : path ≡ p).
-    subst (λ (q : Path). (execute_outcome client server q number payload).answer.code ≡ Changed) e h in
+    subst (λ (q : Path). code_of (execute_outcome client server q number payload).answer.ruling ≡ Changed) e h in
     record {
-      frame = executes_only code client path;
-      instances = (did code client path).instances;
+      frame = executes_only ruling client path;
+      instances = (did ruling client path).instances;
       update = λ i e. subst (λ (p : Path). BeginsUpdate client.store (new p)) (sym e)
           (updates_begin client server i number payload (at_path (Resource 5 i 2) e));
       reset = λ i e. subst (λ (p : Path). HasNoError client.store (new p) i) (sym e)
@@ -226,7 +227,7 @@ executes client server path number payload h =
     }
 
 adds : (client : Client) (server : ℕ) (m : Message) (path : Path) (number : Option ℕ)
-    → (create_outcome client server path number m.payload).answer.code ≡ Created
+    → code_of (create_outcome client server path number m.payload).answer.ruling ≡ Created
     → Adds client server m path (create_outcome client server path number m.payload)
 adds client server m path number h =
     record {
@@ -235,11 +236,12 @@ adds client server m path number h =
       added = λ o e. subst (λ (p : Path). IsCreated client server o m.payload
           (create_outcome client server p number m.payload)) (sym e)
           (creates_add client server o number m.payload
-          (subst (λ (p : Path). (create_outcome client server p number m.payload).answer.code ≡ Created) e h));
+          (subst (λ (p : Path). code_of (create_outcome client server p number m.payload).answer.ruling ≡ Created) e
+          h));
     }
 
 removes : (client : Client) (server : ℕ) (path : Path)
-    → (delete_outcome client server path).answer.code ≡ Deleted
+    → code_of (delete_outcome client server path).answer.ruling ≡ Deleted
     → Removes client path (delete_outcome client server path).client
 removes client server path h =
     record {
@@ -247,11 +249,12 @@ removes client server path h =
       taken = λ o i e. subst (λ (p : Path). TakesAway client (delete_outcome client server p).client (place_of o i))
           (sym e)
           (deletes_take client server o i
-          (subst (λ (p : Path). (delete_outcome client server p).answer.code ≡ Deleted) e h));
+          (subst (λ (p : Path). code_of (delete_outcome client server p).answer.ruling ≡ Deleted) e h));
     }
 
 changes_at : (client : Client) (server : ℕ) (m : Message) (path : Path) (operation : Operation)
-    → (outcome_at client server m (request_with m path operation)).answer.code ≡ done_code (purpose_of m operation)
+    → code_of (outcome_at client server m (request_with m path operation)).answer.ruling
+    ≡ code_of (done_ruling (purpose_of m operation))
     → Changes client server m path operation (outcome_at client server m (request_with m path operation))
 changes_at client server m path Read h = refl
 changes_at client server m path Discover h = refl
@@ -269,6 +272,6 @@ changes_at client server m path Delete h = removes client server path h
 
 pub done_is_changed : DoneIsChanged
 done_is_changed client server m path operation asks =
-    subst (λ (o : Outcome). o.answer.code ≡ done_code (purpose_of m operation)
+    subst (λ (o : Outcome). o.answer.ruling ≡ done_ruling (purpose_of m operation)
     → Changes client server m path operation o) (sym (comes_to client server m path operation asks))
-    (changes_at client server m path operation)
+    (λ done. changes_at client server m path operation (ap code_of done))

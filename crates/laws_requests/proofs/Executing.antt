@@ -20,21 +20,22 @@ use Rattle.instance_store.proofs.SetValues.{value_after, value_elsewhere}
 use Rattle.device_firmware.specs.Firmware.{firmware, firmware_after, next_from, state_as, state_in, with_outcome}
 use Rattle.device_firmware.specs.declared.event.FirmwareEvent.TheVariants as event
 use Rattle.device_instances.proofs.Within.{kept}
-use Rattle.device_requests.specs.declared.answer.Code.{Code}
+use Rattle.device_requests.specs.declared.ruling.Ruling.{Ruling}
 use Rattle.device_requests.specs.declared.answer.Code.TheVariants.{Changed}
 use Rattle.device_requests.specs.Client.{Client, with_stored}
 use Rattle.device_requests.specs.Laws.{is_refusal}
 use Rattle.device_requests.specs.Execute.{after_execute, execute_unless, with_no_error}
 use Rattle.device_requests.specs.Outcomes.{execute_outcome}
 use Rattle.device_requests.specs.Refusals.{refusal_of, refusals_of, to_execute}
+use Rattle.device_requests.specs.Ruling.{code_of}
 use Rattle.device_requests.specs.Targets.{is_resource, resource_place}
 use Rattle.laws_requests.specs.Executions.{BeginsUpdate, ErrorsAreReset, ExecutesKeep, HasNoError, UpdatesBegin}
 use Rattle.laws_requests.proofs.Asking.{fails, passes}
 
-same_by : (code : Option Code) (client : Client) (path : Path) → after_execute client.store path ≡ client.store
-    → (execute_unless code client path).client ≡ client
+same_by : (ruling : Option Ruling) (client : Client) (path : Path) → after_execute client.store path ≡ client.store
+    → (execute_unless ruling client path).client ≡ client
 same_by None client path h = ap (λ (s : Stored). with_stored client s) h
-same_by (Some code) client path h = refl
+same_by (Some ruling) client path h = refl
 
 pub executes_keep : ExecutesKeep
 executes_keep client server path number payload h k =
@@ -72,17 +73,18 @@ no_error s i =
     }
 
 pub unrefused : (client : Client) (server : ℕ) (path : Path) (number : Option ℕ) (payload : List ℕ)
-    → (execute_outcome client server path number payload).answer.code ≡ Changed
+    → code_of (execute_outcome client server path number payload).answer.ruling ≡ Changed
     → refusal_of client server path (to_execute number payload) ≡ None
 unrefused client server path number payload h =
     passes (refusals_of client server path (to_execute number payload))
     (refl, (refl, (refl, (refl, (refl, (refl, (refl, (refl, tt))))))))
-    (λ (code : Option Code). execute_unless code client path) (λ c. refl) (ap is_refusal h)
+    (λ (ruling : Option Ruling). execute_unless ruling client path) (λ c. refl) (ap is_refusal h)
 
 pub errors_reset : ErrorsAreReset
 errors_reset client server i number payload h =
     subst
-    (λ (code : Option Code). HasNoError client.store (execute_unless code client (Resource 3 i 12)).client.store i)
+    (λ (ruling : Option Ruling). HasNoError client.store
+    (execute_unless ruling client (Resource 3 i 12)).client.store i)
     (sym (unrefused client server (Resource 3 i 12) number payload h)) (no_error client.store i)
 
 -- ---- an update
@@ -150,6 +152,7 @@ pub updates_begin : UpdatesBegin
 updates_begin client server i number payload h =
     let none = unrefused client server (Resource 5 i 2) number payload h in
     let all = fails (refusals_of client server (Resource 5 i 2) (to_execute number payload)) none in
-    subst (λ (code : Option Code). BeginsUpdate client.store (execute_unless code client (Resource 5 i 2)).client.store)
+    subst (λ (ruling : Option Ruling). BeginsUpdate client.store
+    (execute_unless ruling client (Resource 5 i 2)).client.store)
     (sym none)
     (begun_by client.store (has_instance client.store firmware) all.1.1.1.1.1.1.0)

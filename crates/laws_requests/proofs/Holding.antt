@@ -40,9 +40,8 @@ use Rattle.lwm2m_payloads.specs.Written.{PartsOnce, part_value}
 use Rattle.lwm2m_payloads.specs.declared.format.Format.{Format}
 use Rattle.lwm2m_payloads.specs.declared.format.Format.TheVariants.{Tlv}
 use Rattle.device_requests.specs.declared.answer.Answer.{Answer}
-use Rattle.device_requests.specs.declared.answer.Code.{Code}
-use Rattle.device_requests.specs.declared.answer.Code.TheVariants.{Unauthorized, NotFound, MethodNotAllowed}
-use Rattle.device_requests.specs.declared.answer.Code.TheVariants.{NotAcceptable, InternalServerError}
+use Rattle.device_requests.specs.declared.ruling.Ruling.{Ruling}
+use Rattle.device_requests.specs.declared.ruling.Ruling.TheVariants as rule
 use Rattle.device_requests.specs.Access.{may_read}
 use Rattle.device_requests.specs.Answer.{bare, refused_or}
 use Rattle.device_requests.specs.Client.{Client}
@@ -388,8 +387,8 @@ payload_is client server o i r d accept h k =
     ∙ ap (λ (t : Trees). shortest_tlv t) (records resources p (finite.entries client.store.values)
     (parts_shown client o i r d h.defined_as h.several h.readable))
 
-absent : (a e : Bool) (lines : List (Bool × Code)) (answer : Answer) → a ≡ false → e ≡ false
-    → refused_or (first_line ((a, Unauthorized) ∷ (not e, NotFound) ∷ lines)) answer ≡ bare NotFound
+absent : (a e : Bool) (lines : List (Bool × Ruling)) (answer : Answer) → a ≡ false → e ≡ false
+    → refused_or (first_line ((a, rule.Security) ∷ (not e, rule.Target) ∷ lines)) answer ≡ bare rule.Target
 absent true e lines answer h k = cc
 absent false true lines answer h k = cc
 absent false false lines answer h k = refl
@@ -404,10 +403,10 @@ answered : (client : Client) (server o i r : ℕ) (d : ResourceDef) (accept : Op
 answered client server o i r d accept h may k [] is =
     let path = Resource o i r in
     absent (o == 0) (exists client.catalog client.store path)
-    ((not (may_read client server path), Unauthorized)
-    ∷ (not (is_readable (definition_of client.catalog o r)), MethodNotAllowed)
-    ∷ (not (is_some (format_at client.catalog path accept)), NotAcceptable)
-    ∷ (is_oversized (read_payload client server path accept), InternalServerError) ∷ [])
+    ((not (may_read client server path), rule.Right)
+    ∷ (not (is_readable (definition_of client.catalog o r)), rule.Operation)
+    ∷ (not (is_some (format_at client.catalog path accept)), rule.Accept)
+    ∷ (is_oversized (read_payload client server path accept), rule.Limit) ∷ [])
     (content_in (format_at client.catalog path accept) (read_payload client server path accept)) h.object
     (exists_by client o i r d h ∙ ap (λ (parts : PartList). nat_lt 0 (length parts)) is)
 answered client server o i r d accept h may k (e ∷ parts) is =

@@ -9,13 +9,13 @@ use Rattle.std.proofs.lemmas.Bool.{ne_eqb, false_from_ne_true, both_ways, or_par
 use Rattle.coap_codec.specs.Message.{Message}
 use Rattle.coap_codec.specs.declared.option.Opt.{Opt}
 use Rattle.object_defs.specs.declared.path.Path.{Path}
-use Rattle.device_requests.specs.declared.answer.Code.{Code}
-use Rattle.device_requests.specs.declared.answer.Code.TheVariants.{BadOption}
 use Rattle.device_requests.specs.declared.operation.Operation.{Operation}
 use Rattle.device_requests.specs.declared.operation.Operation.TheVariants.{Read, Discover, WriteAttributes}
 use Rattle.device_requests.specs.declared.operation.Operation.TheVariants.{WriteReplace, WritePartial, Create, Execute}
 use Rattle.device_requests.specs.declared.operation.Operation.TheVariants.{Delete}
 use Rattle.device_requests.specs.declared.request.Request.{Request}
+use Rattle.device_requests.specs.declared.ruling.Ruling.{Ruling}
+use Rattle.device_requests.specs.declared.ruling.Ruling.TheVariants as rule
 use Rattle.device_requests.specs.Client.{Client}
 use Rattle.device_requests.specs.Operation.{operation_of}
 use Rattle.device_requests.specs.Options.{accept_of, content_format_of, has_known_form, has_query, has_unknown_critical}
@@ -147,9 +147,9 @@ same_on m os (Some path) s =
 
 same_request : (m : Message) (os : List Opt) → SaysSame m os → request_of m ≡ request_of (with_options m os)
 same_request m os s =
-    ap (λ (t : Bool × List (List ℕ)). if t.0 then Err BadOption else request_on m (path_of t.1))
+    ap (λ (t : Bool × List (List ℕ)). if t.0 then Err rule.Options else request_on m (path_of t.1))
     (λ j. (s.critical j, s.segments j))
-    ∙ ap (λ (r : Result Request Code). if has_unrecognized_critical os then Err BadOption else r)
+    ∙ ap (λ (r : Result Request Ruling). if has_unrecognized_critical os then Err rule.Options else r)
     (same_on m os (path_of (segments_of os)) s)
 
 same_outcome : (client : Client) (server : ℕ) (m : Message) (os : List Opt) (r : Request) (operation : Operation)
@@ -163,9 +163,9 @@ same_outcome client server m os r Create s = refl
 same_outcome client server m os r Execute s = refl
 same_outcome client server m os r Delete s = refl
 
-same_for : (client : Client) (server : ℕ) (m : Message) (os : List Opt) (r : Result Request Code) → SaysSame m os
+same_for : (client : Client) (server : ℕ) (m : Message) (os : List Opt) (r : Result Request Ruling) → SaysSame m os
     → outcome_for client server m r ≡ outcome_for client server (with_options m os) r
-same_for client server m os (Err code) s = refl
+same_for client server m os (Err ruling) s = refl
 same_for client server m os (Ok r) s = same_outcome client server m os r r.operation s
 
 pub others_say_nothing : OthersSayNothing

@@ -28,7 +28,7 @@ use Rattle.lwm2m_payloads.specs.declared.given.Mode.{Mode}
 use Rattle.lwm2m_payloads.specs.declared.given.Mode.TheVariants.{Replace}
 use Rattle.lwm2m_payloads.proofs.EachOnce.{resource_once}
 use Rattle.lwm2m_payloads.proofs.Written.{at_given, given_instances}
-use Rattle.device_requests.specs.declared.answer.Code.{Code}
+use Rattle.device_requests.specs.declared.ruling.Ruling.{Ruling}
 use Rattle.device_requests.specs.Client.{Client, with_stored}
 use Rattle.device_requests.specs.Outcomes.{write_outcome}
 use Rattle.device_requests.specs.Read.{format_at}
@@ -144,7 +144,7 @@ multiple_back client server o i r d number payload defined_as several readable h
     let once : PartsOnce parts.0 = subst GivenOnce parts.1 (resource_once d Tlv payload g.0 gives) in
     let stored = with_given Replace client.store p (Parts parts.0) in
     let new : (write_outcome client server Replace path number payload).client ≡ with_stored client stored =
-    ap (λ (code : Option Code). (write_unless code client
+    ap (λ (ruling : Option Ruling). (write_unless ruling client
     (leaves client Replace path payload (format_at client.catalog path number))).client) no_line
     ∙ ap (λ (s : Stored). with_stored client s) (ap (leaves client Replace path payload) c.served
     ∙ parts_leave client Replace o i r payload c.format d parts.0 (g.1 ∙ are) defined_as readable) in

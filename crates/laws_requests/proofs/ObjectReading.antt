@@ -35,9 +35,8 @@ use Rattle.lwm2m_payloads.specs.Nodes.{shown_in}
 use Rattle.lwm2m_payloads.specs.declared.format.Format.{Format}
 use Rattle.lwm2m_payloads.specs.declared.format.Format.TheVariants.{Tlv}
 use Rattle.device_requests.specs.declared.answer.Answer.{Answer}
-use Rattle.device_requests.specs.declared.answer.Code.{Code}
-use Rattle.device_requests.specs.declared.answer.Code.TheVariants.{Unauthorized, NotFound, MethodNotAllowed}
-use Rattle.device_requests.specs.declared.answer.Code.TheVariants.{NotAcceptable, InternalServerError}
+use Rattle.device_requests.specs.declared.ruling.Ruling.{Ruling}
+use Rattle.device_requests.specs.declared.ruling.Ruling.TheVariants as rule
 use Rattle.device_requests.specs.Access.{may_read, reads, shown_instances}
 use Rattle.device_requests.specs.Answer.{bare, refused_or}
 use Rattle.device_requests.specs.Client.{Client}
@@ -421,9 +420,9 @@ object_read client server o d accept other is may k =
           (ap (λ (f : Option Format). unwrap_or (option_map (payload_in client server path) f) []) format),
     )
 
-no_right : (a b s : Bool) (lines : List (Bool × Code)) (answer : Answer) → b ≡ true → s ≡ false
-    → refused_or (first_line ((a, Unauthorized) ∷ (not b, NotFound) ∷ (not s, Unauthorized) ∷ lines)) answer
-    ≡ bare Unauthorized
+no_right : (a b s : Bool) (lines : List (Bool × Ruling)) (answer : Answer) → b ≡ true → s ≡ false
+    → refused_or (first_line ((a, rule.Security) ∷ (not b, rule.Target) ∷ (not s, rule.Right) ∷ lines)) answer
+    ≡ bare (if a then rule.Security else rule.Right)
 no_right true b s lines answer h k = refl
 no_right false false s lines answer h k = cc
 no_right false true true lines answer h k = cc
@@ -446,8 +445,8 @@ object_hidden client server o i d accept is there never =
     let path = Object o in
     let all = instances_of client.store o in
     no_right (o == 0) (exists client.catalog client.store path) (may_read client server path)
-    ((false, MethodNotAllowed) ∷ (not (is_some (format_at client.catalog path accept)), NotAcceptable)
-    ∷ (is_oversized (read_payload client server path accept), InternalServerError) ∷ [])
+    ((false, rule.Operation) ∷ (not (is_some (format_at client.catalog path accept)), rule.Accept)
+    ∷ (is_oversized (read_payload client server path accept), rule.Limit) ∷ [])
     (content_in (format_at client.catalog path accept) (read_payload client server path accept))
     (ap (λ (x : Option ObjectDef). is_some x) is)
     (ap (λ (b : Bool). b || list_any (reads client.store (length client.accounts) server o) all)

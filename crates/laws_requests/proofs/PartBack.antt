@@ -20,7 +20,7 @@ use Rattle.lwm2m_payloads.specs.declared.format.Format.{Format}
 use Rattle.lwm2m_payloads.specs.declared.given.Given.{Given}
 use Rattle.lwm2m_payloads.specs.declared.given.Given.TheVariants.{Parts}
 use Rattle.lwm2m_payloads.specs.declared.given.Mode.{Mode}
-use Rattle.device_requests.specs.declared.answer.Code.{Code}
+use Rattle.device_requests.specs.declared.ruling.Ruling.{Ruling}
 use Rattle.device_requests.specs.Access.{may_read}
 use Rattle.device_requests.specs.Client.{Client, with_stored}
 use Rattle.device_requests.specs.Laws.{content_within}
@@ -125,7 +125,7 @@ part_read client server mode o i r n d number payload defined readable h =
     all.1.0 in
     let new : (write_outcome client server mode path number payload).client
     ≡ with_stored client (with_value client.store (part_of p n) v.0) =
-    ap (λ (code : Option Code). (write_unless code client
+    ap (λ (ruling : Option Ruling). (write_unless ruling client
     (leaves client mode path payload (format_at client.catalog path number))).client) no_line
     ∙ ap (λ (s : Stored). with_stored client s) (ap (leaves client mode path payload) c.served
     ∙ part_leaves client mode o i r n payload c.format d v.0 (g.1 ∙ one) defined readable) in

@@ -10,14 +10,13 @@ use Rattle.object_defs.specs.Path.{object_in}
 use Rattle.object_defs.specs.declared.path.Path.{Path}
 use Rattle.device_firmware.specs.Firmware.{firmware_after}
 use Rattle.device_firmware.specs.declared.event.FirmwareEvent.{FirmwareEvent}
-use Rattle.device_requests.specs.declared.answer.Code.{Code}
-use Rattle.device_requests.specs.declared.answer.Code.TheVariants.{BadRequest, InternalServerError, MethodNotAllowed}
-use Rattle.device_requests.specs.declared.answer.Code.TheVariants.{NotFound, Unauthorized}
 use Rattle.device_requests.specs.declared.operation.Operation.{Operation}
+use Rattle.device_requests.specs.declared.ruling.Ruling.{Ruling}
+use Rattle.device_requests.specs.declared.ruling.Ruling.TheVariants as rule
 use Rattle.device_requests.specs.Client.{Client}
 use Rattle.device_requests.specs.Laws.{IsAmong}
 use Rattle.device_requests.specs.Order.{OneTable}
-use Rattle.device_requests.specs.Refusals.{done_code, format_refusal, is_invalid, is_out_of_turn, is_refused_now}
+use Rattle.device_requests.specs.Refusals.{done_ruling, format_ruling, is_invalid, is_out_of_turn, is_refused_now}
 use Rattle.device_requests.specs.Refusals.{is_too_much, is_untimely, lacks_format, lacks_operation, lacks_right}
 use Rattle.device_requests.specs.Refusals.{lacks_target}
 use Rattle.device_requests.specs.Request.{outcome_of, purpose_of}
@@ -35,37 +34,43 @@ out_of_turn client m path operation (updates_partially event is none) = not_take
 out_of_turn client m path operation (asks_for_update i is none) =
     ap (is_untimely client.store) is ∙ ap (λ after. not (is_some after)) none
 
--- the rule of the firmware holds: what the code may be
-turned : (a b c d e f g h : Bool) (format done code : Code) → g ≡ true
-    → first_line ((a, Unauthorized) ∷ (b, NotFound) ∷ (c, Unauthorized) ∷ (d, MethodNotAllowed) ∷ (e, format)
-    ∷ (f, BadRequest) ∷ (g, MethodNotAllowed) ∷ (h, InternalServerError) ∷ (true, done) ∷ []) ≡ Some code
-    → IsAmong code (Unauthorized ∷ NotFound ∷ MethodNotAllowed ∷ format ∷ BadRequest ∷ [])
-turned true b c d e f g h format done code late is = inl (same_Some Unauthorized code is)
-turned false true c d e f g h format done code late is = inr (inl (same_Some NotFound code is))
-turned false false true d e f g h format done code late is = inl (same_Some Unauthorized code is)
-turned false false false true e f g h format done code late is = inr (inr (inl (same_Some MethodNotAllowed code is)))
-turned false false false false true f g h format done code late is = inr (inr (inr (inl (same_Some format code is))))
-turned false false false false false true g h format done code late is =
-    inr (inr (inr (inr (inl (same_Some BadRequest code is)))))
-turned false false false false false false true h format done code late is =
-    inr (inr (inl (same_Some MethodNotAllowed code is)))
-turned false false false false false false false h format done code late is = cc late
+-- the rule of the firmware holds: which rule may decide
+turned : (a b c d e f g h : Bool) (format done ruling : Ruling) → g ≡ true
+    → first_line ((a, rule.Security) ∷ (b, rule.Target) ∷ (c, rule.Right) ∷ (d, rule.Operation) ∷ (e, format)
+    ∷ (f, rule.Payload) ∷ (g, rule.State) ∷ (h, rule.Limit) ∷ (true, done) ∷ []) ≡ Some ruling
+    → IsAmong ruling
+    (rule.Security ∷ rule.Target ∷ rule.Right ∷ rule.Operation ∷ format ∷ rule.Payload ∷ rule.State ∷ [])
+turned true b c d e f g h format done ruling late is =
+    inl (same_Some rule.Security ruling is)
+turned false true c d e f g h format done ruling late is =
+    inr (inl (same_Some rule.Target ruling is))
+turned false false true d e f g h format done ruling late is =
+    inr (inr (inl (same_Some rule.Right ruling is)))
+turned false false false true e f g h format done ruling late is =
+    inr (inr (inr (inl (same_Some rule.Operation ruling is))))
+turned false false false false true f g h format done ruling late is =
+    inr (inr (inr (inr (inl (same_Some format ruling is)))))
+turned false false false false false true g h format done ruling late is =
+    inr (inr (inr (inr (inr (inl (same_Some rule.Payload ruling is))))))
+turned false false false false false false true h format done ruling late is =
+    inr (inr (inr (inr (inr (inr (inl (same_Some rule.State ruling is)))))))
+turned false false false false false false false h format done ruling late is = cc late
 
 -- and where no rule before it does
-decided : (a b c d e f g h : Bool) (format done code : Code) → a ≡ false → b ≡ false → c ≡ false → d ≡ false
+decided : (a b c d e f g h : Bool) (format done ruling : Ruling) → a ≡ false → b ≡ false → c ≡ false → d ≡ false
     → e ≡ false → f ≡ false → g ≡ true
-    → first_line ((a, Unauthorized) ∷ (b, NotFound) ∷ (c, Unauthorized) ∷ (d, MethodNotAllowed) ∷ (e, format)
-    ∷ (f, BadRequest) ∷ (g, MethodNotAllowed) ∷ (h, InternalServerError) ∷ (true, done) ∷ []) ≡ Some code
-    → code ≡ MethodNotAllowed
-decided true b c d e f g h format done code p q r s t u late is = cc p
-decided false true c d e f g h format done code p q r s t u late is = cc q
-decided false false true d e f g h format done code p q r s t u late is = cc r
-decided false false false true e f g h format done code p q r s t u late is = cc s
-decided false false false false true f g h format done code p q r s t u late is = cc t
-decided false false false false false true g h format done code p q r s t u late is = cc u
-decided false false false false false false false h format done code p q r s t u late is = cc late
-decided false false false false false false true h format done code p q r s t u late is =
-    sym (same_Some MethodNotAllowed code is)
+    → first_line ((a, rule.Security) ∷ (b, rule.Target) ∷ (c, rule.Right) ∷ (d, rule.Operation) ∷ (e, format)
+    ∷ (f, rule.Payload) ∷ (g, rule.State) ∷ (h, rule.Limit) ∷ (true, done) ∷ []) ≡ Some ruling
+    → ruling ≡ rule.State
+decided true b c d e f g h format done ruling p q r s t u late is = cc p
+decided false true c d e f g h format done ruling p q r s t u late is = cc q
+decided false false true d e f g h format done ruling p q r s t u late is = cc r
+decided false false false true e f g h format done ruling p q r s t u late is = cc s
+decided false false false false true f g h format done ruling p q r s t u late is = cc t
+decided false false false false false true g h format done ruling p q r s t u late is = cc u
+decided false false false false false false false h format done ruling p q r s t u late is = cc late
+decided false false false false false false true h format done ruling p q r s t u late is =
+    sym (same_Some rule.State ruling is)
 
 pub states_precede : OneTable → StatesPrecedeLimits
 states_precede table client server m path operation asks untimely =
@@ -73,8 +78,8 @@ states_precede table client server m path operation asks untimely =
     turned (object_in path == 0) (lacks_target client path purpose) (lacks_right client server path purpose)
     (lacks_operation client.catalog path purpose) (lacks_format client.catalog path purpose)
     (is_invalid client server path purpose) (is_out_of_turn client path purpose)
-    (is_too_much client server path purpose) (format_refusal purpose) (done_code purpose)
-    (outcome_of client server m).answer.code (out_of_turn client m path operation untimely)
+    (is_too_much client server path purpose) (format_ruling purpose) (done_ruling purpose)
+    (outcome_of client server m).answer.ruling (out_of_turn client m path operation untimely)
     (table client server m path operation asks)
 
 pub states_decide : OneTable → StatesDecide
@@ -83,7 +88,7 @@ states_decide table client server m path operation asks untimely reaches =
     decided (object_in path == 0) (lacks_target client path purpose) (lacks_right client server path purpose)
     (lacks_operation client.catalog path purpose) (lacks_format client.catalog path purpose)
     (is_invalid client server path purpose) (is_out_of_turn client path purpose)
-    (is_too_much client server path purpose) (format_refusal purpose) (done_code purpose)
-    (outcome_of client server m).answer.code (ne_eqb (object_in path) 0 reaches.object) reaches.target reaches.right
+    (is_too_much client server path purpose) (format_ruling purpose) (done_ruling purpose)
+    (outcome_of client server m).answer.ruling (ne_eqb (object_in path) 0 reaches.object) reaches.target reaches.right
     reaches.served reaches.format reaches.payload (out_of_turn client m path operation untimely)
     (table client server m path operation asks)

@@ -39,10 +39,6 @@ use Rattle.lwm2m_payloads.specs.declared.given.Mode.{Mode}
 use Rattle.lwm2m_payloads.specs.declared.given.Mode.TheVariants.{Replace, Update}
 use Rattle.lwm2m_payloads.specs.Changes.{is_kept_as}
 use Rattle.device_requests.specs.declared.answer.Answer.{Answer}
-use Rattle.device_requests.specs.declared.answer.Code.{Code}
-use Rattle.device_requests.specs.declared.answer.Code.TheVariants.{Changed, Deleted, BadRequest, Unauthorized, NotFound}
-use Rattle.device_requests.specs.declared.answer.Code.TheVariants.{MethodNotAllowed, NotAcceptable}
-use Rattle.device_requests.specs.declared.answer.Code.TheVariants.{UnsupportedContentFormat, InternalServerError}
 use Rattle.device_requests.specs.declared.operation.Operation.{Operation}
 use Rattle.device_requests.specs.declared.operation.Operation.TheVariants.{Read, Discover, WriteAttributes}
 use Rattle.device_requests.specs.declared.operation.Operation.TheVariants.{WriteReplace, WritePartial, Create, Execute}
@@ -52,6 +48,8 @@ use Rattle.device_requests.specs.Access.{may_read, reads, rights_at, shown_insta
 use Rattle.device_requests.specs.Answer.{bare, content, created_answer, done_answer, refused_or}
 use Rattle.device_requests.specs.Client.{Client, with_stored}
 use Rattle.device_requests.specs.declared.create.Newborn.{Newborn}
+use Rattle.device_requests.specs.declared.ruling.Ruling.{Ruling}
+use Rattle.device_requests.specs.declared.ruling.Ruling.TheVariants as rule
 use Rattle.device_requests.specs.Create.{create_unless, lacks_room, newborn, newborn_from, number_fault}
 use Rattle.device_requests.specs.Delete.{delete_unless}
 use Rattle.device_requests.specs.Discover.{attributes_text, dimension, dimension_text}
@@ -89,19 +87,19 @@ there client stored server h path =
 
 -- ---- Read
 
-unread : (a b : Bool) (lines others : List (Bool × Code)) (answer other : Answer)
-    → refused_or (first_line ((a, Unauthorized) ∷ (b, NotFound) ∷ (true, Unauthorized) ∷ lines)) answer
-    ≡ refused_or (first_line ((a, Unauthorized) ∷ (b, NotFound) ∷ (true, Unauthorized) ∷ others)) other
+unread : (a b : Bool) (lines others : List (Bool × Ruling)) (answer other : Answer)
+    → refused_or (first_line ((a, rule.Security) ∷ (b, rule.Target) ∷ (true, rule.Right) ∷ lines)) answer
+    ≡ refused_or (first_line ((a, rule.Security) ∷ (b, rule.Target) ∷ (true, rule.Right) ∷ others)) other
 unread true b lines others answer other = refl
 unread false true lines others answer other = refl
 unread false false lines others answer other = refl
 
 -- what refuses a Read that its server may make
-abbrev lines_behind : Client → Path → Option ℕ → List ℕ → List (Bool × Code)
+abbrev lines_behind : Client → Path → Option ℕ → List ℕ → List (Bool × Ruling)
 lines_behind client path accept payload =
-    (not (can_be_read client.catalog path), MethodNotAllowed)
-    ∷ (not (is_some (format_at client.catalog path accept)), NotAcceptable)
-    ∷ (is_oversized payload, InternalServerError) ∷ []
+    (not (can_be_read client.catalog path), rule.Operation)
+    ∷ (not (is_some (format_at client.catalog path accept)), rule.Accept)
+    ∷ (is_oversized payload, rule.Limit) ∷ []
 
 hidden_by : (client : Client) (path : Path) (accept : Option ℕ) (e may : Bool) (new old : List ℕ)
     → (may ≡ true → new ≡ old) → read_by client path accept e may new ≡ read_by client path accept e may old
@@ -210,8 +208,8 @@ links_by client server path sizes others =
 
 abbrev discover_by : Path → Bool → List ℕ → Answer
 discover_by path exists_there payload =
-    refused_or (first_line ((object_in path == 0, Unauthorized) ∷ (not exists_there, NotFound)
-    ∷ (is_oversized payload, InternalServerError) ∷ [])) (content link_format payload)
+    refused_or (first_line ((object_in path == 0, rule.Security) ∷ (not exists_there, rule.Target)
+    ∷ (is_oversized payload, rule.Limit) ∷ [])) (content link_format payload)
 
 same_discover : (client : Client) (stored : Stored) (server : ℕ) (path : Path) → DiffersUnread client stored server
     → discover_answer (with_stored client stored) server path ≡ discover_answer client server path
@@ -223,14 +221,14 @@ same_discover client stored server path h =
 
 -- ---- Write
 
-abbrev says : Code → Option Code → Answer
+abbrev says : Ruling → Option Ruling → Answer
 says good None = bare good
-says good (Some code) = bare code
+says good (Some ruling) = bare ruling
 
-write_says : (code : Option Code) (client : Client) (stored : Stored)
-    → (write_unless code client stored).answer ≡ says Changed code
+write_says : (ruling : Option Ruling) (client : Client) (stored : Stored)
+    → (write_unless ruling client stored).answer ≡ says rule.Changed ruling
 write_says None client stored = refl
-write_says (Some code) client stored = refl
+write_says (Some ruling) client stored = refl
 
 neither : {X : Type 0} (a b : Bool) (x y : Option X) → (a || b) ≡ false
     → (if a then x else (if b then y else None)) ≡ None
@@ -370,7 +368,7 @@ event_seen client server path number payload (inr may) = inr may
 
 write_answers : (client : Client) (server : ℕ) (mode : Mode) (path : Path) (number : Option ℕ) (payload : List ℕ)
     → (write_outcome client server mode path number payload).answer
-    ≡ says Changed (refusal_of client server path (to_write mode number payload))
+    ≡ says rule.Changed (refusal_of client server path (to_write mode number payload))
 write_answers client server mode path number payload =
     let values = new_values client path number payload in
     write_says (refusal_of client server path (to_write mode number payload)) client
@@ -389,15 +387,15 @@ same_write client stored server mode path number payload h seen =
     let target = same_target client.catalog stored client.store h.instances path in
     let rights = same_rights client stored server path h in
     write_answers (with_stored client stored) server mode path number payload
-    ∙ (λ j. says Changed (first_line (
-    (object_in path == 0, Unauthorized)
-    ∷ (not (target j), NotFound)
-    ∷ (not (rights j).write, Unauthorized)
-    ∷ (not (can_be_written client.catalog path), MethodNotAllowed)
-    ∷ (not (is_some (format_at client.catalog path number)), UnsupportedContentFormat)
-    ∷ (not (is_some values), BadRequest)
-    ∷ (refused j, MethodNotAllowed)
-    ∷ (unless_taken event (much j), InternalServerError) ∷ [])))
+    ∙ (λ j. says rule.Changed (first_line (
+    (object_in path == 0, rule.Security)
+    ∷ (not (target j), rule.Target)
+    ∷ (not (rights j).write, rule.Right)
+    ∷ (not (can_be_written client.catalog path), rule.Operation)
+    ∷ (not (is_some (format_at client.catalog path number)), rule.ContentFormat)
+    ∷ (not (is_some values), rule.Payload)
+    ∷ (refused j, rule.State)
+    ∷ (unless_taken event (much j), rule.Limit) ∷ [])))
     ∙ sym (write_answers client server mode path number payload)
 
 -- ---- Create
@@ -439,27 +437,27 @@ same_room client stored server o (Some b) h =
     λ j. is_some (lack_by (length client.accounts) (same_full stored client.store o h.instances j) (excess j)
     (same_full stored client.store 2 h.instances j))
 
-abbrev says_created : ℕ → Option Newborn → Option Code → Answer
-says_created o new (Some code) = bare code
-says_created o None None = bare BadRequest
+abbrev says_created : ℕ → Option Newborn → Option Ruling → Answer
+says_created o new (Some ruling) = bare ruling
+says_created o None None = bare rule.Payload
 says_created o (Some b) None = created_answer (place_of o b.number)
 
-create_says : (code : Option Code) (client : Client) (server o : ℕ) (new : Option Newborn)
-    → (create_unless code client server o new).answer ≡ says_created o new code
+create_says : (ruling : Option Ruling) (client : Client) (server o : ℕ) (new : Option Newborn)
+    → (create_unless ruling client server o new).answer ≡ says_created o new ruling
 create_says None client server o None = refl
 create_says None client server o (Some b) = refl
-create_says (Some code) client server o new = refl
+create_says (Some ruling) client server o new = refl
 
 abbrev create_by : Client → Path → Option ℕ → Bool → Bool → Option Newborn → Bool → Answer
 create_by client path number exists_there may new crowded =
     says_created (object_in path) new (first_line (
-    (object_in path == 0, Unauthorized)
-    ∷ (not exists_there, NotFound)
-    ∷ (not may, Unauthorized)
-    ∷ (is_fixed (object_in path), MethodNotAllowed)
-    ∷ (not (is_tlv number), UnsupportedContentFormat)
-    ∷ (not (is_some new), BadRequest)
-    ∷ (crowded, InternalServerError) ∷ []))
+    (object_in path == 0, rule.Security)
+    ∷ (not exists_there, rule.Target)
+    ∷ (not may, rule.Right)
+    ∷ (is_fixed (object_in path), rule.Operation)
+    ∷ (not (is_tlv number), rule.ContentFormat)
+    ∷ (not (is_some new), rule.Payload)
+    ∷ (crowded, rule.Limit) ∷ []))
 
 create_answers : (client : Client) (server : ℕ) (path : Path) (number : Option ℕ) (payload : List ℕ)
     → (create_outcome client server path number payload).answer
@@ -488,31 +486,31 @@ same_create client stored server path number payload h =
 
 -- ---- Delete, Execute, Write-Attributes
 
-delete_says : (code : Option Code) (client : Client) (path : Path)
-    → (delete_unless code client path).answer ≡ says Deleted code
+delete_says : (ruling : Option Ruling) (client : Client) (path : Path)
+    → (delete_unless ruling client path).answer ≡ says rule.Deleted ruling
 delete_says None client path = refl
-delete_says (Some code) client path = refl
+delete_says (Some ruling) client path = refl
 
 same_delete : (client : Client) (stored : Stored) (server : ℕ) (path : Path) → DiffersUnread client stored server
     → (delete_outcome (with_stored client stored) server path).answer ≡ (delete_outcome client server path).answer
 same_delete client stored server path h =
     let rights = same_rights client stored server path h in
     delete_says (refusal_of (with_stored client stored) server path to_delete) (with_stored client stored) path
-    ∙ (λ j. says Deleted (first_line (
-    (object_in path == 0, Unauthorized)
-    ∷ (not (there client stored server h path j), NotFound)
-    ∷ (not (rights j).delete, Unauthorized)
-    ∷ (is_fixed (object_in path), MethodNotAllowed) ∷ [])))
+    ∙ (λ j. says rule.Deleted (first_line (
+    (object_in path == 0, rule.Security)
+    ∷ (not (there client stored server h path j), rule.Target)
+    ∷ (not (rights j).delete, rule.Right)
+    ∷ (is_fixed (object_in path), rule.Operation) ∷ [])))
     ∙ sym (delete_says (refusal_of client server path to_delete) client path)
 
-abbrev says_done : Path → Option Code → Answer
+abbrev says_done : Path → Option Ruling → Answer
 says_done path None = done_answer (act_of path)
-says_done path (Some code) = bare code
+says_done path (Some ruling) = bare ruling
 
-execute_says : (code : Option Code) (client : Client) (path : Path)
-    → (execute_unless code client path).answer ≡ says_done path code
+execute_says : (ruling : Option Ruling) (client : Client) (path : Path)
+    → (execute_unless ruling client path).answer ≡ says_done path ruling
 execute_says None client path = refl
-execute_says (Some code) client path = refl
+execute_says (Some ruling) client path = refl
 
 same_time : (client : Client) (stored : Stored) (server : ℕ) (path : Path) → DiffersUnread client stored server
     → IsSeen client server (is_resource 5 2 path) → is_untimely stored path ≡ is_untimely client.store path
@@ -532,25 +530,25 @@ same_execute client stored server path number payload h seen =
     execute_says (refusal_of (with_stored client stored) server path (to_execute number payload))
     (with_stored client stored) path
     ∙ (λ j. says_done path (first_line (
-    (object_in path == 0, Unauthorized)
-    ∷ (not (there client stored server h path j), NotFound)
-    ∷ (not (rights j).execute, Unauthorized)
-    ∷ (not (is_executable (definition_at client.catalog path)), MethodNotAllowed)
-    ∷ (not (is_plain number), UnsupportedContentFormat)
-    ∷ (not (are_arguments payload), BadRequest)
-    ∷ (time j, MethodNotAllowed) ∷ [])))
+    (object_in path == 0, rule.Security)
+    ∷ (not (there client stored server h path j), rule.Target)
+    ∷ (not (rights j).execute, rule.Right)
+    ∷ (not (is_executable (definition_at client.catalog path)), rule.Operation)
+    ∷ (not (is_plain number), rule.ContentFormat)
+    ∷ (not (are_arguments payload), rule.Payload)
+    ∷ (time j, rule.State) ∷ [])))
     ∙ sym (execute_says (refusal_of client server path (to_execute number payload)) client path)
 
-abbrev says_changed : Option Numbers → Option Code → Answer
-says_changed given (Some code) = bare code
-says_changed None None = bare BadRequest
-says_changed (Some m) None = bare Changed
+abbrev says_changed : Option Numbers → Option Ruling → Answer
+says_changed given (Some ruling) = bare ruling
+says_changed None None = bare rule.Payload
+says_changed (Some m) None = bare rule.Changed
 
-annotate_says : (code : Option Code) (client : Client) (given : Option Numbers)
-    → (annotate_unless code client given).answer ≡ says_changed given code
+annotate_says : (ruling : Option Ruling) (client : Client) (given : Option Numbers)
+    → (annotate_unless ruling client given).answer ≡ says_changed given ruling
 annotate_says None client None = refl
 annotate_says None client (Some m) = refl
-annotate_says (Some code) client given = refl
+annotate_says (Some ruling) client given = refl
 
 same_annotate : (client : Client) (stored : Stored) (server : ℕ) (path : Path) (queries : List (List ℕ))
     → DiffersUnread client stored server
@@ -562,10 +560,10 @@ same_annotate client stored server path queries h =
     annotate_says (refusal_of (with_stored client stored) server path (to_write_attributes queries))
     (with_stored client stored) given
     ∙ (λ j. says_changed given (first_line (
-    (object_in path == 0, Unauthorized)
-    ∷ (not (there client stored server h path j), NotFound)
-    ∷ (not (annotates_at (rights j) path), Unauthorized)
-    ∷ (not (is_some given), BadRequest) ∷ [])))
+    (object_in path == 0, rule.Security)
+    ∷ (not (there client stored server h path j), rule.Target)
+    ∷ (not (annotates_at (rights j) path), rule.Right)
+    ∷ (not (is_some given), rule.Payload) ∷ [])))
     ∙ sym (annotate_says (refusal_of client server path (to_write_attributes queries)) client given)
 
 -- ---- every request
@@ -588,12 +586,12 @@ same_by client stored server m r Execute h seen =
     same_execute client stored server r.path r.content_format m.payload h seen
 same_by client stored server m r Delete h seen = same_delete client stored server r.path h
 
-answered_for : (client : Client) (stored : Stored) (server : ℕ) (m : Message) (asked : Result Request Code)
+answered_for : (client : Client) (stored : Stored) (server : ℕ) (m : Message) (asked : Result Request Ruling)
     → request_of m ≡ asked → DiffersUnread client stored server
     → ((path : Path) (operation : Operation) → Asks m path operation
     → IsSeen client server (asks_firmware path operation))
     → (outcome_for (with_stored client stored) server m asked).answer ≡ (outcome_for client server m asked).answer
-answered_for client stored server m (Err code) is h seen = refl
+answered_for client stored server m (Err ruling) is h seen = refl
 answered_for client stored server m (Ok r) is h seen =
     let a = (said m r).0 is in
     same_by client stored server m r r.operation h

@@ -23,13 +23,14 @@ use Rattle.lwm2m_payloads.specs.declared.given.Given.{Given}
 use Rattle.lwm2m_payloads.specs.declared.given.Mode.{Mode}
 use Rattle.lwm2m_payloads.proofs.EachOnce.{instance_once, resource_once}
 use Rattle.lwm2m_payloads.proofs.Written.{at_given, at_written}
-use Rattle.device_requests.specs.declared.answer.Code.{Code}
+use Rattle.device_requests.specs.declared.ruling.Ruling.{Ruling}
 use Rattle.device_requests.specs.declared.answer.Code.TheVariants.{Changed}
 use Rattle.device_requests.specs.Client.{Client, with_stored}
 use Rattle.device_requests.specs.Laws.{is_refusal}
 use Rattle.device_requests.specs.Outcomes.{write_outcome}
 use Rattle.device_requests.specs.Read.{format_at}
 use Rattle.device_requests.specs.Refusals.{refusal_of, refusals_of, to_write}
+use Rattle.device_requests.specs.Ruling.{code_of}
 use Rattle.device_requests.specs.Targets.{place_of, resource_place, resources_defined}
 use Rattle.device_requests.specs.Write.{after_write_with_event, event_of, given_to_resource, mode_at, new_values}
 use Rattle.device_requests.specs.Write.{values_given, write_unless}
@@ -38,13 +39,13 @@ use Rattle.laws_requests.proofs.Asking.{chosen, fails, passes}
 
 -- no rule refuses a Write that is answered Changed
 pub unrefused : (client : Client) (server : ℕ) (mode : Mode) (path : Path) (number : Option ℕ) (payload : List ℕ)
-    → (write_outcome client server mode path number payload).answer.code ≡ Changed
+    → code_of (write_outcome client server mode path number payload).answer.ruling ≡ Changed
     → refusal_of client server path (to_write mode number payload) ≡ None
 unrefused client server mode path number payload h =
     let event = event_of path (new_values client path number payload) in
     passes (refusals_of client server path (to_write mode number payload))
     (refl, (refl, (refl, (refl, (refl, (refl, (refl, (refl, tt))))))))
-    (λ (code : Option Code). write_unless code client
+    (λ (ruling : Option Ruling). write_unless ruling client
     (after_write_with_event (mode_at mode path) client path (new_values client path number payload) event))
     (λ c. refl) (ap is_refusal h)
 
@@ -64,7 +65,7 @@ pub record Comes (client : Client) (server : ℕ) (mode : Mode) (path : Path) (n
       ≡ leaves client mode path payload (Some format)
 
 pub comes : (client : Client) (server : ℕ) (mode : Mode) (path : Path) (number : Option ℕ) (payload : List ℕ)
-    → (write_outcome client server mode path number payload).answer.code ≡ Changed
+    → code_of (write_outcome client server mode path number payload).answer.ruling ≡ Changed
     → Comes client server mode path number payload
 comes client server mode path number payload h =
     let no_line = unrefused client server mode path number payload h in
@@ -75,20 +76,20 @@ comes client server mode path number payload h =
       served = f.1;
       good = sym (ap (λ (x : Option Format). not (is_some
           (option_and_then (values_given client.catalog path payload) x))) f.1) ∙ all.1.1.1.1.1.0;
-      is = ap (λ (code : Option Code). (write_unless code client
+      is = ap (λ (ruling : Option Ruling). (write_unless ruling client
           (leaves client mode path payload (format_at client.catalog path number))).client.store) no_line
           ∙ ap (leaves client mode path payload) f.1;
     }
 
 -- it leaves all but the store
 pub is_stored : (client : Client) (server : ℕ) (mode : Mode) (path : Path) (number : Option ℕ) (payload : List ℕ)
-    → (write_outcome client server mode path number payload).answer.code ≡ Changed
+    → code_of (write_outcome client server mode path number payload).answer.ruling ≡ Changed
     → (write_outcome client server mode path number payload).client
     ≡ with_stored client (write_outcome client server mode path number payload).client.store
 is_stored client server mode path number payload h =
     let left_store = leaves client mode path payload (format_at client.catalog path number) in
     let becomes : (write_outcome client server mode path number payload).client ≡ with_stored client left_store =
-    ap (λ (code : Option Code). (write_unless code client left_store).client)
+    ap (λ (ruling : Option Ruling). (write_unless ruling client left_store).client)
     (unrefused client server mode path number payload h) in
     becomes ∙ sym (ap (λ (c : Client). with_stored client c.store) becomes)
 

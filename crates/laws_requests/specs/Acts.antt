@@ -5,11 +5,12 @@ use Rattle.object_defs.specs.declared.path.Path.{Path}
 use Rattle.object_defs.specs.declared.path.Path.TheVariants.{Resource}
 use Rattle.device_requests.specs.declared.answer.Act.{Act}
 use Rattle.device_requests.specs.declared.answer.Act.TheVariants.{Reboot, FactoryReset, RegUpdate, Disable, Missed}
-use Rattle.device_requests.specs.declared.answer.Code.TheVariants.{Changed}
 use Rattle.device_requests.specs.declared.operation.Operation.TheVariants.{Execute}
+use Rattle.device_requests.specs.declared.answer.Code.TheVariants.{Changed}
 use Rattle.device_requests.specs.Client.{Client}
 use Rattle.device_requests.specs.Order.{Asks}
 use Rattle.device_requests.specs.Request.{outcome_of}
+use Rattle.device_requests.specs.Ruling.{code_of}
 
 -- the resource that asks for an act, of any instance: Reboot 3/i/4, Factory Reset 3/i/5, Registration Update Trigger
 -- 1/i/8, Disable 1/i/4
@@ -25,7 +26,7 @@ pub record IsAskedToAct (client : Client) (server : ℕ) (m : Message) (act : Ac
   pub path : Path
   pub asks : Asks m path Execute
   pub resource : IsActOf path act
-  pub done : (outcome_of client server m).answer.code ≡ Changed
+  pub done : code_of (outcome_of client server m).answer.ruling ≡ Changed
 
 -- a device acts after such a request, and after no other
 abbrev pub ActsAreAsked : Type 0

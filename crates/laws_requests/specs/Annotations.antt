@@ -10,6 +10,7 @@ use Rattle.notifier.specs.Query.{changes_of}
 use Rattle.device_requests.specs.declared.answer.Code.TheVariants.{Changed}
 use Rattle.device_requests.specs.Client.{Client}
 use Rattle.device_requests.specs.Outcomes.{attributes_outcome}
+use Rattle.device_requests.specs.Ruling.{code_of}
 use Rattle.device_requests.specs.WriteAttributes.{level_at}
 
 -- the number of an attribute after changes: that of the last change of its name, which may unset it
@@ -31,5 +32,5 @@ pub record AreAnnotated (old new : Client) (server : ℕ) (path : Path) (queries
 abbrev pub AttributesAreSet : Type 0
 AttributesAreSet =
     (client : Client) (server : ℕ) (path : Path) (queries : List (List ℕ))
-    → (attributes_outcome client server path queries).answer.code ≡ Changed
+    → code_of (attributes_outcome client server path queries).answer.ruling ≡ Changed
     → AreAnnotated client (attributes_outcome client server path queries).client server path queries

@@ -10,12 +10,13 @@ use Rattle.lwm2m_payloads.specs.Written.{value_behind}
 use Rattle.lwm2m_payloads.specs.declared.given.Mode.TheVariants.{Replace}
 use Rattle.device_instances.specs.Deletions.{instance_in}
 use Rattle.device_instances.specs.Numbers.{smallest_free}
-use Rattle.device_requests.specs.declared.answer.Code.TheVariants.{Created}
 use Rattle.device_requests.specs.Answer.{Outcome}
 use Rattle.device_requests.specs.Client.{Client}
 use Rattle.device_requests.specs.declared.create.Newborn.{Newborn}
+use Rattle.device_requests.specs.declared.answer.Code.TheVariants.{Created}
 use Rattle.device_requests.specs.Create.{newborn}
 use Rattle.device_requests.specs.Outcomes.{create_outcome}
+use Rattle.device_requests.specs.Ruling.{code_of}
 use Rattle.device_requests.specs.Targets.{place_of, resource_place, resources_defined}
 
 -- the number of the new instance of Access Control; with one account there is none
@@ -59,5 +60,5 @@ pub record IsCreated (client : Client) (server o : ℕ) (payload : List ℕ) (ou
 abbrev pub CreatesAdd : Type 0
 CreatesAdd =
     (client : Client) (server o : ℕ) (number : Option ℕ) (payload : List ℕ)
-    → (create_outcome client server (Object o) number payload).answer.code ≡ Created
+    → code_of (create_outcome client server (Object o) number payload).answer.ruling ≡ Created
     → IsCreated client server o payload (create_outcome client server (Object o) number payload)

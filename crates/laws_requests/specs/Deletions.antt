@@ -10,6 +10,7 @@ use Rattle.device_instances.specs.Deletions.{instance_in, goes_with}
 use Rattle.device_requests.specs.declared.answer.Code.TheVariants.{Deleted}
 use Rattle.device_requests.specs.Client.{Client}
 use Rattle.device_requests.specs.Outcomes.{delete_outcome}
+use Rattle.device_requests.specs.Ruling.{code_of}
 use Rattle.device_requests.specs.Targets.{place_of}
 
 -- an attribute goes that is set at or below an instance that goes: the deleted one, or one of Access Control that
@@ -31,5 +32,5 @@ pub record TakesAway (old new : Client) (place : InstancePath) : Type 0 where
 -- what a Delete that is done takes
 abbrev pub DeletesTake : Type 0
 DeletesTake =
-    (client : Client) (server o i : ℕ) → (delete_outcome client server (Instance o i)).answer.code ≡ Deleted
+    (client : Client) (server o i : ℕ) → code_of (delete_outcome client server (Instance o i)).answer.ruling ≡ Deleted
     → TakesAway client (delete_outcome client server (Instance o i)).client (place_of o i)

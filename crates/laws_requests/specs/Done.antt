@@ -15,7 +15,7 @@ use Rattle.device_requests.specs.Answer.{Outcome}
 use Rattle.device_requests.specs.Client.{Client, with_attributes, with_stored}
 use Rattle.device_requests.specs.Options.{content_format_of, queries_of}
 use Rattle.device_requests.specs.Order.{Asks, given_by}
-use Rattle.device_requests.specs.Refusals.{done_code}
+use Rattle.device_requests.specs.Refusals.{done_ruling}
 use Rattle.device_requests.specs.Request.{outcome_of, purpose_of}
 use Rattle.device_requests.specs.Targets.{place_of}
 use Rattle.device_requests.specs.Write.{event_of}
@@ -77,5 +77,5 @@ Changes old server m path Delete outcome = Removes old path outcome.client
 abbrev pub DoneIsChanged : Type 0
 DoneIsChanged =
     (client : Client) (server : ℕ) (m : Message) (path : Path) (operation : Operation) → Asks m path operation
-    → (outcome_of client server m).answer.code ≡ done_code (purpose_of m operation)
+    → (outcome_of client server m).answer.ruling ≡ done_ruling (purpose_of m operation)
     → Changes client server m path operation (outcome_of client server m)

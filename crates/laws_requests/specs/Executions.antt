@@ -9,6 +9,7 @@ use Rattle.instance_store.specs.Stored.{Stored, lies_in, value_at}
 use Rattle.device_requests.specs.declared.answer.Code.TheVariants.{Changed}
 use Rattle.device_requests.specs.Client.{Client}
 use Rattle.device_requests.specs.Outcomes.{execute_outcome}
+use Rattle.device_requests.specs.Ruling.{code_of}
 use Rattle.device_requests.specs.Targets.{is_resource, resource_place}
 
 -- an Execute changes nothing but where it begins an update, /5/x/2, or resets the error codes, /3/x/12
@@ -29,7 +30,7 @@ pub record HasNoError (old new : Stored) (i : ℕ) : Type 0 where
 abbrev pub ErrorsAreReset : Type 0
 ErrorsAreReset =
     (client : Client) (server i : ℕ) (number : Option ℕ) (payload : List ℕ)
-    → (execute_outcome client server (Resource 3 i 12) number payload).answer.code ≡ Changed
+    → code_of (execute_outcome client server (Resource 3 i 12) number payload).answer.ruling ≡ Changed
     → HasNoError client.store (execute_outcome client server (Resource 3 i 12) number payload).client.store i
 
 -- State /5/0/3 goes from Downloaded, 2, to Updating, 3, Update Result /5/0/5 is initial, 0; all else is as it was
@@ -44,5 +45,5 @@ pub record BeginsUpdate (old new : Stored) : Type 0 where
 abbrev pub UpdatesBegin : Type 0
 UpdatesBegin =
     (client : Client) (server i : ℕ) (number : Option ℕ) (payload : List ℕ)
-    → (execute_outcome client server (Resource 5 i 2) number payload).answer.code ≡ Changed
+    → code_of (execute_outcome client server (Resource 5 i 2) number payload).answer.ruling ≡ Changed
     → BeginsUpdate client.store (execute_outcome client server (Resource 5 i 2) number payload).client.store

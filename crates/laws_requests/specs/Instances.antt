@@ -24,6 +24,7 @@ use Rattle.device_requests.specs.Access.{may_read}
 use Rattle.device_requests.specs.Client.{Client}
 use Rattle.device_requests.specs.Laws.{IsAmong, content_within}
 use Rattle.device_requests.specs.Outcomes.{read_answer, write_outcome}
+use Rattle.device_requests.specs.Ruling.{code_of}
 use Rattle.device_requests.specs.Targets.{is_readable, resource_place, resources_defined}
 use Rattle.laws_requests.specs.Multiples.{HasPart, IsPartThen, IsReadInParts}
 
@@ -82,7 +83,7 @@ pub record HoldsGiven (client : Client) (mode : Mode) (o i : ℕ) (payload : Lis
 abbrev pub InstancesHoldGiven : Type 0
 InstancesHoldGiven =
     (client : Client) (server : ℕ) (mode : Mode) (o i : ℕ) (number : Option ℕ) (payload : List ℕ)
-    → (write_outcome client server mode (Instance o i) number payload).answer.code ≡ Changed
+    → code_of (write_outcome client server mode (Instance o i) number payload).answer.ruling ≡ Changed
     → HoldsGiven client mode o i payload (write_outcome client server mode (Instance o i) number payload).client.store
 
 -- a Read of a single resource that is given a value answers it, in each format that is served; a Read of a multiple
@@ -105,5 +106,5 @@ pub record IsInstanceReadBack (client : Client) (mode : Mode) (o i : ℕ) (paylo
 abbrev pub InstancesAreReadBack : Type 0
 InstancesAreReadBack =
     (client : Client) (server : ℕ) (mode : Mode) (o i : ℕ) (number : Option ℕ) (payload : List ℕ)
-    → (write_outcome client server mode (Instance o i) number payload).answer.code ≡ Changed
+    → code_of (write_outcome client server mode (Instance o i) number payload).answer.ruling ≡ Changed
     → IsInstanceReadBack client mode o i payload (write_outcome client server mode (Instance o i) number payload).client

@@ -23,7 +23,8 @@ use Rattle.lwm2m_payloads.specs.declared.given.Given.TheVariants.{Parts}
 use Rattle.lwm2m_payloads.specs.declared.given.Mode.{Mode}
 use Rattle.lwm2m_payloads.specs.declared.given.Mode.TheVariants.{Replace, Update}
 use Rattle.device_requests.specs.declared.answer.Answer.{Answer}
-use Rattle.device_requests.specs.declared.answer.Code.TheVariants.{Changed, NotFound}
+use Rattle.device_requests.specs.declared.ruling.Ruling.TheVariants as rule
+use Rattle.device_requests.specs.declared.answer.Code.TheVariants.{Changed}
 use Rattle.device_requests.specs.Access.{may_read}
 use Rattle.device_requests.specs.Answer.{bare}
 use Rattle.device_requests.specs.Client.{Client}
@@ -31,6 +32,7 @@ use Rattle.device_requests.specs.Laws.{IsAmong, content_within}
 use Rattle.device_requests.specs.Outcomes.{read_answer, write_outcome}
 use Rattle.device_requests.specs.Read.{format_at}
 use Rattle.device_requests.specs.Refusals.{is_tlv}
+use Rattle.device_requests.specs.Ruling.{code_of}
 use Rattle.device_requests.specs.Targets.{place_of, resource_place}
 
 -- a resource holds these parts with these values, and no other part
@@ -44,7 +46,7 @@ part_records (e ∷ parts) = more (part e.0 (bytes_of e.1)) (part_records parts)
 
 -- a multiple resource without a part does not exist; any other is shown as the Resource Instances of its parts, in TLV
 abbrev pub answer_of_parts : ℕ → PartList → Answer
-answer_of_parts r [] = bare NotFound
+answer_of_parts r [] = bare rule.Target
 answer_of_parts r (e ∷ parts) =
     content_within Tlv (shortest_tlv (more (multi r (part_records (e ∷ parts))) none))
 
@@ -76,7 +78,7 @@ abbrev pub MultipleIsReadBack : Type 0
 MultipleIsReadBack =
     (client : Client) (server o i r : ℕ) (d : ResourceDef) (number : Option ℕ) (payload : List ℕ)
     → definition_of client.catalog o r ≡ Some d → d.multiple ≡ true → can_read d.ops ≡ true
-    → (write_outcome client server Replace (Resource o i r) number payload).answer.code ≡ Changed
+    → code_of (write_outcome client server Replace (Resource o i r) number payload).answer.ruling ≡ Changed
     → ArePartsReadBack o i r d payload (write_outcome client server Replace (Resource o i r) number payload).client
 
 -- the part of this number is given a value
@@ -106,6 +108,6 @@ PartIsReadAmong =
     (client : Client) (server : ℕ) (mode : Mode) (o i r n : ℕ) (d : ResourceDef) (number : Option ℕ)
     (payload : List ℕ)
     → definition_of client.catalog o r ≡ Some d → can_read d.ops ≡ true
-    → (write_outcome client server mode (Part o i r n) number payload).answer.code ≡ Changed
+    → code_of (write_outcome client server mode (Part o i r n) number payload).answer.ruling ≡ Changed
     → IsPartReadAmong client o i r n d number payload
     (write_outcome client server mode (Part o i r n) number payload).client

@@ -1,6 +1,7 @@
 -- What a Read of an object and of an instance shows (OMA LwM2M 1.1 Core, Read, access control and TLV): exactly the
 -- instances that the server may read, each with exactly its values that can be read, by ascending number.
-use Rattle.std.specs.Prelude.{◌≡◌, ◌≢◌, ◌<◌, ◌↔◌, ◌⊎◌, ℕ, true, false, List, length, Option, None, Some, is_some}
+use Rattle.std.specs.Prelude.{◌≡◌, ◌≢◌, ◌<◌, ◌↔◌, ◌⊎◌, ℕ, ◌==◌, true, false, List, length, Option, None, Some}
+use Rattle.std.specs.Prelude.{is_some, if◌then◌else◌}
 use Rattle.lwm2m_values.specs.Tlv.{shortest_tlv}
 use Rattle.lwm2m_values.specs.Tree.{Tree, Trees, instance, multi, part, single, none, more}
 use Rattle.lwm2m_values.specs.Value.{bytes_of}
@@ -14,7 +15,7 @@ use Rattle.object_defs.specs.declared.path.Path.TheVariants.{Object, Instance}
 use Rattle.instance_store.specs.Stored.{has_instance, value_at}
 use Rattle.lwm2m_payloads.specs.Given.{number_in}
 use Rattle.lwm2m_payloads.specs.declared.format.Format.TheVariants.{Tlv}
-use Rattle.device_requests.specs.declared.answer.Code.TheVariants.{Unauthorized}
+use Rattle.device_requests.specs.declared.ruling.Ruling.TheVariants as rule
 use Rattle.device_requests.specs.Access.{reads}
 use Rattle.device_requests.specs.Answer.{bare}
 use Rattle.device_requests.specs.Client.{Client}
@@ -93,9 +94,10 @@ ObjectIsShown =
     → (nodes : Trees) × ShowsObject client server o nodes
     × (read_answer client server (Object o) accept ≡ content_within Tlv (shortest_tlv nodes))
 
--- where the object has instances, and the server may read none of them, it is 4.01
+-- where the object has instances, and the server may read none of them, it is 4.01: by the rule of the Security
+-- object, or by that of the rights
 abbrev pub ObjectIsHidden : Type 0
 ObjectIsHidden =
     (client : Client) (server o i : ℕ) (d : ObjectDef) (accept : Option ℕ) → object_of client.catalog o ≡ Some d
     → has_instance client.store (place_of o i) ≡ true → ((j : ℕ) → ¬ (MayRead client server o j))
-    → read_answer client server (Object o) accept ≡ bare Unauthorized
+    → read_answer client server (Object o) accept ≡ bare (if o == security_object then rule.Security else rule.Right)

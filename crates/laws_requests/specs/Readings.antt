@@ -17,6 +17,7 @@ use Rattle.device_requests.specs.Client.{Client}
 use Rattle.device_requests.specs.Laws.{content_within}
 use Rattle.device_requests.specs.Outcomes.{read_answer, write_outcome}
 use Rattle.device_requests.specs.Read.{format_at}
+use Rattle.device_requests.specs.Ruling.{code_of}
 
 -- the payload gives this value to the part, and a Read of it then answers the value in each format that is served, to
 -- each server that may read it
@@ -38,6 +39,6 @@ PartIsRead =
     (client : Client) (server : ℕ) (mode : Mode) (o i r n : ℕ) (d : ResourceDef) (number : Option ℕ)
     (payload : List ℕ)
     → definition_of client.catalog o r ≡ Some d → can_read d.ops ≡ true
-    → (write_outcome client server mode (Part o i r n) number payload).answer.code ≡ Changed
+    → code_of (write_outcome client server mode (Part o i r n) number payload).answer.ruling ≡ Changed
     → IsPartReadBack client o i r n d number payload
     (write_outcome client server mode (Part o i r n) number payload).client

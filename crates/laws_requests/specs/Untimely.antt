@@ -8,13 +8,13 @@ use Rattle.object_defs.specs.declared.path.Path.TheVariants.{Resource}
 use Rattle.device_firmware.specs.Firmware.{firmware_after}
 use Rattle.device_firmware.specs.declared.event.FirmwareEvent.{FirmwareEvent}
 use Rattle.device_firmware.specs.declared.event.FirmwareEvent.TheVariants.{Update}
-use Rattle.device_requests.specs.declared.answer.Code.TheVariants.{BadRequest, MethodNotAllowed, NotFound, Unauthorized}
 use Rattle.device_requests.specs.declared.operation.Operation.{Operation}
 use Rattle.device_requests.specs.declared.operation.Operation.TheVariants.{Execute, WritePartial, WriteReplace}
+use Rattle.device_requests.specs.declared.ruling.Ruling.TheVariants as rule
 use Rattle.device_requests.specs.Client.{Client}
 use Rattle.device_requests.specs.Laws.{IsAmong}
 use Rattle.device_requests.specs.Order.{Asks, given_by}
-use Rattle.device_requests.specs.Refusals.{Purpose, format_refusal, is_invalid, lacks_format, lacks_operation}
+use Rattle.device_requests.specs.Refusals.{Purpose, format_ruling, is_invalid, lacks_format, lacks_operation}
 use Rattle.device_requests.specs.Refusals.{lacks_right, lacks_target}
 use Rattle.device_requests.specs.Request.{outcome_of, purpose_of}
 use Rattle.device_requests.specs.Write.{event_of}
@@ -38,17 +38,18 @@ pub record ReachesFirmware (client : Client) (server : ℕ) (path : Path) (purpo
   pub format : lacks_format client.catalog path purpose ≡ false
   pub payload : is_invalid client server path purpose ≡ false
 
--- then it is 4.05, whatever would be stored
+-- then that rule decides, with 4.05, whatever would be stored
 abbrev pub StatesDecide : Type 0
 StatesDecide =
     (client : Client) (server : ℕ) (m : Message) (path : Path) (operation : Operation) → Asks m path operation
     → IsUntimely client m path operation → ReachesFirmware client server path (purpose_of m operation)
-    → (outcome_of client server m).answer.code ≡ MethodNotAllowed
+    → (outcome_of client server m).answer.ruling ≡ rule.State
 
 -- a request that comes at the wrong time is never done, and never 5.00
 abbrev pub StatesPrecedeLimits : Type 0
 StatesPrecedeLimits =
     (client : Client) (server : ℕ) (m : Message) (path : Path) (operation : Operation) → Asks m path operation
     → IsUntimely client m path operation
-    → IsAmong (outcome_of client server m).answer.code
-    (Unauthorized ∷ NotFound ∷ MethodNotAllowed ∷ format_refusal (purpose_of m operation) ∷ BadRequest ∷ [])
+    → IsAmong (outcome_of client server m).answer.ruling
+    (rule.Security ∷ rule.Target ∷ rule.Right ∷ rule.Operation ∷ format_ruling (purpose_of m operation)
+    ∷ rule.Payload ∷ rule.State ∷ [])

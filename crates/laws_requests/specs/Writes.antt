@@ -19,6 +19,7 @@ use Rattle.device_requests.specs.declared.answer.Code.TheVariants.{Changed}
 use Rattle.device_requests.specs.Client.{Client}
 use Rattle.device_requests.specs.Outcomes.{write_outcome}
 use Rattle.device_requests.specs.Read.{format_at}
+use Rattle.device_requests.specs.Ruling.{code_of}
 use Rattle.device_requests.specs.Targets.{resource_place, resources_defined}
 
 -- the payload gives values to resources of the instance; in it there is then what is given and kept, nothing where
@@ -34,7 +35,7 @@ pub record IsInstanceWritten (client : Client) (mode : Mode) (o i : ℕ) (payloa
 abbrev pub InstancesAreWritten : Type 0
 InstancesAreWritten =
     (client : Client) (server : ℕ) (mode : Mode) (o i : ℕ) (number : Option ℕ) (payload : List ℕ)
-    → (write_outcome client server mode (Instance o i) number payload).answer.code ≡ Changed
+    → code_of (write_outcome client server mode (Instance o i) number payload).answer.ruling ≡ Changed
     → IsInstanceWritten client mode o i payload
     (write_outcome client server mode (Instance o i) number payload).client.store
 
@@ -58,7 +59,7 @@ pub record IsResourceWritten (client : Client) (mode : Mode) (o i r : ℕ) (numb
 abbrev pub ResourcesAreWritten : Type 0
 ResourcesAreWritten =
     (client : Client) (server : ℕ) (mode : Mode) (o i r : ℕ) (number : Option ℕ) (payload : List ℕ) → o ≢ 5
-    → (write_outcome client server mode (Resource o i r) number payload).answer.code ≡ Changed
+    → code_of (write_outcome client server mode (Resource o i r) number payload).answer.ruling ≡ Changed
     → IsResourceWritten client mode o i r number payload
     (write_outcome client server mode (Resource o i r) number payload).client.store
 
@@ -81,6 +82,6 @@ pub record IsPartWritten (client : Client) (o i r n : ℕ) (number : Option ℕ)
 abbrev pub PartsAreWritten : Type 0
 PartsAreWritten =
     (client : Client) (server : ℕ) (mode : Mode) (o i r n : ℕ) (number : Option ℕ) (payload : List ℕ)
-    → (write_outcome client server mode (Part o i r n) number payload).answer.code ≡ Changed
+    → code_of (write_outcome client server mode (Part o i r n) number payload).answer.ruling ≡ Changed
     → IsPartWritten client o i r n number payload
     (write_outcome client server mode (Part o i r n) number payload).client.store

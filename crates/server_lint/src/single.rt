@@ -15,7 +15,7 @@ use crate::sender::Sender;
 use crate::transmission::Transmission;
 use coap_codec::option_number::{ACCEPT, CONTENT_FORMAT, OBSERVE, URI_PATH, URI_PORT};
 use coap_codec::{Kind, Message, Opt};
-use device_requests::{Code, Request, observe_of};
+use device_requests::{Request, Ruling, observe_of};
 
 /// Max-Age (RFC 7252 section 5.10.5).
 const MAX_AGE: u16 = 14;
@@ -131,7 +131,7 @@ fn has_unrecognized(message: &Message) -> bool
 {
     match Request::read(message) {
         Ok(_) => false,
-        Err(Code::BadOption) => true,
+        Err(Ruling::Options) => true,
         Err(_) => false,
     }
 }

@@ -6,7 +6,8 @@ ghost use Rattle.device_notifications.specs.Outlooks.{IsKnown};
 ghost use Rattle.coap_codec.specs.Fault.{is_empty_message};
 ghost use Rattle.coap_codec.specs.Message.{Message as MessageData, spelling};
 ghost use Rattle.device_machine.specs.declared.event.Event.TheVariants.{Recv};
-ghost use Rattle.device_machine.specs.Reactions.{Gives, claims_confirmable, is_request, on_fresh, on_message, on_noise, reply_with};
+ghost use Rattle.device_machine.specs.Reactions.{Gives, claims_confirmable, is_request, on_fresh, on_message, on_noise};
+ghost use Rattle.device_machine.specs.Reactions.{reply_with};
 ghost use Rattle.device_machine.specs.Reactions.{on_outcome, on_request, outputs_of_act, reaction_to, repeat_of};
 ghost use Rattle.device_machine.specs.Reactions.{sent_to};
 ghost use Rattle.device_machine.specs.Asked.{message_with};
@@ -168,7 +169,7 @@ impl Machine {
         ensures up_to_date { OnOk result (IsUpToDate self.new) }
     {
         let handled = self.client.answer(server, message)?;
-        say_after(&self.client, &mut self.observations, handled.answer.code)?;
+        say_after(&self.client, &mut self.observations, handled.answer.code())?;
         let number = self.note(server, message, handled.interest, &handled.answer)?;
         let asked = asked_by(message);
         self.reply(server, asked, handled.is_rejected, number, &handled.answer)

@@ -4,6 +4,7 @@ use Rattle.notifier.specs.declared.observation.Observation.{Observation}
 use Rattle.device_requests.specs.Answer.{is_change}
 use Rattle.device_requests.specs.Client.{Client}
 use Rattle.device_requests.specs.Request.{outcome_of}
+use Rattle.device_requests.specs.Ruling.{code_of}
 use Rattle.device_requests.specs.declared.answer.Answer.{Answer}
 use Rattle.device_requests.proofs.Unchanged.{unchanged}
 use Rattle.device_machine.specs.Asked.{message_with}
@@ -22,12 +23,12 @@ kept_with client os clock next_id =
 pub note-requires : goal.note-requires
 note-requires c =
     let client = c.self.inside.client in
-    let code = c.in_ok-handled.handled.answer.code in
+    let code = c.code.result in
     let leaves = c.in_ok-handled.ensures.outcome in
     known_after (is_change code) client c.answer.new.self c.self.inside.observations c.say_after.new.observations
     (subst IsUpToDate (sym c.self.view_is) c.requires.up_to_date)
     (λ h. leaves.then_client ∙ unchanged client c.args.server c.args.message.now
-    (ap (λ (a : Answer). is_change a.code) (sym leaves.says) ∙ h))
+    (ap (λ (a : Answer). is_change (code_of a.ruling)) (sym leaves.says) ∙ ap is_change (sym c.code.ensures) ∙ h))
     c.in_ok-say_after.ensures.known c.say_after.ensures.same
 
 pub returns-clause-gives : goal.returns-clause-gives

@@ -1,0 +1,25 @@
+-- The payload gives values that are nothing to the firmware: the rule of the limits alone is left.
+use Rattle.std.proofs.Common.{◌≡◌, ◌∷◌, [], None, Some, IfOk, rules, ap, sym, subst, ◌∙◌}
+use Rattle.device_requests.specs.declared.ruling.Ruling.TheVariants.{Limit, State}
+use Rattle.object_defs.specs.Lines.{first_line}
+use Rattle.device_requests.specs.Answer.{Leaves}
+use Rattle.device_requests.specs.Inside.{give, value_rules}
+use Rattle.device_requests.specs.Refusals.{is_refused_now, unless_taken}
+use Rattle.device_requests.specs.Write.{after_write_with_event, event_of, mode_at, values_exceed, values_given}
+use Rattle.device_requests.specs.Write.{write_unless}
+use Rattle.device_requests.proofs.client.Client.write_in.Goals as goal
+
+pub returns-in-None : goal.returns-in-None
+returns-in-None c =
+    let client = c.args.self.now in
+    let path = c.args.path in
+    let mode = mode_at c.args.mode path in
+    let values = c.in-Ok.values in
+    let given : values_given client.catalog path c.args.payload.now c.args.format ≡ Some values = search rules in
+    let none : event_of path (Some values) ≡ None = search rules in
+    subst (λ v. IfOk c.set.result (λ a. Leaves a c.set.new.self
+    (give (value_rules client c.args.mode path v) client c.args.mode path v))) (sym given)
+    (subst (λ e. IfOk c.set.result (λ a. Leaves a c.set.new.self
+    (write_unless (first_line ((is_refused_now client.store e, State)
+    ∷ (unless_taken e (values_exceed mode client.catalog client.store path values), Limit) ∷ [])) client
+    (after_write_with_event mode client path (Some values) e)))) (sym none) (search rules))
