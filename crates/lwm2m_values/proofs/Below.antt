@@ -17,7 +17,8 @@ pub as_tested : (limit : ℕ) (s : List ℕ) (is_read : Bool) (r : Option ℕ) �
 as_tested limit s true r to from found only =
     let value = digits_value 10 s in
     elim (cases_lt value limit) [
-      | inl below ↦ only value below (to refl, refl) ∙ sym (ap (λ b. cond b (Some value) None) (lt-ltb value limit below))
+      | inl below ↦ only value below (to refl, refl)
+          ∙ sym (ap (λ b. cond b (Some value) None) (lt-ltb value limit below))
       | inr above ↦ too_large limit s r found above
           ∙ sym (ap (λ b. cond b (Some value) None) (le-ltb value limit above))
     ]

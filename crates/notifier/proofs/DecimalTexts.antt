@@ -43,7 +43,8 @@ is_numeral s h = (λ i. lt-ltb 0 (length s) h.0 i && own.from s h.1 i)
 pub digits_of-all : (most : ℕ) (s : List ℕ) → AreDigits s → 0 < length s → length s ≤ most
     → digits_of most s ≡ Some (digits_value 10 s)
 digits_of-all most s h some short =
-    (λ i. cond (is_numeral s (some, by_index.to s h) i && le-leb (length s) most short i) (Some (digits_value 10 s)) None)
+    (λ i. cond (is_numeral s (some, by_index.to s h) i && le-leb (length s) most short i)
+    (Some (digits_value 10 s)) None)
 
 -- ---- what is read
 

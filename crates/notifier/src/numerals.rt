@@ -38,8 +38,10 @@ pub(crate) const TOO_LONG: u64 = 1 << 31;
 fn seconds_of(text: &[u8]) -> Option<i64>
     ensures { result ≡ option_map pos (seconds_of text.now) }
 {
-    let seconds = number_below(text, TOO_LONG)?;
-    Some(seconds as i64)
+    match number_below(text, TOO_LONG) {
+        Some(seconds) => Some(seconds as i64),
+        None => None,
+    }
 }
 
 /// The thousandths that 1 to 3 digits after a point are.
