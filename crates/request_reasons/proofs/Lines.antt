@@ -1,5 +1,6 @@
 -- What the rule that decides a request for an operation says of it.
 use Rattle.std.proofs.Common.{◌≡◌, ℕ, Bool, true, false, ◌==◌, [], ◌∷◌, Option, Some, refl, sym, ap, subst, ◌∙◌}
+use Rattle.std.proofs.Common.{◌⊎◌, inl, inr}
 use Rattle.coap_codec.specs.Message.{Message}
 use Rattle.object_defs.specs.Lines.{first_line}
 use Rattle.object_defs.specs.Path.{object_in}
@@ -83,6 +84,38 @@ ruled client server path purpose ruling is first same =
     (lacks_operation client.catalog path purpose) (lacks_format client.catalog path purpose)
     (is_invalid client server path purpose) (is_out_of_turn client path purpose)
     (is_too_much client server path purpose) purpose ruling first)
+
+-- a format that is not served, by the rule of Accept or that of Content-Format
+pub unserved_by : (client : Client) (server : ℕ) (path : Path) (purpose : Purpose) (by : Ruling)
+    → first_line (rules_of client server path purpose) ≡ Some by
+    → (by ≡ ruling.Accept) ⊎ (by ≡ ruling.ContentFormat)
+    → (lacks_format client.catalog path purpose ≡ true) × (format_ruling purpose ≡ by)
+unserved_by client server path purpose by first (inl a) =
+    let is = ruled client server path purpose by ruling.Accept first a in (is.0, is.1 ∙ sym a)
+unserved_by client server path purpose by first (inr b) =
+    let is = ruled client server path purpose by ruling.ContentFormat first b in (is.0, is.1 ∙ sym b)
+
+-- success
+pub done_by : (client : Client) (server : ℕ) (path : Path) (purpose : Purpose) (by : Ruling)
+    → first_line (rules_of client server path purpose) ≡ Some by
+    → (by ≡ ruling.Created) ⊎ ((by ≡ ruling.Deleted) ⊎ ((by ≡ ruling.Changed) ⊎ (by ≡ ruling.Content)))
+    → done_ruling purpose ≡ by
+done_by client server path purpose by first (inl a) =
+    ruled client server path purpose by ruling.Created first a ∙ sym a
+done_by client server path purpose by first (inr (inl b)) =
+    ruled client server path purpose by ruling.Deleted first b ∙ sym b
+done_by client server path purpose by first (inr (inr (inl d))) =
+    ruled client server path purpose by ruling.Changed first d ∙ sym d
+done_by client server path purpose by first (inr (inr (inr e))) =
+    ruled client server path purpose by ruling.Content first e ∙ sym e
+
+-- what refuses a message as it is read decides no request for an operation
+pub never_by : (client : Client) (server : ℕ) (path : Path) (purpose : Purpose) (by : Ruling)
+    → first_line (rules_of client server path purpose) ≡ Some by
+    → (by ≡ ruling.Options) ⊎ ((by ≡ ruling.NoPath) ⊎ (by ≡ ruling.Method)) → ⊥
+never_by client server path purpose by first (inl a) = ruled client server path purpose by ruling.Options first a
+never_by client server path purpose by first (inr (inl b)) = ruled client server path purpose by ruling.NoPath first b
+never_by client server path purpose by first (inr (inr d)) = ruled client server path purpose by ruling.Method first d
 
 -- the first rule of a request that asks for an operation is the first of its table
 pub first_asked : (client : Client) (server : ℕ) (m : Message) (path : Path) (operation : Operation)

@@ -11,7 +11,7 @@ rule_by-requires-clause-first c =
 
 pub returns-in-Some-clause-told : goal.returns-in-Some-clause-told
 returns-in-Some-clause-told c =
-    (asks c.args.message.now c.args.request c.requires.read, rw c.in-Some.is at c.in_ok-rule_by.ensures.why)
+    (asks c.args.message.now c.args.request c.requires.read, rw c.in-Some.is at c.in_ok-rule.ensures.why)
 
 pub returns-in-None-clause-told : goal.returns-in-None-clause-told
 returns-in-None-clause-told c = asks c.args.message.now c.args.request c.requires.read

@@ -24,12 +24,9 @@ pub returns-in-Err-clause-told : goal.returns-in-Err-clause-told
 returns-in-Err-clause-told c =
     IfOk-weaker c.unread.result _ _ (λ r told. told c.args.client.now c.args.server) c.unread.ensures.told
 
-pub returns-in-Ok-clause-first : goal.returns-in-Ok-clause-first
-returns-in-Ok-clause-first c =
+pub returns-in_ok-ruling-in-Ok-clause-first : goal.returns-in_ok-ruling-in-Ok-clause-first
+returns-in_ok-ruling-in-Ok-clause-first c =
+    let answer = c.in_ok-ruling-in-Ok.ensures in
     IfOk-weaker c.asked.result _ _
-    (λ r is. says c.args.client.now c.args.server c.args.message.now ∙ ap Some (sym c.in_ok-ruling.ensures ∙ sym is))
+    (λ r is. says c.args.client.now c.args.server c.args.message.now ∙ ap Some (sym answer ∙ sym is))
     c.asked.ensures.ruling
-
-pub returns-in-Ok-clause-ruling : goal.returns-in-Ok-clause-ruling
-returns-in-Ok-clause-ruling c =
-    IfOk-weaker c.asked.result _ _ (λ r is. is ∙ c.in_ok-ruling.ensures) c.asked.ensures.ruling
