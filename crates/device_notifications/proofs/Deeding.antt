@@ -17,6 +17,7 @@ use Rattle.notifier.specs.declared.turn.Turn.TheVariants.{Wait, Resend, Expire}
 use Rattle.coap_codec.specs.declared.kind.Kind.TheVariants.{Non}
 use Rattle.device_requests.specs.Answer.{code_byte, is_content}
 use Rattle.device_requests.specs.Client.{Client}
+use Rattle.device_requests.specs.Ruling.{code_of}
 use Rattle.device_requests.specs.declared.answer.Answer.{Answer}
 use Rattle.device_notifications.specs.Deeds.{Does}
 use Rattle.device_notifications.specs.declared.datagram.Datagram.{Datagram}
@@ -83,7 +84,8 @@ said_then client o new outlook same server path content payload is =
     is ∙ (λ j. content_outlook client (sym server j) (sym path j) new.report
     ((payload ∙ ap (λ (a : Answer). a.payload) (sym same)) j))
     ∙ ap (λ b. if b then content_outlook client new.server new.path new.report (present_answer client new).payload
-    else outlook_with client new.server new.path (pending.Gone (code_byte (present_answer client new).code)))
+    else outlook_with client new.server new.path
+    (pending.Gone (code_byte (code_of (present_answer client new).ruling))))
     (sym (ap is_content same ∙ content))
 
 pub does_send : (client : Client) (clock : ℕ) (o : Observation) (now after : Outbox) (answer : Answer) (d : Datagram)

@@ -17,6 +17,7 @@ use Rattle.notifier.specs.declared.turn.Turn.{Turn}
 use Rattle.notifier.specs.declared.turn.Turn.TheVariants.{Evaluate, Wait, Resend, Expire}
 use Rattle.device_requests.specs.Answer.{code_byte, is_content}
 use Rattle.device_requests.specs.Client.{Client}
+use Rattle.device_requests.specs.Ruling.{code_of}
 use Rattle.device_requests.specs.declared.answer.Answer.{Answer}
 use Rattle.device_notifications.specs.declared.evaluation.Evaluation.{Evaluation}
 use Rattle.device_notifications.specs.declared.evaluation.Evaluation.TheVariants.{Quiet, Sends, Gone}
@@ -57,7 +58,8 @@ pub is_quiet : (client : Client) (clock : ℕ) (o : Observation) → is_due_at o
 is_quiet client clock o h =
     rests (is_content (present_answer client o))
     (triggers_now client o (present_answer client o).payload) o.second clock
-    (pmin_of client o.server o.path) (pmax_of client o.server o.path) (code_byte (present_answer client o).code)
+    (pmin_of client o.server o.path) (pmax_of client o.server o.path)
+    (code_byte (code_of (present_answer client o).ruling))
     (present_answer client o) h
 
 -- one that is due sends its present answer
@@ -68,7 +70,8 @@ pub by_due : (client : Client) (clock : ℕ) (o : Observation) (P : Evaluation �
     → P (evaluation_of client clock o)
 by_due client clock o P h s g =
     acts (is_content (present_answer client o)) (triggers_now client o (present_answer client o).payload) o.second clock
-    (pmin_of client o.server o.path) (pmax_of client o.server o.path) (code_byte (present_answer client o).code)
+    (pmin_of client o.server o.path) (pmax_of client o.server o.path)
+    (code_byte (code_of (present_answer client o).ruling))
     (present_answer client o) P h s g
 
 quiet_as : (client : Client) (clock next_id : ℕ) (o : Observation) (t : Turn)

@@ -14,6 +14,7 @@ use Rattle.notifier.specs.declared.turn.Turn.{Turn}
 use Rattle.notifier.specs.declared.turn.Turn.TheVariants.{Evaluate, Wait, Resend, Expire}
 use Rattle.device_requests.specs.Answer.{code_byte, is_content}
 use Rattle.device_requests.specs.Client.{Client}
+use Rattle.device_requests.specs.Ruling.{code_of}
 use Rattle.device_notifications.specs.declared.datagram.Datagram.{Datagram}
 use Rattle.device_notifications.specs.declared.evaluation.Evaluation.TheVariants.{Quiet, Sends, Gone}
 use Rattle.device_notifications.specs.Message.{resent_datagram}
@@ -131,7 +132,8 @@ evaluated_found : (client : Client) (clock : ℕ) (o : Observation) → turn_at 
 evaluated_found client clock o is =
     by_outlook (is_content (present_answer client o)) (triggers_now client o (present_answer client o).payload)
     (age_of clock o)
-    (pmin_of client o.server o.path) (pmax_of client o.server o.path) (code_byte (present_answer client o).code)
+    (pmin_of client o.server o.path) (pmax_of client o.server o.path)
+    (code_byte (code_of (present_answer client o).ruling))
     (trigger_of client o) (Tells client clock o Evaluate)
     (λ c d next_id. ap (λ v. turn_by client clock next_id o v) (quiet_by client clock o c d))
     (λ c t d waited. (
@@ -227,7 +229,7 @@ elapsed_of age pmin m code by h e = rw (due_elapsed age pmin m h e) refl
 -- the reason of one that is evaluated
 abbrev reason_from : Client → ℕ → Observation → Bool → Bool → ℕ → ℕ → Option ℕ → DueBy → Option NotificationReason
 reason_from client clock o c t age pmin pmax by =
-    reason_by (said_of c t pmin pmax (code_byte (present_answer client o).code)) by age
+    reason_by (said_of c t pmin pmax (code_byte (code_of (present_answer client o).ruling))) by age
 
 reason_is : (client : Client) (clock : ℕ) (o : Observation) → turn_at o clock ≡ Evaluate
     → reason_at client clock o
@@ -245,7 +247,8 @@ triggered_alone client clock o age pmin by h is =
     reason_is client clock o h.evaluated
     ∙ (λ i. reason_from client clock o (h.content i) (is.triggers i) (h.age_is i) (h.pmin_is i)
     (pmax_of client o.server o.path) (is.found i))
-    ∙ due_of age pmin (pmax_of client o.server o.path) (code_byte (present_answer client o).code) by h.waited
+    ∙ due_of age pmin (pmax_of client o.server o.path)
+    (code_byte (code_of (present_answer client o).ruling)) by h.waited
 
 elapsed_alone : (client : Client) (clock : ℕ) (o : Observation) (age pmin m : ℕ) → IsReady client clock o age pmin
     → triggers_now client o (present_answer client o).payload ≡ false → pmax_of client o.server o.path ≡ Some m
@@ -253,7 +256,7 @@ elapsed_alone : (client : Client) (clock : ℕ) (o : Observation) (age pmin m : 
 elapsed_alone client clock o age pmin m h none is over =
     reason_is client clock o h.evaluated
     ∙ (λ i. reason_from client clock o (h.content i) (none i) (h.age_is i) (h.pmin_is i) (is i) (trigger_of client o))
-    ∙ elapsed_of age pmin m (code_byte (present_answer client o).code) (trigger_of client o) h.waited over
+    ∙ elapsed_of age pmin m (code_byte (code_of (present_answer client o).ruling)) (trigger_of client o) h.waited over
 
 due_alone : (client : Client) (clock : ℕ) (o : Observation) (age pmin : ℕ) (by : DueBy)
     → IsReady client clock o age pmin → IsDueBy client o age pmin by

@@ -12,6 +12,7 @@ use Rattle.notifier.specs.declared.observation.Timer.{Timer}
 use Rattle.notifier.specs.declared.turn.Turn.TheVariants.{Evaluate, Resend, Expire}
 use Rattle.device_requests.specs.Answer.{code_byte, is_content}
 use Rattle.device_requests.specs.Client.{Client}
+use Rattle.device_requests.specs.Ruling.{code_of}
 use Rattle.device_notifications.specs.Period.{pmax_of, pmin_of}
 use Rattle.device_notifications.specs.Report.{number_at}
 use Rattle.device_notifications.specs.Second.{age_of, present_answer, quiet_sweep, triggers_now, turn_of}
@@ -90,7 +91,7 @@ pub record IsResending (clock : ℕ) (o : Observation) (times after : ℕ) : Typ
 pub record IsEnd (client : Client) (clock : ℕ) (o : Observation) (code : ℕ) : Type 0 where
   pub evaluated : turn_at o clock ≡ Evaluate
   pub no_content : is_content (present_answer client o) ≡ false
-  pub code_is : code_byte (present_answer client o).code ≡ code
+  pub code_is : code_byte (code_of (present_answer client o).ruling) ≡ code
 
 -- all timeouts of the observation's open notification have passed, so many seconds after its first sending: it ends,
 -- and nothing is sent
