@@ -1,4 +1,5 @@
 pub mod Answers
+pub mod Devices
 pub mod Fault
 pub mod FaultLine
 pub mod Files

@@ -3,6 +3,7 @@
 #![tactic(auto)]
 
 mod answer;
+mod devices;
 mod fault;
 pub mod files;
 mod hex_text;
@@ -16,6 +17,7 @@ mod telling;
 mod verdicts;
 
 pub use answer::{Answer, NewFile, deliver, make, unwritten};
+pub use devices::{Devices, read_devices, read_number};
 pub use fault::{Fault, FaultLine, case_cause, case_word};
 pub use hex_text::read_hex;
 pub use image::image_file;

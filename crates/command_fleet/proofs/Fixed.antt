@@ -16,7 +16,7 @@ use Rattle.std.proofs.Math.Seq.{take-length}
 use Rattle.lemmas.proofs.Lists.{item_at, length_pushed, pushed_cases, take_one_more}
 use Rattle.fleet_link.specs.declared.directory.FixedServer.{FixedServer}
 use Rattle.scenario_image.specs.Scenario.{Row, Scenario}
-use Rattle.command_line.specs.Words.{SpellsNumber}
+use Rattle.command_files.specs.Devices.{IsShortNumber}
 use Rattle.command_files.specs.declared.fault.Fault.{Fault}
 use Rattle.command_files.specs.declared.fault.Fault.TheVariants as faults
 use Rattle.command_fleet.specs.Servers.{AreServers, IsNewServer, IsServer, IsServerPlace, IsServersFault, has_account}
@@ -44,9 +44,9 @@ no_place text address socket server is = of server.ip server.port is
 
 -- what is before the first `=` is no number
 pub no_account : (word account : List ℕ) → account ≡ before_first (λ b. b == 61) word
-    → ((n : ℕ) → SpellsNumber 16 account n → ⊥) → (server : FixedServer) → IsServer word server → ⊥
+    → ((n : ℕ) → IsShortNumber account n → ⊥) → (server : FixedServer) → IsServer word server → ⊥
 no_account word account same none server is =
-    none server.account (subst (λ t. SpellsNumber 16 t server.account) (sym same) is.account)
+    none server.account (subst (λ t. IsShortNumber t server.account) (sym same) is.account)
 
 -- what is behind it is no place
 pub nowhere : (word place : List ℕ) (r : Option FixedServer) → place ≡ after_first (λ b. b == 61) word

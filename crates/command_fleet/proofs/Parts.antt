@@ -1,15 +1,10 @@
--- The devices of `A-B`, the rows of a part of a scenario, and the end of a session.
-use Rattle.std.proofs.Common.{ℕ, ◌≡◌, ◌<◌, ◌==◌, ◌⊎◌, ◌+◌, ◌%◌, zero, suc, Bool, List, [], ◌∷◌, ◌++◌, length}
-use Rattle.std.proofs.Common.{slice_get, Option, IfNone, None, Some, option_map, arith, ap, subst}
-use Rattle.std.proofs.Common.{sym, ◌∙◌, refl, inl, inr}
-use Rattle.std.specs.List.{after_first, before_first}
-use Rattle.command_line.specs.Words.{SpellsNumber}
+-- The rows of a part of a scenario.
+use Rattle.std.proofs.Common.{ℕ, ◌≡◌, ◌<◌, ◌⊎◌, ◌+◌, ◌%◌, zero, suc, Bool, List, [], ◌∷◌, ◌++◌, length}
+use Rattle.std.proofs.Common.{slice_get, Some, option_map, arith, ap, sym, ◌∙◌, refl, inl, inr}
 use Rattle.lemmas.proofs.Lists.{item_pushed, length_pushed}
 use Rattle.scenario_image.specs.Scenario.{Row}
-use Rattle.command_fleet.specs.declared.devices.Devices.{Devices}
-use Rattle.command_fleet.specs.Devices.{IsRange, row_to_play}
-
--- ---- the rows of a part
+use Rattle.command_files.specs.declared.devices.Devices.{Devices}
+use Rattle.command_fleet.specs.Devices.{row_to_play}
 
 -- each of the first rows of a part is that of its device
 abbrev pub AreRows : List Row → Devices → ℕ → Bool → ℕ → List Row → Type 0
@@ -52,15 +47,3 @@ pub length_more : (before after : List Row) (row : Row) (n : ℕ) → length bef
     → length after ≡ n + 1
 length_more before after row n long more =
     ap length more ∙ length_pushed before row ∙ ap suc long ∙ omega arith
-
--- ---- words
-
--- words whose parts are no two numbers are no range
-pub no_range : (text first last : List ℕ) (r : Option Devices) → first ≡ before_first (λ b. b == 45) text
-    → last ≡ after_first (λ b. b == 45) text
-    → IfNone r ((devices : Devices) → SpellsNumber 16 first devices.first → SpellsNumber 16 last devices.last → ⊥)
-    → IfNone r ((devices : Devices) → IsRange text devices → ⊥)
-no_range text first last (Some devices) before behind none = tt
-no_range text first last None before behind none =
-    λ devices is. none devices (subst (λ t. SpellsNumber 16 t devices.first) (sym before) is.first)
-    (subst (λ t. SpellsNumber 16 t devices.last) (sym behind) is.last)

@@ -35,7 +35,7 @@ use Rattle.command_files.specs.declared.fault.Fault.TheVariants as faults
 use Rattle.command_files.specs.declared.refusal.Refusal.{Refusal}
 use Rattle.command_sources.specs.Sources.{IsNoScenario, IsScenarioOf}
 use Rattle.command_fleet.specs.declared.concluding.Held.{Held}
-use Rattle.command_fleet.specs.declared.devices.Devices.{Devices}
+use Rattle.command_files.specs.declared.devices.Devices.{Devices}
 use Rattle.command_fleet.specs.declared.telling.Telling.{Telling}
 use Rattle.command_fleet.specs.Devices.{AreChosen, IsPart}
 use Rattle.command_fleet.specs.Inside.{IsNotKeptUp, IsShownFrom}

@@ -1,16 +1,10 @@
 -- Which devices of a scenario are put on ports.
-use Rattle.std.specs.Prelude.{ℕ, ◌≡◌, ◌+◌, ◌-◌, ◌%◌, ◌<◌, ◌≤◌, ◌==◌, Bool, List, length, Option, None, Some}
+use Rattle.std.specs.Prelude.{ℕ, ◌≡◌, ◌+◌, ◌-◌, ◌%◌, ◌<◌, ◌≤◌, Bool, List, length, Option, None, Some}
 use Rattle.std.specs.Prelude.{option_map, slice_get, unwrap_or}
-use Rattle.std.specs.List.{after_first, before_first}
-use Rattle.command_line.specs.Words.{SpellsNumber}
+use Rattle.command_files.specs.Devices.{IsDeviceRange}
+use Rattle.command_files.specs.declared.devices.Devices.{Devices}
 use Rattle.fleet_link.specs.Playing.{played_steps}
 use Rattle.scenario_image.specs.Scenario.{Row, Scenario}
-use Rattle.command_fleet.specs.declared.devices.Devices.{Devices}
-
--- `A-B`: the numbers before and behind the first hyphen
-pub record IsRange (text : List ℕ) (devices : Devices) : Type 0 where
-  pub first : SpellsNumber 16 (before_first (λ b. b == 45) text) devices.first
-  pub last : SpellsNumber 16 (after_first (λ b. b == 45) text) devices.last
 
 -- all of them
 pub record AreAll (s : Scenario) (devices : Devices) : Type 0 where
@@ -20,7 +14,7 @@ pub record AreAll (s : Scenario) (devices : Devices) : Type 0 where
 -- those of `--devices`, and all where it is not given
 abbrev pub AreNamed : Scenario → Option (List ℕ) → Devices → Type 0
 AreNamed s None devices = AreAll s devices
-AreNamed s (Some text) devices = IsRange text devices
+AreNamed s (Some text) devices = IsDeviceRange text devices
 
 -- they are named, there is one at least, and the scenario has them
 pub record AreChosen (s : Scenario) (text : Option (List ℕ)) (devices : Devices) : Type 0 where

@@ -36,7 +36,7 @@ use Rattle.command_files.specs.declared.status.Status.{Status}
 use Rattle.command_files.specs.declared.status.Status.TheVariants as ends
 use Rattle.command_sources.specs.Sources.{IsNoScenario, IsScenarioOf}
 use Rattle.command_fleet.specs.declared.concluding.Held.{Held}
-use Rattle.command_fleet.specs.declared.devices.Devices.{Devices}
+use Rattle.command_files.specs.declared.devices.Devices.{Devices}
 use Rattle.command_fleet.specs.declared.shortfall.Shortfall.{Shortfall}
 use Rattle.command_fleet.specs.declared.telling.Telling.{Telling}
 use Rattle.command_fleet.specs.Devices.{AreChosen, IsPart}

@@ -6,7 +6,7 @@ use Rattle.std.specs.Net.Grammar.{IsIpText, IsSocketText}
 use Rattle.std.specs.Net.Socket.{IsPlainSocket, socket_ip}
 use Rattle.std.specs.declared.net.ip_addr.IpAddr.{IpAddr}
 use Rattle.std.specs.declared.net.socket_addr.SocketAddr.{SocketAddr}
-use Rattle.command_line.specs.Words.{SpellsNumber}
+use Rattle.command_files.specs.Devices.{IsShortNumber}
 use Rattle.device_template.specs.Template.{Template}
 use Rattle.scenario_image.specs.Scenario.{Row, Scenario}
 use Rattle.fleet_link.specs.declared.directory.FixedServer.{FixedServer}
@@ -22,7 +22,7 @@ IsServerPlace text ip (Some port) =
 -- `S=PLACE`: what is before and behind the first `=`
 pub record IsServer (word : List ℕ) (server : FixedServer) : Type 0 where
   pub parts : position_or_len (λ b. b == 61) word < length word
-  pub account : SpellsNumber 16 (before_first (λ b. b == 61) word) server.account
+  pub account : IsShortNumber (before_first (λ b. b == 61) word) server.account
   pub place : IsServerPlace (after_first (λ b. b == 61) word) server.ip server.port
 
 -- the accounts of a class, if there is one

@@ -1,51 +1,14 @@
 //! Which devices of a scenario are put on ports.
 ghost use Rattle.std.specs.Prelude.{◌≡◌, ◌+◌, ◌%◌, ◌<◌, ◌≤◌, [], IfErr, IfNone, IfOk, IfSome, Some, length, option_map};
 ghost use Rattle.std.specs.Prelude.{unwrap_or};
-ghost use Rattle.command_fleet.specs.declared.devices.Devices.{Devices as DevicesData};
-ghost use Rattle.command_fleet.specs.Devices.{AreChosen, IsPart, IsRange, count_of};
-ghost use Rattle.command_line.specs.Words.{IsOptionalNumber, SpellsNumber};
+ghost use Rattle.command_files.specs.declared.devices.Devices.{Devices as DevicesData};
+ghost use Rattle.command_fleet.specs.Devices.{AreChosen, IsPart, count_of};
 
 use crate::rows::steps_to_play;
-use command_files::Fault;
+use command_files::{Devices, Fault, read_devices};
 use fleet_link::add_row;
 use scenario_image::Scenario;
 use std::alloc::Global;
-
-/// Devices of a scenario, by the numbers of their rows.
-#[derive(Clone, Copy)]
-pub struct Devices {
-    pub first: u16,
-    /// The last one of them.
-    pub last: u16,
-}
-
-pub(crate) fn number_of(text: &str) -> Option<u16>
-    ensures { IsOptionalNumber 16 (Some text.now) result }
-{
-    text.parse::<u16>().ok()
-}
-
-/// The devices of `A-B`.
-fn range_of(text: &str) -> Option<Devices>
-    ensures range { IfSome result (IsRange text.now) }
-    ensures none { IfNone result ((devices : DevicesData) → IsRange text.now devices → ⊥) }
-{
-    let (first, last) = text.split_once('-')?;
-    devices_of(first, last)
-}
-
-/// The devices of two numbers.
-fn devices_of(first: &str, last: &str) -> Option<Devices>
-    ensures first { IfSome result (λ devices. SpellsNumber 16 first.now devices.first) }
-    ensures last { IfSome result (λ devices. SpellsNumber 16 last.now devices.last) }
-    ensures none { IfNone result ((devices : DevicesData) → SpellsNumber 16 first.now devices.first
-        → SpellsNumber 16 last.now devices.last → ⊥) }
-{
-    Some(Devices {
-        first: number_of(first)?,
-        last: number_of(last)?,
-    })
-}
 
 /// The devices of a scenario that `--devices` names, or all of them; none where it does not have them, or has none.
 pub fn chosen_devices(scenario: &Scenario, text: Option<&str>) -> Option<Devices>
@@ -59,9 +22,9 @@ pub fn chosen_devices(scenario: &Scenario, text: Option<&str>) -> Option<Devices
             first: 0,
             last: rows.checked_sub(1)? as u16,
         },
-        Some(text) => range_of(text)?,
+        Some(text) => read_devices(text)?,
     };
-    if devices.first > devices.last || usize::from(devices.last) >= rows {
+    if usize::from(devices.last) >= rows {
         return None;
     }
     Some(devices)

@@ -20,7 +20,7 @@ mod wires;
 
 pub use asking::Quit;
 pub use concluding::{Held, conclude_session, done_line};
-pub use devices::{Devices, chosen_devices, part_of};
+pub use devices::{chosen_devices, part_of};
 pub use in_json::{done_object, port_object, ready_object, second_line};
 pub use listing::listed_line;
 pub use places::ready_line;

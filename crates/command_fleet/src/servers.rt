@@ -6,12 +6,10 @@ ghost use Rattle.std.specs.Net.Socket.{IsPlainSocket, socket_ip};
 ghost use Rattle.std.specs.declared.net.ip_addr.IpAddr.{IpAddr as Ip};
 ghost use Rattle.fleet_link.specs.declared.directory.FixedServer.{FixedServer as Server};
 ghost use Rattle.scenario_image.specs.Scenario.{Row};
-ghost use Rattle.command_line.specs.Words.{SpellsNumber};
 ghost use Rattle.command_fleet.specs.Servers.{AreServers, IsNewServer, IsServer, IsServerPlace, IsServersFault};
 ghost use Rattle.command_fleet.specs.Servers.{has_account, is_fixed, row_has};
 
-use crate::devices::number_of;
-use command_files::{Fault, Refusal, Why};
+use command_files::{Fault, Refusal, Why, read_number};
 use fleet_link::FixedServer;
 use scenario_image::Scenario;
 use std::alloc::{AllocError, Global};
@@ -74,7 +72,7 @@ fn server_of(word: &str) -> Option<FixedServer>
     ensures none { IfNone result ((server : Server) → IsServer word.now server → ⊥) }
 {
     let (account, place) = word.split_once('=')?;
-    server_at(number_of(account)?, place)
+    server_at(read_number(account)?, place)
 }
 
 /// Whether the class of a device has this account.

@@ -1,25 +1,14 @@
 -- Words that name slices, and the slices that they name.
 use Rattle.std.specs.Prelude.{All, MatchOption}
 use Rattle.std.proofs.lemmas.List.Elements.{All-cons, All-nil}
-use Rattle.std.proofs.Common.{ℕ, ◌≡◌, ◌+◌, ◌≤◌, ◌<◌, ◌==◌, Bor, List, [], ◌∷◌, ◌++◌, Option, IfNone, None, Some, length}
+use Rattle.std.proofs.Common.{ℕ, ◌≡◌, ◌+◌, ◌≤◌, ◌<◌, ◌==◌, Bor, List, [], ◌∷◌, ◌++◌, Option, None, Some, length}
 use Rattle.std.proofs.Common.{take, get_or, map, sym, ap, subst, ◌∙◌, arith}
 use Rattle.std.proofs.lemmas.List.{map-append, take_all, take_more}
-use Rattle.std.specs.List.{AllZip, after_first, before_first}
-use Rattle.command_join.specs.Slices.{AreSlices, HasRange, IsDeviceNumber, IsDeviceRange, IsPathAlone, IsSlice}
-use Rattle.command_join.specs.Slices.{first_in, first_of, last_in, last_of}
-use Rattle.command_join.specs.declared.slice.Devices.{Devices}
+use Rattle.std.specs.List.{AllZip, before_first}
+use Rattle.command_files.specs.Devices.{IsDeviceRange}
+use Rattle.command_files.specs.declared.devices.Devices.{Devices}
+use Rattle.command_join.specs.Slices.{AreSlices, HasRange, IsPathAlone, IsSlice, first_in, first_of, last_in, last_of}
 use Rattle.command_join.specs.declared.slice.Slice.{Slice}
-
--- words whose parts are no devices are no range
-pub no_range : (text first last : List ℕ) (r : Option Devices) → first ≡ before_first (λ b. b == 45) text
-    → last ≡ after_first (λ b. b == 45) text
-    → IfNone r ((devices : Devices) → IsDeviceNumber first devices.first → IsDeviceNumber last devices.last
-    → devices.first ≤ devices.last → ⊥)
-    → IfNone r ((devices : Devices) → IsDeviceRange text devices → ⊥)
-no_range text first last (Some devices) before after none = tt
-no_range text first last None before after none =
-    λ devices is. none devices (subst (λ t. IsDeviceNumber t devices.first) (sym before) is.first)
-    (subst (λ t. IsDeviceNumber t devices.last) (sym after) is.last) is.some
 
 pub ranged : (word range path : List ℕ) (devices : Devices) → range ≡ before_first (λ b. b == 61) word
     → word ≡ range ++ 61 ∷ path → IsDeviceRange range devices → HasRange word path devices

@@ -1,21 +1,9 @@
 -- The slices of a scenario that words name.
-use Rattle.std.specs.Prelude.{ℕ, ◌≡◌, ◌<◌, ◌≤◌, ◌==◌, List, ◌∷◌, ◌++◌, Option, None, Some, MatchOption}
-use Rattle.std.specs.Str.Parse.{IsNumeral, digits_value, without_leading_plus}
-use Rattle.std.specs.List.{AllZip, after_first, before_first}
-use Rattle.command_join.specs.declared.slice.Devices.{Devices}
+use Rattle.std.specs.Prelude.{ℕ, ◌≡◌, ◌==◌, List, ◌∷◌, ◌++◌, Option, None, Some, MatchOption}
+use Rattle.std.specs.List.{AllZip, before_first}
+use Rattle.command_files.specs.Devices.{IsDeviceRange}
+use Rattle.command_files.specs.declared.devices.Devices.{Devices}
 use Rattle.command_join.specs.declared.slice.Slice.{Slice}
-
--- the word is this number of a device, in decimal
-pub record IsDeviceNumber (word : List ℕ) (n : ℕ) : Type 0 where
-  pub digits : IsNumeral 10 (without_leading_plus word)
-  pub value : n ≡ digits_value 10 (without_leading_plus word)
-  pub bound : n < 65536
-
--- `A-B`: the numbers before and after the first hyphen, of which the second is not below the first
-pub record IsDeviceRange (text : List ℕ) (devices : Devices) : Type 0 where
-  pub first : IsDeviceNumber (before_first (λ b. b == 45) text) devices.first
-  pub last : IsDeviceNumber (after_first (λ b. b == 45) text) devices.last
-  pub some : devices.first ≤ devices.last
 
 -- `A-B=IMAGE`: there is a `=`; before the first one stands which devices they are, and after it the path of the image
 pub record HasRange (word path : List ℕ) (devices : Devices) : Type 0 where

@@ -1,19 +1,10 @@
 //! Slices of a scenario, by the words that name them.
-ghost use Rattle.std.specs.Prelude.{ℕ, ◌≡◌, ◌≤◌, [], ◌∷◌, ◌++◌, List, Some, IfNone, IfOk, IfSome, OnOk, map, option_map};
-ghost use Rattle.command_join.specs.Slices.{AreSlices, HasRange, IsDeviceNumber, IsDeviceRange, IsSlice};
-ghost use Rattle.command_join.specs.Slices.{first_of, last_of};
-ghost use Rattle.command_join.specs.declared.slice.Devices.{Devices as DevicesData};
+ghost use Rattle.std.specs.Prelude.{ℕ, ◌≡◌, [], ◌∷◌, ◌++◌, List, Some, IfNone, IfOk, IfSome, OnOk, map, option_map};
+ghost use Rattle.command_files.specs.declared.devices.Devices.{Devices as DevicesData};
+ghost use Rattle.command_join.specs.Slices.{AreSlices, HasRange, IsSlice, first_of, last_of};
 
-use command_files::{Fault, Refusal, Why};
+use command_files::{Devices, Fault, Refusal, Why, read_devices};
 use std::alloc::{AllocError, Global};
-
-/// Devices of a scenario, by the numbers of their rows.
-#[derive(Clone, Copy)]
-pub struct Devices {
-    pub first: u16,
-    /// The last one of them.
-    pub last: u16,
-}
 
 /// A slice of a scenario: the image that has it, and which devices these are, if that is said.
 #[derive(Clone, Copy)]
@@ -26,39 +17,6 @@ pub struct Slice<'a> {
     pub devices: Option<Devices>,
 }
 
-/// The number of a device.
-fn number_of(text: &str) -> Option<u16>
-    ensures number { IfSome result (IsDeviceNumber text.now) }
-    ensures none { IfNone result ((n : ℕ) → IsDeviceNumber text.now n → ⊥) }
-{
-    text.parse::<u16>().ok()
-}
-
-/// The devices from one number to another.
-fn devices_of(first: &str, last: &str) -> Option<Devices>
-    ensures first { IfSome result (λ devices. IsDeviceNumber first.now devices.first) }
-    ensures last { IfSome result (λ devices. IsDeviceNumber last.now devices.last) }
-    ensures some { IfSome result (λ devices. devices.first ≤ devices.last) }
-    ensures none { IfNone result ((devices : DevicesData) → IsDeviceNumber first.now devices.first
-        → IsDeviceNumber last.now devices.last → devices.first ≤ devices.last → ⊥) }
-{
-    let first = number_of(first)?;
-    let last = number_of(last)?;
-    if first > last {
-        return None;
-    }
-    Some(Devices { first, last })
-}
-
-/// The devices of `A-B`.
-fn range_of(text: &str) -> Option<Devices>
-    ensures range { IfSome result (IsDeviceRange text.now) }
-    ensures none { IfNone result ((devices : DevicesData) → IsDeviceRange text.now devices → ⊥) }
-{
-    let (first, last) = text.split_once('-')?;
-    devices_of(first, last)
-}
-
 /// The path and the devices of `A-B=IMAGE`.
 fn range_and_path<'a>(word: &'a str) -> Option<(&'a str, Devices)>
     ensures range { IfSome result (λ p. HasRange word.entry.now p.0.now p.1) }
@@ -66,7 +24,7 @@ fn range_and_path<'a>(word: &'a str) -> Option<(&'a str, Devices)>
         → ⊥) }
 {
     let (range, path) = word.split_once('=')?;
-    let devices = range_of(range)?;
+    let devices = read_devices(range)?;
     Some((path, devices))
 }
 

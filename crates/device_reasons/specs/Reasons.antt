@@ -1,7 +1,6 @@
 -- Why a device handles a datagram as it does: the first line of the table of rules whose condition holds (RFC 7252
 -- sections 4.2 to 4.5).
 use Rattle.std.specs.Prelude.{◌≡◌, ◌≢◌, ◌⊎◌, ℕ, true, false, List, None, Some, Ok, Err, count_by, is_some}
-use Rattle.std.specs.Prelude.{position}
 use Rattle.std.specs.List.{list_any}
 use Rattle.coap_codec.specs.declared.fault.CoapFault.{CoapFault}
 use Rattle.coap_codec.specs.declared.kind.Kind.{Kind}
@@ -9,13 +8,14 @@ use Rattle.coap_codec.specs.declared.kind.Kind.TheVariants.{Con, Non, Ack, Rst}
 use Rattle.coap_codec.specs.Message.{Message}
 use Rattle.coap_codec.specs.Reading.{reading_of}
 use Rattle.notifier.specs.Observed.{is_awaited, was_sent}
+use Rattle.object_defs.specs.Lines.{first_line}
 use Rattle.device_requests.specs.Client.{Client, has_account}
 use Rattle.device_requests.specs.Laws.{request_lines}
 use Rattle.device_requests.specs.Request.{outcome_of}
 use Rattle.device_machine.specs.Laws.{IsFresh}
 use Rattle.device_machine.specs.Reactions.{claimed_mid, claims_confirmable, is_request, repeat_of}
 use Rattle.device_machine.specs.State.{Machine}
-use Rattle.request_reasons.specs.Reasons.{IsTold, code_of, line_of}
+use Rattle.request_reasons.specs.Reasons.{IsTold, ruling_of}
 use Rattle.request_reasons.specs.declared.reasons.Reason.{Reason}
 use Rattle.device_reasons.specs.declared.arrival.ArrivalReason.{ArrivalReason}
 use Rattle.device_reasons.specs.declared.arrival.ArrivalReason.TheVariants.{Stranger, MalformedCon, Malformed, OtherCon}
@@ -34,11 +34,11 @@ pub record IsMessage (f : Machine) (server : ℕ) (bytes : List ℕ) (kind : Kin
   pub reading : reading_of bytes ≡ Ok m
   pub kind_is : m.kind ≡ kind
 
--- why a request is answered so: the reason's rule is the first that applies, its code is that of the answer, and what
--- it says of the request is so
+-- why a request is answered so: the reason's rule is the first that applies, and that of the answer, and what it says
+-- of the request is so
 pub record IsReasonFor (client : Client) (server : ℕ) (m : Message) (reason : Reason) : Type 0 where
-  pub first : position (λ line. line.0) (request_lines client server m) ≡ Some (line_of reason)
-  pub code : code_of reason ≡ (outcome_of client server m).answer.code
+  pub first : first_line (request_lines client server m) ≡ Some (ruling_of m reason)
+  pub ruling : ruling_of m reason ≡ (outcome_of client server m).answer.ruling
   pub told : IsTold client server m reason
 
 -- why a device in this flat state handles bytes that come from a server as it does

@@ -1,14 +1,12 @@
 //! Choices as words: `10%`, or `2,5-6`.
-ghost use Rattle.std.specs.Prelude.{◌≡◌, ◌⊎◌, ◌<◌, ◌+◌, true, Err, IfSome, MatchOption, MatchResult, drop, length, take};
-ghost use Rattle.std.specs.Char.{is_ascii_digit};
-ghost use Rattle.std.specs.List.{list_all, position};
-ghost use Rattle.std.specs.Str.{IsUtf8};
+ghost use Rattle.std.specs.Prelude.{◌≡◌, ◌⊎◌, ◌<◌, ◌+◌, Err, IfSome, MatchResult, drop, length, take};
+ghost use Rattle.std.specs.List.{position};
 ghost use Rattle.fleet_wire.specs.Reading.{is_comma, is_hyphen, is_share, next_span, number_of};
 ghost use Rattle.fleet_wire.specs.Reading.{share_of, span_of, spans_of, IsRefused, IsSaid, IsWithLast};
 
 use crate::choice::{Choice, Span};
+use lwm2m_values::number_below;
 use std::alloc::Global;
-use std::str;
 
 /// Why a word is no choice.
 #[derive(Clone, Copy)]
@@ -23,39 +21,11 @@ pub enum ChoiceFault {
     Memory,
 }
 
-fn are_digits(text: &[u8]) -> bool
-    ensures { result ≡ list_all is_ascii_digit text.now }
-{
-    text.iter().all(|byte| byte.is_ascii_digit())
-}
-
-/// The text that bytes are, where they are UTF-8.
-fn utf8_of(bytes: &[u8]) -> Option<&str>
-    ensures { MatchOption result (¬ (IsUtf8 bytes.now)) (λ s. (s.now ≡ bytes.now) × IsUtf8 bytes.now) }
-{
-    str::from_utf8(bytes).ok()
-}
-
-/// The number that digits write, if there is one, and it is below 2^32.
-fn value_of(digits: &[u8]) -> Option<u32>
-    requires { list_all is_ascii_digit digits.now ≡ true }
-    ensures { result ≡ number_of digits.now }
-{
-    let text = utf8_of(digits)?;
-    text.parse::<u32>().ok()
-}
-
 /// The number that a text writes.
 fn number_of(text: &[u8]) -> Option<u64>
     ensures { result ≡ number_of text.now }
 {
-    if !are_digits(text) {
-        return None;
-    }
-    match value_of(text) {
-        None => None,
-        Some(number) => Some(u64::from(number)),
-    }
+    number_below(text, 1 << 32)
 }
 
 /// The place of the first hyphen.

@@ -16,8 +16,11 @@ own = numerals_by_value _ tells_digits
 IsAscii-digits : (n : ℕ) (t : List ℕ) → IsDecimal n t → IsAscii t
 IsAscii-digits n t h = IsAscii-from_digits t h.0.1
 
+pub IsUtf8-from_decimal : (n : ℕ) (t : List ℕ) → IsDecimal n t → IsUtf8 t
+IsUtf8-from_decimal n t h = IsUtf8-from_ascii t (IsAscii-digits n t h)
+
 pub IsUtf8-from_signed : (z : ℤ) (t : List ℕ) → IsSigned z t → IsUtf8 t
-IsUtf8-from_signed z t (inl h) = IsUtf8-from_ascii t (IsAscii-digits h.0 t h.1)
+IsUtf8-from_signed z t (inl h) = IsUtf8-from_decimal h.0 t h.1
 IsUtf8-from_signed z t (inr h) =
     subst IsUtf8 (sym h.2) (IsUtf8-from_ascii _ (IsAscii-cons 45 h.1 (omega arith) (IsAscii-digits h.0 h.1 h.3)))
 

@@ -1,4 +1,5 @@
 pub mod Digits
+pub mod Below
 pub mod Integers
 pub mod OneText
 pub mod OneRecord

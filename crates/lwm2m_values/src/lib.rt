@@ -22,6 +22,7 @@ pub use kind::ValueKind;
 pub use laws::{one_text_value, one_tlv, one_value_of_bytes};
 pub use level::{Around, RecordType};
 pub use node::{Node, instance_node, multi_node, part_node, single_node};
+pub use numerals::number_below;
 pub use place::{TlvLack, TlvPlace, tlv_place};
 pub use plain::{read_text, write_text};
 pub use text::Text;

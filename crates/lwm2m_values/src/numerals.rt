@@ -4,22 +4,24 @@ ghost use Rattle.std.specs.Str.Parse.{AllDigits};
 ghost use Rattle.std.specs.Int.{w64};
 ghost use Rattle.lwm2m_values.specs.Value.{IsDecimal, IsSigned, IsPair};
 
-/// The number below 65,536 that decimal digits write, without a sign; leading zeros are allowed.
-pub(crate) fn half_of(text: &str) -> Option<u16>
-    ensures found { IfSome result (λ n. IsDecimal n text.now) }
-    ensures only { (n : ℕ) → n < 65536 → IsDecimal n text.now → result ≡ Some n }
-{
-    if text.starts_with('+') {
-        return None;
-    }
-    text.parse::<u16>().ok()
-}
-
 /// The text that bytes are, where they are UTF-8.
 pub(crate) fn utf8_of(bytes: &[u8]) -> Option<&str>
     ensures { MatchOption result (¬ (IsUtf8 bytes.now)) (λ s. (s.now ≡ bytes.now) × IsUtf8 bytes.now) }
 {
     str::from_utf8(bytes).ok()
+}
+
+/// The number below a limit that a text writes: decimal digits, without a sign; the first may be 0.
+pub fn number_below(text: &[u8], limit: u64) -> Option<u64>
+    ensures found { IfSome result (λ n. (n < limit) × IsDecimal n text.now) }
+    ensures only { (n : ℕ) → n < limit → IsDecimal n text.now → result ≡ Some n }
+{
+    let digits = utf8_of(text)?;
+    if digits.starts_with('+') {
+        return None;
+    }
+    let number = digits.parse::<u64>().ok()?;
+    if number < limit { Some(number) } else { None }
 }
 
 /// The number of 64 bits that a text writes: decimal digits, with a minus sign in front or none.
@@ -49,7 +51,7 @@ pub(crate) fn pair_of(text: &[u8]) -> Option<(u16, u16)>
     ensures only { (o i : ℕ) → o < 65536 → i < 65536 → IsPair o i text.now → result ≡ Some (o, i) }
 {
     let (object, instance) = halves_of(text)?;
-    let object = half_of(object)?;
-    let instance = half_of(instance)?;
-    Some((object, instance))
+    let object = number_below(object.as_bytes(), 65536)?;
+    let instance = number_below(instance.as_bytes(), 65536)?;
+    Some((object as u16, instance as u16))
 }

@@ -1,17 +1,18 @@
 -- Texts of decimal digits.
-use Rattle.std.proofs.Common.{◌≡◌, ℕ, zero, suc, ◌<◌, ◌≤◌, ◌^◌, Bool, true, false, cond, ◌&&◌, List, [], ◌∷◌, Option}
-use Rattle.std.proofs.Common.{None, Some, length, get_or, take, length-take, get_or-take, nat_lt, nat_le, position}
-use Rattle.std.proofs.Common.{IfSome, refl, sym, ap, ◌∙◌, arith, lt-ltb, le-ltb}
+use Rattle.std.proofs.Common.{◌≡◌, ℕ, ◌<◌, ◌≤◌, ◌^◌, Bool, true, false, cond, ◌&&◌, List, Option, None, Some, length}
+use Rattle.std.proofs.Common.{nat_lt, nat_le, position, IfSome, refl, sym, ap, ◌∙◌, arith, lt-ltb, ltb-true}
 use Rattle.std.specs.Int.{IsInRange}
 use Rattle.std.specs.List.{list_all}
-use Rattle.std.specs.Str.Parse.{digits_value}
+use Rattle.std.specs.Str.Parse.{IsNumeral, digits_value}
 use Rattle.std.proofs.lemmas.Bool.Decides.{nat_tests}
 use Rattle.std.proofs.lemmas.List.Quantifiers.{position-Some}
-use Rattle.std.proofs.lemmas.Str.Parse.{digits_value_short}
+use Rattle.std.proofs.lemmas.Str.Parse.{IsNumeralModel, digits_value_short, numerals_by_value}
 use Rattle.std.proofs.Math.Bool.{and-false}
-use Rattle.std.proofs.lemmas.Bool.{le-leb}
+use Rattle.std.proofs.lemmas.Bool.{and_parts, le-leb}
 use Rattle.lemmas.proofs.Numbers.{nat_le_above}
-use Rattle.object_defs.proofs.Digits.{AreDigits, own}
+use Rattle.lwm2m_values.specs.Value.{IsDecimal}
+use Rattle.lwm2m_values.proofs.Below.{as_tested}
+use Rattle.object_defs.proofs.Digits.{AreDigits, own as by_index}
 use Rattle.notifier.specs.Query.{is_digit, are_digits, digits_of, seconds_of}
 
 pub digit : (c : ℕ) → IsInRange 48 57 c → is_digit c ≡ true
@@ -20,82 +21,57 @@ digit c h = grind (arith, nat_tests)
 pub stray : (c : ℕ) → (IsInRange 48 57 c → ⊥) → is_digit c ≡ false
 stray c h = grind (arith, nat_tests)
 
-all_digits : (s : List ℕ) → AreDigits s → list_all is_digit s ≡ true
-all_digits [] h = refl
-all_digits (x ∷ xs) h =
-    ap (λ b. b && list_all is_digit xs) (digit x (h 0 (omega arith)))
-    ∙ all_digits xs (λ i inside. h (suc i) (omega arith))
+in_range : (c : ℕ) → is_digit c ≡ true → IsInRange 48 57 c
+in_range c h = grind (arith, nat_tests)
 
-pub one_stray : (s : List ℕ) (i : ℕ) → i < length s → (IsInRange 48 57 (get_or s i 0) → ⊥) → list_all is_digit s ≡ false
-one_stray [] i inside h = absurd (omega arith)
-one_stray (x ∷ xs) zero inside h = ap (λ b. b && list_all is_digit xs) (stray x h)
-one_stray (x ∷ xs) (suc i) inside h =
-    ap (λ b. is_digit x && b) (one_stray xs i (omega arith) h) ∙ and-false (is_digit x)
+own : IsNumeralModel (λ s. list_all is_digit s ≡ true) (digits_value 10)
+own =
+    numerals_by_value _ (record {
+      empty = refl;
+      parts = λ c cs h. let tests = and_parts (is_digit c) (list_all is_digit cs) h in (in_range c tests.0, tests.1);
+      more = λ c cs is all. (λ i. digit c is i && all i);
+    })
 
-are_digits-all : (s : List ℕ) → AreDigits s → 0 < length s → are_digits s ≡ true
-are_digits-all s h some = (λ i. lt-ltb 0 (length s) some i && all_digits s h i)
+numeral : (s : List ℕ) → are_digits s ≡ true → IsNumeral 10 s
+numeral s h =
+    let tests = and_parts (nat_lt 0 (length s)) (list_all is_digit s) h in
+    (ltb-true 0 (length s) tests.0, own.to s tests.1)
 
-are_digits-stray : (s : List ℕ) (i : ℕ) → i < length s → (IsInRange 48 57 (get_or s i 0) → ⊥) → are_digits s ≡ false
-are_digits-stray s i inside h =
-    ap (λ b. nat_lt 0 (length s) && b) (one_stray s i inside h) ∙ and-false (nat_lt 0 (length s))
+is_numeral : (s : List ℕ) → IsNumeral 10 s → are_digits s ≡ true
+is_numeral s h = (λ i. lt-ltb 0 (length s) h.0 i && own.from s h.1 i)
 
-are_digits-empty : (s : List ℕ) → length s ≡ 0 → are_digits s ≡ false
-are_digits-empty [] h = refl
-are_digits-empty (x ∷ xs) h = absurd (omega (arith, h))
+pub digits_of-all : (most : ℕ) (s : List ℕ) → AreDigits s → 0 < length s → length s ≤ most
+    → digits_of most s ≡ Some (digits_value 10 s)
+digits_of-all most s h some short =
+    (λ i. cond (is_numeral s (some, by_index.to s h) i && le-leb (length s) most short i)
+    (Some (digits_value 10 s)) None)
 
-refused : {X : Type 0} (a b : Bool) (x : X) → a ≡ false → None ≡ cond (a && b) (Some x) None
-refused a b x h = sym (ap (λ c. cond (c && b) (Some x) None) h)
+-- ---- what is read
 
--- ---- a number of few digits
+pub seconds_read : (s : List ℕ) (r : Option ℕ) → IfSome r (λ n. (n < 2147483648) × IsDecimal n s)
+    → ((n : ℕ) → n < 2147483648 → IsDecimal n s → r ≡ Some n) → r ≡ seconds_of s
+seconds_read s r = as_tested 2147483648 s (are_digits s) r (numeral s) (is_numeral s)
 
-pub digits_of-empty : (most : ℕ) (s : List ℕ) → length s ≡ 0 → None ≡ digits_of most s
-digits_of-empty most s h = refused (are_digits s) (nat_le (length s) most) (digits_value 10 s) (are_digits-empty s h)
+few : (most : ℕ) (s : List ℕ) → length s ≤ most → most ≤ 15 → (is_read : Bool) → are_digits s ≡ is_read
+    → cond (is_read && nat_lt (digits_value 10 s) (10 ^ 15)) (Some (digits_value 10 s)) None
+    ≡ cond (is_read && nat_le (length s) most) (Some (digits_value 10 s)) None
+few most s short fits true h =
+    let small = digits_value_short own s 15 (and_parts (nat_lt 0 (length s)) (list_all is_digit s) h).1 (omega arith) in
+    ap (λ b. cond b (Some (digits_value 10 s)) None)
+    (lt-ltb (digits_value 10 s) (10 ^ 15) small ∙ sym (le-leb (length s) most short))
+few most s short fits false h = refl
 
-pub digits_of-stray : (most : ℕ) (s : List ℕ) (i : ℕ) → i < length s → (IsInRange 48 57 (get_or s i 0) → ⊥)
-    → None ≡ digits_of most s
-digits_of-stray most s i inside h =
-    refused (are_digits s) (nat_le (length s) most) (digits_value 10 s) (are_digits-stray s i inside h)
+pub digits_read : (most : ℕ) (s : List ℕ) (r : Option ℕ) → length s ≤ most → most ≤ 15
+    → IfSome r (λ n. (n < 10 ^ 15) × IsDecimal n s) → ((n : ℕ) → n < 10 ^ 15 → IsDecimal n s → r ≡ Some n)
+    → r ≡ digits_of most s
+digits_read most s r short fits found only =
+    as_tested (10 ^ 15) s (are_digits s) r (numeral s) (is_numeral s) found only
+    ∙ few most s short fits (are_digits s) refl
 
 pub digits_of-long : (most : ℕ) (s : List ℕ) → most < length s → None ≡ digits_of most s
 digits_of-long most s h =
     sym (ap (λ b. cond b (Some (digits_value 10 s)) None)
     (ap (λ b. are_digits s && b) (nat_le_above (length s) most h) ∙ and-false (are_digits s)))
-
-pub digits_of-all : (most : ℕ) (s : List ℕ) → AreDigits s → 0 < length s → length s ≤ most
-    → digits_of most s ≡ Some (digits_value 10 s)
-digits_of-all most s h some short =
-    (λ i. cond (are_digits-all s h some i && le-leb (length s) most short i) (Some (digits_value 10 s)) None)
-
-pub small : (s : List ℕ) → AreDigits s → length s ≤ 15 → digits_value 10 s < 10 ^ 15
-small s h short = digits_value_short own s 15 h short
-
--- the number of the first digits, of at most 15
-pub small_so_far : (s : List ℕ) (i : ℕ) → ((k : ℕ) → k < i → IsInRange 48 57 (get_or s k 0)) → i ≤ length s → i ≤ 15
-    → digits_value 10 (take i s) < 10 ^ 15
-small_so_far s i digits inside short =
-    small (take i s) (λ k h. let below : k < i = omega (arith, length-take i s) in rw get_or-take (digits k below))
-    (omega (arith, length-take i s))
-
--- ---- seconds
-
-pub seconds_of-empty : (s : List ℕ) → length s ≡ 0 → None ≡ seconds_of s
-seconds_of-empty s h =
-    refused (are_digits s) (nat_lt (digits_value 10 s) 2147483648) (digits_value 10 s) (are_digits-empty s h)
-
-pub seconds_of-stray : (s : List ℕ) (i : ℕ) → i < length s → (IsInRange 48 57 (get_or s i 0) → ⊥) → None ≡ seconds_of s
-seconds_of-stray s i inside h =
-    refused (are_digits s) (nat_lt (digits_value 10 s) 2147483648) (digits_value 10 s) (are_digits-stray s i inside h)
-
-pub seconds_of-short : (s : List ℕ) → AreDigits s → 0 < length s → digits_value 10 s < 2147483648
-    → seconds_of s ≡ Some (digits_value 10 s)
-seconds_of-short s h some below =
-    (λ i. cond (are_digits-all s h some i && lt-ltb (digits_value 10 s) 2147483648 below i)
-    (Some (digits_value 10 s)) None)
-
-pub seconds_of-long : (s : List ℕ) → 2147483648 ≤ digits_value 10 s → None ≡ seconds_of s
-seconds_of-long s above =
-    sym (ap (λ b. cond b (Some (digits_value 10 s)) None)
-    (ap (λ b. are_digits s && b) (le-ltb (digits_value 10 s) 2147483648 above) ∙ and-false (are_digits s)))
 
 -- ---- a place
 

@@ -3,6 +3,7 @@ ghost use Rattle.notifier.specs.Query.{digits_of, seconds_of, fraction_of, unsig
 ghost use Rattle.notifier.specs.Query.{attribute_number};
 
 use crate::attribute::Name;
+use lwm2m_values::number_below;
 
 /// The place of the first such byte.
 pub(crate) fn place_of(text: &[u8], byte: u8) -> Option<usize>
@@ -24,20 +25,10 @@ fn digits_of(text: &[u8], most: usize) -> Option<u64>
     ensures value { result ≡ digits_of most text.now }
     ensures fits { IfSome result (λ n. n < 10 ^ 15) }
 {
-    if text.is_empty() {
-        return None;
-    }
     if text.len() > most {
         return None;
     }
-    let mut number: u64 = 0;
-    for byte in text {
-        if !byte.is_ascii_digit() {
-            return None;
-        }
-        number = number * 10 + u64::from(*byte - b'0');
-    }
-    Some(number)
+    number_below(text, 1_000_000_000_000_000)
 }
 
 /// One more than the most seconds of pmin and pmax.
@@ -47,20 +38,9 @@ pub(crate) const TOO_LONG: u64 = 1 << 31;
 fn seconds_of(text: &[u8]) -> Option<i64>
     ensures { result ≡ option_map pos (seconds_of text.now) }
 {
-    if text.is_empty() {
-        return None;
-    }
-    let mut number: u64 = 0;
-    for byte in text {
-        if !byte.is_ascii_digit() {
-            return None;
-        }
-        number = (number * 10 + u64::from(*byte - b'0')).min(TOO_LONG);
-    }
-    if number < TOO_LONG {
-        Some(number as i64)
-    } else {
-        None
+    match number_below(text, TOO_LONG) {
+        Some(seconds) => Some(seconds as i64),
+        None => None,
     }
 }
 

@@ -1,4 +1,3 @@
-mod Codes
 mod Grants
 mod Judged
 mod Lines

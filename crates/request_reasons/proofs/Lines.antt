@@ -1,129 +1,129 @@
--- The line that decides, by the code of the answer.
-use Rattle.std.proofs.Common.{◌≡◌, ℕ, Bool, true, false, ◌==◌, List, [], ◌∷◌, Option, Some, refl}
-use Rattle.std.proofs.Common.{sym, ap, subst, ◌∙◌, ◌<◌, get_or, length}
-use Rattle.std.proofs.lemmas.List.Quantifiers.{position-Some}
-use Rattle.std.specs.Prelude.{position}
+-- What the rule that decides a request for an operation says of it.
+use Rattle.std.proofs.Common.{◌≡◌, ℕ, Bool, true, false, ◌==◌, [], ◌∷◌, Option, Some, refl, sym, ap, subst, ◌∙◌}
+use Rattle.std.proofs.Common.{◌⊎◌, inl, inr}
 use Rattle.coap_codec.specs.Message.{Message}
 use Rattle.object_defs.specs.Lines.{first_line}
 use Rattle.object_defs.specs.Path.{object_in}
 use Rattle.object_defs.specs.declared.path.Path.{Path}
-use Rattle.device_requests.specs.declared.answer.Code.{Code}
-use Rattle.device_requests.specs.declared.answer.Code.TheVariants.{Content, BadRequest}
-use Rattle.device_requests.specs.declared.answer.Code.TheVariants.{Unauthorized, BadOption, NotFound, MethodNotAllowed}
-use Rattle.device_requests.specs.declared.answer.Code.TheVariants.{InternalServerError}
 use Rattle.device_requests.specs.declared.operation.Operation.{Operation}
+use Rattle.device_requests.specs.declared.ruling.Ruling.{Ruling}
+use Rattle.device_requests.specs.declared.ruling.Ruling.TheVariants as ruling
 use Rattle.device_requests.specs.Client.{Client}
 use Rattle.device_requests.specs.Laws.{lines_by, lines_on, request_lines}
 use Rattle.device_requests.specs.Options.{path_of, segments_of}
 use Rattle.device_requests.specs.Order.{Asks}
-use Rattle.device_requests.specs.Refusals.{Purpose, done_code, format_refusal, is_invalid, is_out_of_turn, is_too_much}
+use Rattle.device_requests.specs.Refusals.{Purpose, done_ruling, format_ruling, is_invalid, is_out_of_turn, is_too_much}
 use Rattle.device_requests.specs.Refusals.{lacks_format, lacks_operation, lacks_right, lacks_target, rules_of}
 use Rattle.device_requests.specs.Refusals.{to_create, to_delete, to_discover, to_read}
 use Rattle.device_requests.specs.Request.{outcome_of, purpose_of}
 use Rattle.device_requests.proofs.Answering.{says}
-use Rattle.request_reasons.specs.Inside.{code_by, place_by}
 
--- the place of the line that decides, of lines with that of the options before them
-abbrev decided : List (Bool × Code) → Option ℕ
-decided lines = position (λ line. line.0) ((false, BadOption) ∷ lines)
+-- what a rule says, where it decides by a table of these conditions: of object 0, the right, the format, the payload
+-- and the limits
+abbrev pub IsRule : (a c e f h : Bool) (purpose : Purpose) → Ruling → Type 0
+IsRule a c e f h purpose ruling.Security = a ≡ true
+IsRule a c e f h purpose ruling.Right = c ≡ true
+IsRule a c e f h purpose ruling.Accept = (e ≡ true) × (format_ruling purpose ≡ ruling.Accept)
+IsRule a c e f h purpose ruling.ContentFormat = (e ≡ true) × (format_ruling purpose ≡ ruling.ContentFormat)
+IsRule a c e f h purpose ruling.Payload = (e ≡ false) × (f ≡ true)
+IsRule a c e f h purpose ruling.Limit = h ≡ true
+IsRule a c e f h purpose ruling.Created = done_ruling purpose ≡ ruling.Created
+IsRule a c e f h purpose ruling.Deleted = done_ruling purpose ≡ ruling.Deleted
+IsRule a c e f h purpose ruling.Changed = done_ruling purpose ≡ ruling.Changed
+IsRule a c e f h purpose ruling.Content = done_ruling purpose ≡ ruling.Content
+IsRule a c e f h purpose ruling.Options = ⊥
+IsRule a c e f h purpose ruling.NoPath = ⊥
+IsRule a c e f h purpose ruling.Method = ⊥
+IsRule a c e f h purpose _ = Unit {0}
 
-told : (said code : Code) → Some said ≡ Some code → said ≡ code
-told said code h = cc
+unserved : (f h : Bool) (purpose : Purpose) → IsRule false false true f h purpose (format_ruling purpose)
+unserved f h (to_read accept) = (refl, refl)
+unserved f h purpose = (refl, refl)
 
-format_place : (purpose : Purpose) (a d : Bool) → place_by (format_refusal purpose) a d ≡ 5
-format_place (to_read accept) a d = refl
-format_place purpose a d = refl
+done : (purpose : Purpose) → IsRule false false false false false purpose (done_ruling purpose)
+done (to_read accept) = refl
+done to_discover = refl
+done (to_create format payload) = refl
+done to_delete = refl
+done purpose = refl
 
-done_place : (purpose : Purpose) (a d : Bool) → place_by (done_code purpose) a d ≡ 9
-done_place (to_read accept) a d = refl
-done_place to_discover a d = refl
-done_place (to_create format payload) a d = refl
-done_place to_delete a d = refl
-done_place purpose a d = refl
+told : (P : Ruling → Type 0) (said is : Ruling) → P said → Some said ≡ Some is → P is
+told P said is p h = let same : said ≡ is = cc in subst P same p
 
-format_by : (purpose : Purpose) → code_by purpose (format_refusal purpose) ≡ format_refusal purpose
-format_by (to_read accept) = refl
-format_by purpose = refl
+decided : (a b c d e f g h : Bool) (purpose : Purpose) (is : Ruling)
+    → first_line ((a, ruling.Security) ∷ (b, ruling.Target) ∷ (c, ruling.Right) ∷ (d, ruling.Operation)
+    ∷ (e, format_ruling purpose) ∷ (f, ruling.Payload) ∷ (g, ruling.State) ∷ (h, ruling.Limit)
+    ∷ (true, done_ruling purpose) ∷ []) ≡ Some is → IsRule a c e f h purpose is
+decided true b c d e f g h purpose is = told (IsRule true c e f h purpose) ruling.Security is refl
+decided false true c d e f g h purpose is = told (IsRule false c e f h purpose) ruling.Target is tt
+decided false false true d e f g h purpose is = told (IsRule false true e f h purpose) ruling.Right is refl
+decided false false false true e f g h purpose is = told (IsRule false false e f h purpose) ruling.Operation is tt
+decided false false false false true f g h purpose is =
+    told (IsRule false false true f h purpose) (format_ruling purpose) is (unserved f h purpose)
+decided false false false false false true g h purpose is =
+    told (IsRule false false false true h purpose) ruling.Payload is (refl, refl)
+decided false false false false false false true h purpose is =
+    told (IsRule false false false false h purpose) ruling.State is tt
+decided false false false false false false false true purpose is =
+    told (IsRule false false false false true purpose) ruling.Limit is refl
+decided false false false false false false false false purpose is =
+    told (IsRule false false false false false purpose) (done_ruling purpose) is (done purpose)
 
-done_by : (purpose : Purpose) → code_by purpose (done_code purpose) ≡ done_code purpose
-done_by (to_read accept) = refl
-done_by to_discover = refl
-done_by (to_create format payload) = refl
-done_by to_delete = refl
-done_by purpose = refl
+-- what a rule says of a request
+abbrev pub IsRuleOf : Client → ℕ → Path → Purpose → Ruling → Type 0
+IsRuleOf client server path purpose =
+    IsRule (object_in path == 0) (lacks_right client server path purpose) (lacks_format client.catalog path purpose)
+    (is_invalid client server path purpose) (is_too_much client server path purpose) purpose
 
--- the place of the line that decides, and its code
-pub record IsPlaced (place : Option ℕ) (purpose : Purpose) (security lacking : Bool) (code : Code) : Type 0 where
-  pub at : place ≡ Some (place_by code security lacking)
-  pub says : code_by purpose code ≡ code
+pub ruled : (client : Client) (server : ℕ) (path : Path) (purpose : Purpose) (ruling is : Ruling)
+    → first_line (rules_of client server path purpose) ≡ Some ruling → ruling ≡ is
+    → IsRuleOf client server path purpose is
+ruled client server path purpose ruling is first same =
+    subst (IsRuleOf client server path purpose) same
+    (decided (object_in path == 0) (lacks_target client path purpose) (lacks_right client server path purpose)
+    (lacks_operation client.catalog path purpose) (lacks_format client.catalog path purpose)
+    (is_invalid client server path purpose) (is_out_of_turn client path purpose)
+    (is_too_much client server path purpose) purpose ruling first)
 
-placed_as : (place : Option ℕ) (purpose : Purpose) (a d : Bool) (said code : Code)
-    → place ≡ Some (place_by said a d) → code_by purpose said ≡ said → Some said ≡ Some code
-    → IsPlaced place purpose a d code
-placed_as place purpose a d said code e k h =
-    subst (λ (x : Code). IsPlaced place purpose a d x) (told said code h) (record { at = e; says = k })
+-- a format that is not served, by the rule of Accept or that of Content-Format
+pub unserved_by : (client : Client) (server : ℕ) (path : Path) (purpose : Purpose) (by : Ruling)
+    → first_line (rules_of client server path purpose) ≡ Some by
+    → (by ≡ ruling.Accept) ⊎ (by ≡ ruling.ContentFormat)
+    → (lacks_format client.catalog path purpose ≡ true) × (format_ruling purpose ≡ by)
+unserved_by client server path purpose by first (inl a) =
+    let is = ruled client server path purpose by ruling.Accept first a in (is.0, is.1 ∙ sym a)
+unserved_by client server path purpose by first (inr b) =
+    let is = ruled client server path purpose by ruling.ContentFormat first b in (is.0, is.1 ∙ sym b)
 
-placed : (a b c d e f g h : Bool) (purpose : Purpose) (code : Code)
-    → let lines : List (Bool × Code) =
-    (a, Unauthorized) ∷ (b, NotFound) ∷ (c, Unauthorized) ∷ (d, MethodNotAllowed) ∷ (e, format_refusal purpose)
-    ∷ (f, BadRequest) ∷ (g, MethodNotAllowed) ∷ (h, InternalServerError) ∷ (true, done_code purpose) ∷ [] in
-    first_line lines ≡ Some code → IsPlaced (decided lines) purpose a d code
-placed true b c d e f g h purpose code = placed_as _ purpose true d Unauthorized code refl refl
-placed false true c d e f g h purpose code = placed_as _ purpose false d NotFound code refl refl
-placed false false true d e f g h purpose code = placed_as _ purpose false d Unauthorized code refl refl
-placed false false false true e f g h purpose code = placed_as _ purpose false true MethodNotAllowed code refl refl
-placed false false false false true f g h purpose code =
-    placed_as _ purpose false false (format_refusal purpose) code (ap Some (sym (format_place purpose false false)))
-    (format_by purpose)
-placed false false false false false true g h purpose code =
-    placed_as _ purpose false false BadRequest code refl refl
-placed false false false false false false true h purpose code =
-    placed_as _ purpose false false MethodNotAllowed code refl refl
-placed false false false false false false false true purpose code =
-    placed_as _ purpose false false InternalServerError code refl refl
-placed false false false false false false false false purpose code =
-    placed_as _ purpose false false (done_code purpose) code (ap Some (sym (done_place purpose false false)))
-    (done_by purpose)
+-- success
+pub done_by : (client : Client) (server : ℕ) (path : Path) (purpose : Purpose) (by : Ruling)
+    → first_line (rules_of client server path purpose) ≡ Some by
+    → (by ≡ ruling.Created) ⊎ ((by ≡ ruling.Deleted) ⊎ ((by ≡ ruling.Changed) ⊎ (by ≡ ruling.Content)))
+    → done_ruling purpose ≡ by
+done_by client server path purpose by first (inl a) =
+    ruled client server path purpose by ruling.Created first a ∙ sym a
+done_by client server path purpose by first (inr (inl b)) =
+    ruled client server path purpose by ruling.Deleted first b ∙ sym b
+done_by client server path purpose by first (inr (inr (inl d))) =
+    ruled client server path purpose by ruling.Changed first d ∙ sym d
+done_by client server path purpose by first (inr (inr (inr e))) =
+    ruled client server path purpose by ruling.Content first e ∙ sym e
 
--- the lines of a request that asks for an operation
-lines_asked : (client : Client) (server : ℕ) (m : Message) (path : Path) (operation : Operation)
-    → Asks m path operation
-    → request_lines client server m ≡ (false, BadOption) ∷ rules_of client server path (purpose_of m operation)
-lines_asked client server m path operation asks =
-    ap (λ (b : Bool). (b, BadOption) ∷ lines_on client server m (path_of (segments_of m.options))) asks.understood
-    ∙ ap (λ (p : Option Path). (false, BadOption) ∷ lines_on client server m p) asks.goes_to
-    ∙ ap (λ (o : Option Operation). (false, BadOption) ∷ lines_by client server m path o) asks.means
+-- what refuses a message as it is read decides no request for an operation
+pub never_by : (client : Client) (server : ℕ) (path : Path) (purpose : Purpose) (by : Ruling)
+    → first_line (rules_of client server path purpose) ≡ Some by
+    → (by ≡ ruling.Options) ⊎ ((by ≡ ruling.NoPath) ⊎ (by ≡ ruling.Method)) → ⊥
+never_by client server path purpose by first (inl a) = ruled client server path purpose by ruling.Options first a
+never_by client server path purpose by first (inr (inl b)) = ruled client server path purpose by ruling.NoPath first b
+never_by client server path purpose by first (inr (inr d)) = ruled client server path purpose by ruling.Method first d
 
--- which line decides a request that asks for an operation, and its code
-pub line_by_code : (client : Client) (server : ℕ) (m : Message) (path : Path) (operation : Operation) (code : Code)
-    → Asks m path operation → code ≡ (outcome_of client server m).answer.code
-    → IsPlaced (position (λ line. line.0) (request_lines client server m)) (purpose_of m operation)
-    (object_in path == 0) (lacks_operation client.catalog path (purpose_of m operation)) code
-line_by_code client server m path operation code asks is =
-    let purpose = purpose_of m operation in
-    let same = lines_asked client server m path operation asks in
-    let in_table = placed (object_in path == 0) (lacks_target client path purpose)
-    (lacks_right client server path purpose) (lacks_operation client.catalog path purpose)
-    (lacks_format client.catalog path purpose) (is_invalid client server path purpose)
-    (is_out_of_turn client path purpose) (is_too_much client server path purpose) purpose code
-    (ap first_line (sym same) ∙ says client server m ∙ ap Some (sym is)) in
-    record { at = ap (position (λ line. line.0)) same ∙ in_table.at; says = in_table.says }
-
--- an option that is not recognized refuses no request for an operation
-pub never_bad_option : (place : Option ℕ) (purpose : Purpose) (a d : Bool) (code : Code)
-    → IsPlaced place purpose a d code → code ≡ BadOption → ⊥
-never_bad_option place purpose a d code placed e =
-    let says : Content ≡ code = ap (code_by purpose) (sym e) ∙ placed.says in
-    cc
-
--- what the line that decides a request for an operation says of it, and those before it
-pub tested : (client : Client) (server : ℕ) (m : Message) (path : Path) (operation : Operation) (place : ℕ)
-    → Asks m path operation → position (λ line. line.0) (request_lines client server m) ≡ Some place
-    → let lines : List (Bool × Code) =
-    (false, BadOption) ∷ rules_of client server path (purpose_of m operation) in
-    (place < length lines) × ((get_or lines place (true, BadOption)).0 ≡ true)
-    × ((k : ℕ) → k < place → (get_or lines k (true, BadOption)).0 ≡ false)
-tested client server m path operation place asks at =
-    let lines = (false, BadOption) ∷ rules_of client server path (purpose_of m operation) in
-    position-Some (λ line. line.0) lines place (true, BadOption)
-    (ap (position (λ line. line.0)) (sym (lines_asked client server m path operation asks)) ∙ at)
+-- the first rule of a request that asks for an operation is the first of its table
+pub first_asked : (client : Client) (server : ℕ) (m : Message) (path : Path) (operation : Operation)
+    → Asks m path operation → first_line (rules_of client server path (purpose_of m operation))
+    ≡ Some (outcome_of client server m).answer.ruling
+first_asked client server m path operation asks =
+    sym (ap first_line
+    (ap (λ (b : Bool). (b, ruling.Options) ∷ lines_on client server m (path_of (segments_of m.options))) asks.understood
+    ∙ ap (λ (p : Option Path). (false, ruling.Options) ∷ lines_on client server m p) asks.goes_to
+    ∙ ap (λ (o : Option Operation). (false, ruling.Options) ∷ lines_by client server m path o) asks.means))
+    ∙ says client server m

@@ -1,5 +1,4 @@
 pub mod Formats
-pub mod Inside
 pub mod LengthWords
 pub mod Limits
 pub mod Missing

@@ -1,24 +1,18 @@
--- What a reason says: which line of the rules of requests decides, with which code, and of what request that is true.
-use Rattle.std.specs.Prelude.{◌≡◌, ℕ, true, false, None, Some, option_map}
+-- What a reason says: which rule of requests decides, and of what request that is true.
+use Rattle.std.specs.Prelude.{◌≡◌, ℕ, true, false, Option, None, Some, option_map}
 use Rattle.coap_codec.specs.Message.{Message}
 use Rattle.object_defs.specs.Lines.{first_line}
 use Rattle.object_defs.specs.Numbers.{security_object}
 use Rattle.object_defs.specs.Path.{object_in}
 use Rattle.object_defs.specs.declared.path.Path.{Path}
-use Rattle.device_requests.specs.declared.answer.Code.{Code}
-use Rattle.device_requests.specs.declared.answer.Code.TheVariants.{Created, Deleted, Changed, Content, BadRequest}
-use Rattle.device_requests.specs.declared.answer.Code.TheVariants.{Unauthorized, BadOption, NotFound, MethodNotAllowed}
-use Rattle.device_requests.specs.declared.answer.Code.TheVariants.{NotAcceptable, UnsupportedContentFormat}
-use Rattle.device_requests.specs.declared.answer.Code.TheVariants.{InternalServerError}
 use Rattle.device_requests.specs.declared.operation.Operation.{Operation}
-use Rattle.device_requests.specs.declared.operation.Operation.TheVariants.{Read, Discover, WriteAttributes}
-use Rattle.device_requests.specs.declared.operation.Operation.TheVariants.{WriteReplace, WritePartial, Create, Execute}
-use Rattle.device_requests.specs.declared.operation.Operation.TheVariants.{Delete}
+use Rattle.device_requests.specs.declared.ruling.Ruling.{Ruling}
+use Rattle.device_requests.specs.declared.ruling.Ruling.TheVariants as ruling
 use Rattle.device_requests.specs.Client.{Client}
 use Rattle.device_requests.specs.Operation.{operation_of}
 use Rattle.device_requests.specs.Options.{accept_of, has_query, has_unrecognized_critical, path_of, segments_of}
 use Rattle.device_requests.specs.Order.{Asks}
-use Rattle.device_requests.specs.Refusals.{Purpose}
+use Rattle.device_requests.specs.Refusals.{Purpose, done_ruling, format_ruling}
 use Rattle.device_requests.specs.Request.{purpose_of}
 use Rattle.device_requests.specs.Targets.{definition_at}
 use Rattle.request_reasons.specs.Formats.{IsUnserved}
@@ -33,66 +27,30 @@ use Rattle.request_reasons.specs.declared.reasons.Reason.TheVariants.{Unrecogniz
 use Rattle.request_reasons.specs.declared.reasons.Rule.{Rule}
 use Rattle.request_reasons.specs.declared.reasons.Rule.TheVariants as rule
 
--- the line of a rule among those of a request (`request_lines`), counted from 0: the first is that of the options, the
--- next that of the path, the method or object 0, and the last its success
-abbrev pub line_at : Rule → ℕ
-line_at rule.Security = 1
-line_at (rule.Target missing) = 2
-line_at (rule.Right server letter instance grant) = 3
-line_at (rule.RightOnAll server count instance grant) = 3
-line_at (rule.Operation operations) = 4
-line_at (rule.Format number served) = 5
-line_at (rule.Payload unfit) = 6
-line_at (rule.State state) = 7
-line_at (rule.Limit limit) = 8
+-- the rule of device_requests that this one is
+abbrev pub ruling_at : Purpose → Rule → Ruling
+ruling_at purpose rule.Security = ruling.Security
+ruling_at purpose (rule.Target missing) = ruling.Target
+ruling_at purpose (rule.Right server letter instance grant) = ruling.Right
+ruling_at purpose (rule.RightOnAll server count instance grant) = ruling.Right
+ruling_at purpose (rule.Operation operations) = ruling.Operation
+ruling_at purpose (rule.Format number served) = format_ruling purpose
+ruling_at purpose (rule.Payload unfit) = ruling.Payload
+ruling_at purpose (rule.State state) = ruling.State
+ruling_at purpose (rule.Limit limit) = ruling.Limit
 
-abbrev pub line_of : Reason → ℕ
-line_of (Unrecognized number fault) = 0
-line_of (NoPath fault) = 1
-line_of (NoOperation method path) = 1
-line_of (Refused path operation rule) = line_at rule
-line_of (Done path operation) = 9
+-- or success, where there is none
+abbrev pub ruling_with : Purpose → Option Rule → Ruling
+ruling_with purpose None = done_ruling purpose
+ruling_with purpose (Some rule) = ruling_at purpose rule
 
--- the code of a format that is not served: Accept names what is read, Content-Format what is given
-abbrev pub format_code : Operation → Code
-format_code Read = NotAcceptable
-format_code Discover = UnsupportedContentFormat
-format_code WriteReplace = UnsupportedContentFormat
-format_code WritePartial = UnsupportedContentFormat
-format_code WriteAttributes = UnsupportedContentFormat
-format_code Create = UnsupportedContentFormat
-format_code Execute = UnsupportedContentFormat
-format_code Delete = UnsupportedContentFormat
-
--- the code of a rule
-abbrev pub code_at : Operation → Rule → Code
-code_at operation rule.Security = Unauthorized
-code_at operation (rule.Target missing) = NotFound
-code_at operation (rule.Right server letter instance grant) = Unauthorized
-code_at operation (rule.RightOnAll server count instance grant) = Unauthorized
-code_at operation (rule.Operation operations) = MethodNotAllowed
-code_at operation (rule.Format number served) = format_code operation
-code_at operation (rule.Payload unfit) = BadRequest
-code_at operation (rule.State state) = MethodNotAllowed
-code_at operation (rule.Limit limit) = InternalServerError
-
--- the code of what is done
-abbrev pub success_code : Operation → Code
-success_code Read = Content
-success_code Discover = Content
-success_code WriteReplace = Changed
-success_code WritePartial = Changed
-success_code WriteAttributes = Changed
-success_code Create = Created
-success_code Execute = Changed
-success_code Delete = Deleted
-
-abbrev pub code_of : Reason → Code
-code_of (Unrecognized number fault) = BadOption
-code_of (NoPath fault) = NotFound
-code_of (NoOperation method path) = MethodNotAllowed
-code_of (Refused path operation rule) = code_at operation rule
-code_of (Done path operation) = success_code operation
+-- the rule that a reason of a request names
+abbrev pub ruling_of : Message → Reason → Ruling
+ruling_of m (Unrecognized number fault) = ruling.Options
+ruling_of m (NoPath fault) = ruling.NoPath
+ruling_of m (NoOperation method path) = ruling.Method
+ruling_of m (Refused path operation rule) = ruling_at (purpose_of m operation) rule
+ruling_of m (Done path operation) = done_ruling (purpose_of m operation)
 
 -- the method of a request has no operation at this path
 pub record LacksOperation (m : Message) (method : ℕ) (path : Path) : Type 0 where

@@ -13,7 +13,6 @@ mod reasons;
 mod right;
 mod rule;
 mod target;
-mod targets;
 mod text;
 mod tlv_words;
 mod unfit;

@@ -1,8 +1,13 @@
+use Rattle.std.proofs.Common.{Some, sym, ap, ◌∙◌}
+use Rattle.request_reasons.proofs.Lines.{first_asked}
 use Rattle.request_reasons.proofs.Unread.{asks}
 use Rattle.request_reasons.proofs.deciding.asked.Goals as goal
 
-pub ruling_of-ruling-requires-clause-asks : goal.ruling_of-ruling-requires-clause-asks
-ruling_of-ruling-requires-clause-asks c = asks c.args.message.now c.args.request c.requires.read
+pub rule_by-requires-clause-first : goal.rule_by-requires-clause-first
+rule_by-requires-clause-first c =
+    let r = c.args.request in
+    first_asked c.args.client.now c.args.server c.args.message.now r.path r.operation
+    (asks c.args.message.now r c.requires.read) ∙ ap Some (sym c.requires.answer)
 
 pub returns-in-Some-clause-told : goal.returns-in-Some-clause-told
 returns-in-Some-clause-told c =

@@ -1,6 +1,6 @@
 use Rattle.std.proofs.Common.{arith}
-use Rattle.command_fleet.proofs.Parts.{no_range}
-use Rattle.command_fleet.proofs.devices.range_of.Goals as goal
+use Rattle.command_files.proofs.Ranges.{no_range}
+use Rattle.command_files.proofs.devices.read_devices.Goals as goal
 
 pub returns-clause-none : goal.returns-clause-none
 returns-clause-none c =
