@@ -1,34 +1,24 @@
 -- What the object of an entry says, by what its device does beside the entries of a run.
-use Rattle.std.proofs.Common.{◌≡◌, ℕ, ◌+◌, ◌<◌, Bool, true, false, cond, not, List, [], ◌∷◌, ◌++◌, length, map, filter}
-use Rattle.std.proofs.Common.{take, get_or, Option, None, Some, refl, sym, ap, subst, add-one, ◌∙◌}
+use Rattle.std.proofs.Common.{◌≡◌, ℕ, ◌+◌, ◌<◌, true, false, cond, not, List, [], ◌∷◌, ◌++◌, length, map, filter}
+use Rattle.std.proofs.Common.{take, get_or, Some, sym, ap, add-one, ◌∙◌}
 use Rattle.std.proofs.Math.Seq.{take-suc}
 use Rattle.std.proofs.lemmas.List.{append-nil, map-append}
 use Rattle.std.proofs.lemmas.List.Elements.{filter-append}
 use Rattle.device_machine.specs.State.{Device, Machine, Shows}
-use Rattle.device_machine.specs.declared.event.Event.TheVariants.{Recv}
-use Rattle.device_reasons.specs.Reasons.{IsArrivalReason}
-use Rattle.device_reasons.specs.Rules.{arrival_rule}
-use Rattle.device_reasons.specs.Text.{arrival_reason_text}
-use Rattle.device_reasons.specs.declared.arrival.ArrivalReason.{ArrivalReason}
 use Rattle.notification_reasons.specs.Reasons.{sends}
 use Rattle.notification_reasons.specs.Text.{happening_text}
 use Rattle.notification_reasons.specs.declared.reasons.Happening.{Happening}
 use Rattle.scenario_image.specs.declared.step.Step.{Step}
-use Rattle.scenario_image.specs.declared.step.Step.TheVariants.{Event}
 use Rattle.scenario_image.specs.Play.{state_at}
 use Rattle.scenario_image.specs.Scenario.{IsValid, Scenario}
 use Rattle.trace_file.specs.declared.entry.Entry.{Entry}
 use Rattle.fleet_core.specs.Board.{ShowsAfter}
 use Rattle.fleet_core.specs.Run.{step_at}
 use Rattle.fleet_core.proofs.Valid.{IsStep, step_is}
-use Rattle.trace_text.specs.declared.selection.Selection.{Selection}
 use Rattle.trace_json.specs.declared.reasons.SilentEnd.{SilentEnd}
-use Rattle.trace_json.specs.Entries.{head_json}
-use Rattle.trace_json.specs.Reasons.{SaidEnd, reasoned_json, said_end}
-use Rattle.trace_json.specs.Writing.{IsReadAgain, json_line}
-use Rattle.trace_reasons.specs.Objects.{AreReasonedLines, IsEntryLine, IsReasonedLine, IsSaidOfArrival, IsStepLine}
-use Rattle.trace_reasons.specs.Objects.{end_said, ends_said, said_with, sent_texts}
-use Rattle.trace_reasons.specs.Text.{AreHappeningsOf, AreSelectedSaid}
+use Rattle.trace_json.specs.Reasons.{SaidEnd, said_end}
+use Rattle.trace_reasons.specs.Objects.{IsEntryLine, IsStepLine}
+use Rattle.trace_reasons.specs.Objects.{end_said, ends_said, sent_texts}
 
 -- ---- happenings, one after another
 
@@ -50,13 +40,18 @@ none_sent view old h not_so =
     sym (ap (λ b. map view old ++ map happening_text (cond b (h ∷ []) [])) not_so ∙ append-nil (map view old))
 
 -- those of one happening more
-pub sent_next : (hs : List Happening) (i : ℕ) (d : Happening) → i < length hs
+sent_next : (hs : List Happening) (i : ℕ) (d : Happening) → i < length hs
     → sent_texts (take (i + 1) hs) ≡ sent_texts (take i hs) ++ sent_texts (get_or hs i d ∷ [])
 sent_next hs i d within =
     let h = get_or hs i d in
     ap sent_texts (one_more hs i d within)
     ∙ ap (map happening_text) (filter-append (λ x. sends x.reason) (take i hs) (h ∷ []))
     ∙ map-append happening_text (filter (λ x. sends x.reason) (take i hs)) (filter (λ x. sends x.reason) (h ∷ []))
+
+pub sent_so_far : (hs : List Happening) (i : ℕ) (d : Happening) (old new : List (List ℕ)) → i < length hs
+    → old ≡ sent_texts (take i hs) → new ≡ old ++ sent_texts (get_or hs i d ∷ []) → new ≡ sent_texts (take (i + 1) hs)
+sent_so_far hs i d old new within before added =
+    added ∙ ap (λ x. x ++ sent_texts (get_or hs i d ∷ [])) before ∙ sym (sent_next hs i d within)
 
 -- an observation ends without one, and is added
 pub ended_more : (old new : List SilentEnd) (t : SilentEnd) (h : Happening) → new ≡ old ++ t ∷ []
@@ -70,7 +65,7 @@ pub none_ended : (old : List SilentEnd) (h : Happening) → sends h.reason ≡ t
 none_ended old h is =
     sym (ap (λ b. map said_end old ++ map end_said (cond (not b) (h ∷ []) [])) is ∙ append-nil (map said_end old))
 
-pub ended_next : (hs : List Happening) (i : ℕ) (d : Happening) → i < length hs
+ended_next : (hs : List Happening) (i : ℕ) (d : Happening) → i < length hs
     → ends_said (take (i + 1) hs) ≡ ends_said (take i hs) ++ ends_said (get_or hs i d ∷ [])
 ended_next hs i d within =
     let h = get_or hs i d in
@@ -79,54 +74,12 @@ ended_next hs i d within =
     ∙ map-append end_said (filter (λ x. not (sends x.reason)) (take i hs))
     (filter (λ x. not (sends x.reason)) (h ∷ []))
 
+pub ended_so_far : (hs : List Happening) (i : ℕ) (d : Happening) (old new : List SaidEnd) → i < length hs
+    → old ≡ ends_said (take i hs) → new ≡ old ++ ends_said (get_or hs i d ∷ []) → new ≡ ends_said (take (i + 1) hs)
+ended_so_far hs i d old new within before added =
+    added ∙ ap (λ x. x ++ ends_said (get_or hs i d ∷ [])) before ∙ sym (ended_next hs i d within)
+
 -- ---- an entry
-
--- the line that is made of what is said
-pub line_is : (s : Scenario) (number : ℕ) (e : Entry) (rule : Option ℕ) (why : Option (List ℕ)) (sent : List (List ℕ))
-    (ended : List SaidEnd) (happenings : List Happening) (text : List ℕ) → sent ≡ sent_texts happenings
-    → ended ≡ ends_said happenings
-    → IsReadAgain (reasoned_json s number e (record { rule = rule; why = why; sent = sent; ended = ended }))
-    → text ≡ json_line (reasoned_json s number e (record { rule = rule; why = why; sent = sent; ended = ended }))
-    → IsReasonedLine s number e (said_with rule why happenings) text
-line_is s number e rule why sent ended happenings text sent_is ended_is again is =
-    let same : reasoned_json s number e (record { rule = rule; why = why; sent = sent; ended = ended })
-    ≡ reasoned_json s number e (said_with rule why happenings) =
-    λ i. reasoned_json s number e (record { rule = rule; why = why; sent = sent_is i; ended = ended_is i }) in
-    (subst IsReadAgain same again, is ∙ ap json_line same)
-
--- a datagram arrives, and nothing happens by itself
-pub arrival_line_is : (s : Scenario) (number : ℕ) (e : Entry) (f : Machine) (server : ℕ) (bytes : List ℕ)
-    (reason : ArrivalReason) (rule : Option ℕ) (why : List ℕ) (text : List ℕ) → IsArrivalReason f server bytes reason
-    → rule ≡ arrival_rule reason → why ≡ arrival_reason_text reason
-    → IsReasonedLine s number e (said_with rule (Some why) []) text
-    → IsStepLine s number e f (Event (Recv server bytes)) text
-arrival_line_is s number e f server bytes reason rule why text decides rule_is why_is line = (
-  said_with rule (Some why) [],
-  record {
-    arrival = (reason, decides, rule_is, ap Some why_is);
-    happenings = [];
-    happen = refl;
-    sent_is = refl;
-    ended_is = refl;
-  },
-  line,
-)
-
--- none does
-pub other_line_is : (s : Scenario) (number : ℕ) (e : Entry) (f : Machine) (step : Step) (happenings : List Happening)
-    (text : List ℕ) → IsSaidOfArrival f step None None → AreHappeningsOf f step happenings
-    → IsReasonedLine s number e (said_with None None happenings) text → IsStepLine s number e f step text
-other_line_is s number e f step happenings text none happen line = (
-  said_with None None happenings,
-  record {
-    arrival = none;
-    happenings = happenings;
-    happen = happen;
-    sent_is = refl;
-    ended_is = refl;
-  },
-  line,
-)
 
 -- the line of an entry whose step a device is to make that shows the state right before it
 pub entry_line_is : (s : Scenario) (number : ℕ) (e : Entry) (step : Step) (x : Device) (text : List ℕ) → IsValid s
@@ -147,9 +100,3 @@ entry_line_is s number e step x text valid at shows line =
       },
       here.2,
     )
-
--- the first line, and those of the entries
-pub lines_are : (s : Scenario) (sel : Selection) (es : List Entry) (entries text : List ℕ)
-    → AreSelectedSaid (IsEntryLine s) sel es entries
-    → text ≡ json_line (head_json (length s.rows) (length es)) ++ entries → AreReasonedLines s sel es text
-lines_are s sel es entries text said is = (entries, said, is)

@@ -94,7 +94,6 @@ fn silent_ends(alloc: Global, happenings: &[Happening]) -> Result<Vec<SilentEnd>
 }
 
 /// The line of an entry, with the rule and the reason of its step, and what happens in it.
-#[tactic(auto, using(crate::proofs::Saying::line_is))]
 fn line_with(
     alloc: Global,
     lines: &mut JsonLines<'_>,
@@ -116,7 +115,8 @@ fn line_with(
         sent: sent.as_slice(),
         ended: ended.as_slice(),
     };
-    lines.reasoned_line(number, entry, &reasons)
+    let line = lines.reasoned_line(number, entry, &reasons)?;
+    Ok(line)
 }
 
 /// The line of an entry in whose step this datagram arrives.
@@ -154,7 +154,8 @@ fn other_line(
     ensures same { lines.new ≡ lines.old }
 {
     let happenings = step_happenings(alloc, device, step)?;
-    line_with(alloc, lines, number, entry, None, None, happenings.as_slice())
+    let below = happenings.as_slice();
+    line_with(alloc, lines, number, entry, None, None, below)
 }
 
 /// The line of an entry whose step is this one, which the device has still to make.
@@ -173,7 +174,8 @@ fn step_line(
 {
     match step {
         Step::Event(Event::Recv { server, bytes }) => {
-            arrival_line(alloc, lines, number, entry, device, *server, bytes.as_slice())
+            let bytes = bytes.as_slice();
+            arrival_line(alloc, lines, number, entry, device, *server, bytes)
         }
         Step::Event(Event::Put { .. } | Event::Firmware(_) | Event::Tick(_))
         | Step::Post(_)
@@ -241,8 +243,8 @@ fn lines_of(
 
 /// The line that begins a trace, and the lines of those entries of a run that are of a device and have numbers from one
 /// number to another, as `selected_lines` of `trace_json` has them, with the reasons that `selected_reasons` has as
-/// text: why the device handles a datagram that arrives as it does, and why it sends each that it sends by itself; or
-/// the first of what the scenario and the trace do not have.
+/// text: why the device handles a datagram that arrives as it does, why it sends each that it sends by itself, and
+/// which observations end without one; or the first of what the scenario and the trace do not have.
 pub fn reasoned_lines(
     alloc: Global,
     scenario: &Scenario,
