@@ -15,11 +15,11 @@ use Rattle.serde_json.specs.Read.{max_depth}
 use Rattle.serde_json.specs.View.{items_of}
 use Rattle.serde_json.specs.Written.{items_outline}
 use Rattle.trace_json.specs.Entries.{entry_json, step_fields}
-use Rattle.trace_json.specs.Json.{Field, fields_json, list_json, number_json}
+use Rattle.trace_json.specs.Json.{Field, fields_json, list_json, number_json, object_json}
 use Rattle.trace_json.specs.Notes.{if_there}
-use Rattle.trace_json.specs.Reasons.{SaidEnd, SaidReasons, ended_fields, reasoned_json, reasoned_output_json}
-use Rattle.trace_json.specs.Reasons.{reasoned_outputs, reasoned_outputs_json, silent_end_json}
-use Rattle.trace_json.specs.Steps.{datagram_fields, kind_json, outputs_json}
+use Rattle.trace_json.specs.Reasons.{SaidEnd, SaidReasons, ended_fields, no_reasons, reasoned_json}
+use Rattle.trace_json.specs.Reasons.{reasoned_output_json, reasoned_outputs, reasoned_outputs_json, silent_end_json}
+use Rattle.trace_json.specs.Steps.{datagram_fields, kind_json, output_json, outputs_json}
 use Rattle.trace_json.specs.Writing.{Has64Bits, IsReadAgain, fields_tokens, member_tokens, tokens_of}
 use Rattle.trace_json.proofs.Depth.{event_depth, output_depth}
 use Rattle.trace_json.proofs.Faults.{fields_then, members_end}
@@ -156,6 +156,23 @@ pub exact_more : {P : Type 0} (pending rest : List Data) (d : Data) → pending 
     → (Has64Bits (list_json pending) → P) → Has64Bits (list_json rest) → P
 exact_more pending rest d is one so_far others =
     so_far (subst (λ ds. Has64Bits (list_json ds)) (sym is) (one, others))
+
+-- ---- without reasons
+
+no_reason : (x : Output) → reasoned_output_json x None ≡ output_json x
+unfolding reasoned_output_json output_json
+no_reason (Send server bytes) = refl
+no_reason (Act act) = refl
+
+outputs_without : (xs : List Output) → reasoned_outputs xs [] ≡ map output_json xs
+outputs_without [] = refl
+outputs_without (x ∷ xs) = λ i. no_reason x i ∷ outputs_without xs i
+
+pub object_without : (s : Scenario) (n : ℕ) (e : Entry) → reasoned_json s n e no_reasons ≡ entry_json s n e
+unfolding reasoned_json entry_json
+object_without s n e =
+    ap (λ outputs. object_json (step_fields s n e ++ ((codes "outputs", list_json outputs) ∷ [])))
+    (outputs_without e.outputs)
 
 -- ---- depth
 

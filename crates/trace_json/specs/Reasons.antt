@@ -1,5 +1,5 @@
 -- The object of an entry with the reasons of its step, in words: why the device answers a datagram that arrives like
--- that, and why it sends each datagram that it sends by itself.
+-- that, why it sends each datagram that it sends by itself, and which observations end without one.
 use Rattle.std.specs.Prelude.{ℕ, List, [], ◌∷◌, ◌++◌, codes, map, Option, None, Some, option_map}
 use Rattle.std.specs.String.{string_bytes}
 use Rattle.device_machine.specs.declared.output.Output.{Output}
@@ -67,6 +67,10 @@ reasoned_json s number e said =
     (step_fields s number e ++ (if_there (codes "rule") (option_map number_json said.rule)
     ++ (if_there (codes "why") (option_map string said.why)
     ++ ((codes "outputs", reasoned_outputs_json e.outputs said.sent) ∷ ended_fields said.ended))))
+
+-- nothing is said
+abbrev pub no_reasons : SaidReasons
+no_reasons = record { rule = None; why = None; sent = []; ended = [] }
 
 -- what the parts of a line say
 abbrev pub said_end : SilentEnd → SaidEnd

@@ -9,6 +9,7 @@ ghost use Rattle.trace_text.specs.Selection.{numbered_entries, selected_entries}
 ghost use Rattle.trace_json.specs.Entries.{entry_json, trace_json};
 ghost use Rattle.trace_json.specs.Json.{by_key};
 ghost use Rattle.trace_json.specs.Members.{TellsEntry, IsSameEntry, SendsBytes};
+ghost use Rattle.trace_json.specs.Reasons.{no_reasons, reasoned_json};
 
 /// What is read of an entry's line has the entry's members.
 pub fn lines_have_entries()
@@ -27,4 +28,10 @@ pub fn lines_tell_entries()
 pub fn lines_are_counted()
     ensures { (s : Scenario) (sel : Selection) (es : List Entry)
         → length (trace_json s sel es) ≡ length (selected_entries sel (numbered_entries 0 es)) + 1 }
+{}
+
+/// Without reasons the object of an entry is the one that it has where none are asked for.
+pub fn reasons_are_members()
+    ensures { (s : Scenario) (number : ℕ) (e : Entry)
+        → reasoned_json s number e no_reasons ≡ entry_json s number e }
 {}

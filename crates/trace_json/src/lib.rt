@@ -20,7 +20,7 @@ mod words;
 
 pub use cases::{CaseDifference, CaseParts, case_line, counts_line};
 pub use ends::{outputs_line, run_end_line};
-pub use laws::{lines_are_counted, lines_have_entries, lines_tell_entries};
+pub use laws::{lines_are_counted, lines_have_entries, lines_tell_entries, reasons_are_members};
 pub use lines::{JsonLines, end_line, head_line, text_of};
 pub use members::{put_number, put_string};
 pub use notes::{FaultParts, fault_line, verdict_line};

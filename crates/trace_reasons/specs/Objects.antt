@@ -1,8 +1,6 @@
--- A trace as JSON Lines, with the reasons why devices handle what arrives as they do, and why they send what they send
--- by themselves.
-use Rattle.std.specs.Prelude.{◌≡◌, ℕ, not, List, ◌++◌, filter, length, map, Option, None, Some, option_map}
-use Rattle.std.specs.Prelude.{slice_get}
-use Rattle.std.specs.String.{string_bytes}
+-- A trace as JSON Lines, with the reasons why devices handle what arrives as they do, why they send what they send by
+-- themselves, and which observations end without a datagram.
+use Rattle.std.specs.Prelude.{◌≡◌, ℕ, not, List, ◌++◌, filter, length, map, Option, None, Some, slice_get}
 use Rattle.device_template.specs.Template.{Template}
 use Rattle.device_machine.specs.State.{Machine}
 use Rattle.device_machine.specs.declared.event.Event.TheVariants.{Recv, Put, Firmware, Tick}
@@ -24,19 +22,18 @@ use Rattle.trace_json.specs.Entries.{head_json}
 use Rattle.trace_json.specs.Reasons.{SaidEnd, SaidReasons, reasoned_json}
 use Rattle.trace_json.specs.Writing.{IsReadAgain, json_line}
 use Rattle.trace_reasons.specs.Text.{AreSelectedSaid, AreHappeningsOf}
-use Rattle.trace_reasons.specs.declared.objects.ArrivalWords.{ArrivalWords}
 
 -- why a device in this flat state answers like that in a step: the number of the rule that decides, if one does, and
 -- the words of the reason; neither, if no datagram arrives
-abbrev pub IsWhy : Machine → Step → Option ℕ → Option (List ℕ) → Type 0
-IsWhy f (Event (Recv server bytes)) rule why =
+abbrev pub IsSaidOfArrival : Machine → Step → Option ℕ → Option (List ℕ) → Type 0
+IsSaidOfArrival f (Event (Recv server bytes)) rule why =
     (reason : ArrivalReason) × IsArrivalReason f server bytes reason × (rule ≡ arrival_rule reason)
     × (why ≡ Some (arrival_reason_text reason))
-IsWhy f (Event (Put path value)) rule why = (rule ≡ None) × (why ≡ None)
-IsWhy f (Event (Firmware code)) rule why = (rule ≡ None) × (why ≡ None)
-IsWhy f (Event (Tick seconds)) rule why = (rule ≡ None) × (why ≡ None)
-IsWhy f (Post group) rule why = (rule ≡ None) × (why ≡ None)
-IsWhy f (Need group count) rule why = (rule ≡ None) × (why ≡ None)
+IsSaidOfArrival f (Event (Put path value)) rule why = (rule ≡ None) × (why ≡ None)
+IsSaidOfArrival f (Event (Firmware code)) rule why = (rule ≡ None) × (why ≡ None)
+IsSaidOfArrival f (Event (Tick seconds)) rule why = (rule ≡ None) × (why ≡ None)
+IsSaidOfArrival f (Post group) rule why = (rule ≡ None) × (why ≡ None)
+IsSaidOfArrival f (Need group count) rule why = (rule ≡ None) × (why ≡ None)
 
 -- why each datagram is sent, in words
 abbrev pub sent_texts : List Happening → List (List ℕ)
@@ -46,28 +43,37 @@ sent_texts happenings = map happening_text (filter (λ h. sends h.reason) happen
 abbrev pub end_said : Happening → SaidEnd
 end_said h = record { path = path_text h.path; second = h.second; why = happening_text h }
 
+-- those of what happens, in their order
 abbrev pub ends_said : List Happening → List SaidEnd
 ends_said happenings = map end_said (filter (λ h. not (sends h.reason)) happenings)
 
--- this is said of step k of a device's row, where the device is in the state after the first k steps: that, and why it
--- sends each datagram that it sends by itself, and which observations end without one
+-- this is said of a step of a device in this flat state: that, why it sends each datagram that it sends by itself, and
+-- which observations end without one
+pub record IsSaidOfStep (f : Machine) (step : Step) (said : SaidReasons) : Type 0 where
+  pub arrival : IsSaidOfArrival f step said.rule said.why
+  pub happenings : List Happening
+  pub happen : AreHappeningsOf f step happenings
+  pub sent_is : said.sent ≡ sent_texts happenings
+  pub ended_is : said.ended ≡ ends_said happenings
+
+-- the same of step k of a device's row, where the device is in the state after the first k steps
 pub record IsSaidAt (s : Scenario) (device k : ℕ) (said : SaidReasons) : Type 0 where
   pub class : Template
   pub steps : List Step
   pub row : IsRowOf s device class steps
   pub step : Step
   pub stands : slice_get steps k ≡ Some step
-  pub why : IsWhy (state_at class steps k) step said.rule said.why
-  pub happenings : List Happening
-  pub sent : AreHappeningsOf (state_at class steps k) step happenings
-  pub sent_is : said.sent ≡ sent_texts happenings
-  pub ended_is : said.ended ≡ ends_said happenings
+  pub said_is : IsSaidOfStep (state_at class steps k) step said
 
--- the line of an entry: the text of its object with the reasons of its step, which is read as the object
+-- the text of the object of an entry with these reasons, which is read as the object
+abbrev pub IsReasonedLine : Scenario → ℕ → Entry → SaidReasons → List ℕ → Type 0
+IsReasonedLine s number e said text =
+    IsReadAgain (reasoned_json s number e said) × (text ≡ json_line (reasoned_json s number e said))
+
+-- the line of an entry, with the reasons of its step
 abbrev pub IsEntryLine : Scenario → ℕ → Entry → List ℕ → Type 0
 IsEntryLine s number e text =
-    (said : SaidReasons) × IsSaidAt s e.device e.step said × IsReadAgain (reasoned_json s number e said)
-    × (text ≡ json_line (reasoned_json s number e said))
+    (said : SaidReasons) × IsSaidAt s e.device e.step said × IsReasonedLine s number e said text
 
 -- the line that begins a trace, and the lines of the selected entries in their order
 abbrev pub AreReasonedLines : Scenario → Selection → List Entry → List ℕ → Type 0
@@ -77,11 +83,12 @@ AreReasonedLines s sel es text =
 
 -- ---- for private clauses
 
--- the same of a step as it is put together
-abbrev pub said_with : ArrivalWords → List Happening → SaidReasons
-said_with arrival happenings = record {
-  rule = arrival.rule;
-  why = option_map (λ w. string_bytes w) arrival.why;
-  sent = sent_texts happenings;
-  ended = ends_said happenings;
-}
+-- what is said of a step, by its parts
+abbrev pub said_with : Option ℕ → Option (List ℕ) → List Happening → SaidReasons
+said_with rule why happenings =
+    record { rule = rule; why = why; sent = sent_texts happenings; ended = ends_said happenings }
+
+-- the line of an entry whose step is this one, of a device in this flat state
+abbrev pub IsStepLine : Scenario → ℕ → Entry → Machine → Step → List ℕ → Type 0
+IsStepLine s number e f step text =
+    (said : SaidReasons) × IsSaidOfStep f step said × IsReasonedLine s number e said text

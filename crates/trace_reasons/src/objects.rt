@@ -1,17 +1,19 @@
 //! The entries that are asked for as JSON Lines, with reasons.
 
-ghost use Rattle.std.specs.Prelude.{◌≡◌, ◌+◌, ◌∷◌, ◌++◌, true, false, [], map, option_map, IsSome, IfErr, IfOk};
+ghost use Rattle.std.specs.Prelude.{◌≡◌, ◌+◌, ◌∷◌, ◌++◌, true, false, [], map, option_map, None, IsSome, IfErr, IfOk};
 ghost use Rattle.std.specs.Prelude.{OnOk};
 ghost use Rattle.std.specs.String.{string_bytes};
 ghost use Rattle.device_machine.specs.State.{Machine as FlatState, Shows};
+ghost use Rattle.device_machine.specs.declared.event.Event.TheVariants as event;
 ghost use Rattle.fleet_core.specs.Board.{ShowsAfter};
 ghost use Rattle.fleet_core.specs.Run.{IsRun, step_at};
+ghost use Rattle.scenario_image.specs.Play.{is_step_refused};
+ghost use Rattle.scenario_image.specs.declared.step.Step.TheVariants as step;
 ghost use Rattle.trace_text.specs.Selection.{IsSelectable, IsSelectionFault};
-ghost use Rattle.trace_json.specs.Reasons.{reasoned_json, said_end};
-ghost use Rattle.trace_json.specs.Writing.{IsReadAgain, json_line};
+ghost use Rattle.trace_json.specs.Reasons.{said_end};
 ghost use Rattle.trace_reasons.specs.Text.{AreSelectedSaid};
-ghost use Rattle.trace_reasons.specs.Objects.{AreReasonedLines, IsEntryLine, IsWhy, end_said, ends_said};
-ghost use Rattle.trace_reasons.specs.Objects.{said_with, sent_texts};
+ghost use Rattle.trace_reasons.specs.Objects.{AreReasonedLines, IsEntryLine, IsReasonedLine, IsSaidOfArrival, IsStepLine};
+ghost use Rattle.trace_reasons.specs.Objects.{end_said, ends_said, said_with, sent_texts};
 
 use crate::lines::step_happenings;
 use crate::selection::{check, is_between, is_wanted};
@@ -25,44 +27,6 @@ use std::alloc::{AllocError, Global};
 use trace_file::Entry;
 use trace_json::{JsonLines, SilentEnd, StepReasons, head_line};
 use trace_text::{Selection, SelectionFault};
-
-/// Why a device answers a datagram that arrives like that, if one arrives.
-struct ArrivalWords {
-    /// The number of the rule that decides, if one does.
-    rule: Option<u8>,
-    /// The words of the reason.
-    why: Option<String>,
-}
-
-/// By hand, so that a caller's proof has one step where it is dropped, and no case for each of its parts.
-impl Drop for ArrivalWords {
-    fn drop(self) {
-        let ArrivalWords { rule: _, why: _why } = self;
-    }
-}
-
-/// Why a device answers like that in a step.
-fn arrival_words(alloc: Global, device: &Device, step: &Step) -> Result<ArrivalWords, AllocError>
-    ensures { (f : FlatState) → Shows device.now f
-        → IfOk result (λ words. IsWhy f step.now words.rule (option_map (λ w. string_bytes w) words.why)) }
-{
-    match step {
-        Step::Event(Event::Recv { server, bytes }) => {
-            let reason = arrival_reason(alloc, device, *server, bytes.as_slice())?;
-            let words = arrival_reason_text(alloc, &reason)?;
-            Ok(ArrivalWords {
-                rule: arrival_rule(&reason),
-                why: Some(words),
-            })
-        }
-        Step::Event(Event::Put { .. } | Event::Firmware(_) | Event::Tick(_))
-        | Step::Post(_)
-        | Step::Need(_, _) => Ok(ArrivalWords {
-            rule: None,
-            why: None,
-        }),
-    }
-}
 
 /// Adds why a datagram is sent, in words, if one is.
 #[tactic(auto, using(crate::proofs::Saying::sent_more, crate::proofs::Saying::none_sent))]
@@ -129,40 +93,94 @@ fn silent_ends(alloc: Global, happenings: &[Happening]) -> Result<Vec<SilentEnd>
     Ok(ends)
 }
 
-/// The words of a reason, if there is one.
-fn why_of(arrival: &ArrivalWords) -> Option<&str>
-    ensures { option_map (λ x. x.now) result ≡ option_map (λ w. string_bytes w) arrival.now.why }
-{
-    match &arrival.why {
-        Some(why) => Some(why.as_str()),
-        None => None,
-    }
-}
-
-/// The line of an entry, with these reasons of its step.
+/// The line of an entry, with the rule and the reason of its step, and what happens in it.
 fn line_with(
     alloc: Global,
     lines: &mut JsonLines<'_>,
     number: usize,
     entry: &Entry,
-    arrival: &ArrivalWords,
+    rule: Option<u8>,
+    why: Option<&str>,
     happenings: &[Happening],
 ) -> Result<String, AllocError>
-    ensures line { IfOk result (λ t. string_bytes t
-        ≡ json_line (reasoned_json lines.old number entry.now (said_with arrival.now happenings.now))) }
-    ensures read_again { OnOk result
-        (IsReadAgain (reasoned_json lines.old number entry.now (said_with arrival.now happenings.now))) }
+    ensures line { IfOk result (λ t. IsReasonedLine lines.old number entry.now
+        (said_with rule (option_map (λ x. x.now) why.entry) happenings.now) (string_bytes t)) }
     ensures same { lines.new ≡ lines.old }
 {
     let sent = sent_words(alloc, happenings)?;
     let ended = silent_ends(alloc, happenings)?;
     let reasons = StepReasons {
-        rule: arrival.rule,
-        why: why_of(arrival),
+        rule,
+        why,
         sent: sent.as_slice(),
         ended: ended.as_slice(),
     };
-    lines.reasoned_line(number, entry, &reasons)
+    let line = lines.reasoned_line(number, entry, &reasons)?;
+    Ok(line)
+}
+
+/// The line of an entry in whose step this datagram arrives.
+fn arrival_line(
+    alloc: Global,
+    lines: &mut JsonLines<'_>,
+    number: usize,
+    entry: &Entry,
+    device: &Device,
+    server: u16,
+    bytes: &[u8],
+) -> Result<String, AllocError>
+    ensures line { (f : FlatState) → Shows device.now f → IfOk result (λ t.
+        IsStepLine lines.old number entry.now f (step.Event (event.Recv server bytes.now)) (string_bytes t)) }
+    ensures same { lines.new ≡ lines.old }
+{
+    let reason = arrival_reason(alloc, device, server, bytes)?;
+    let why = arrival_reason_text(alloc, &reason)?;
+    let rule = arrival_rule(&reason);
+    line_with(alloc, lines, number, entry, rule, Some(why.as_str()), &[])
+}
+
+/// The line of an entry in whose step no datagram arrives.
+fn other_line(
+    alloc: Global,
+    lines: &mut JsonLines<'_>,
+    number: usize,
+    entry: &Entry,
+    device: &Device,
+    step: &Step,
+) -> Result<String, AllocError>
+    requires { is_step_refused device.now step.now ≡ false }
+    ensures line { (f : FlatState) → Shows device.now f → IsSaidOfArrival f step.now None None
+        → IfOk result (λ t. IsStepLine lines.old number entry.now f step.now (string_bytes t)) }
+    ensures same { lines.new ≡ lines.old }
+{
+    let happenings = step_happenings(alloc, device, step)?;
+    let below = happenings.as_slice();
+    line_with(alloc, lines, number, entry, None, None, below)
+}
+
+/// The line of an entry whose step is this one, which the device has still to make.
+fn step_line(
+    alloc: Global,
+    lines: &mut JsonLines<'_>,
+    number: usize,
+    entry: &Entry,
+    device: &Device,
+    step: &Step,
+) -> Result<String, AllocError>
+    requires { is_step_refused device.now step.now ≡ false }
+    ensures line { (f : FlatState) → Shows device.now f
+        → IfOk result (λ t. IsStepLine lines.old number entry.now f step.now (string_bytes t)) }
+    ensures same { lines.new ≡ lines.old }
+{
+    match step {
+        Step::Event(Event::Recv { server, bytes }) => {
+            let bytes = bytes.as_slice();
+            arrival_line(alloc, lines, number, entry, device, *server, bytes)
+        }
+        Step::Event(Event::Put { .. } | Event::Firmware(_) | Event::Tick(_))
+        | Step::Post(_)
+        | Step::Need(_, _) => other_line(alloc, lines, number, entry, device, step),
+    }
 }
 
 /// Lets the device of an entry make its step, and returns the line of the entry with the reasons of the step, or
@@ -190,9 +208,7 @@ fn pass_line(
         unreachable!()
     };
     let text = if is_shown {
-        let arrival = arrival_words(alloc, device, step)?;
-        let happenings = step_happenings(alloc, device, step)?;
-        line_with(alloc, lines, number, entry, &arrival, happenings.as_slice())?
+        step_line(alloc, lines, number, entry, device, step)?
     } else {
         String::new(alloc)
     };
@@ -227,8 +243,8 @@ fn lines_of(
 
 /// The line that begins a trace, and the lines of those entries of a run that are of a device and have numbers from one
 /// number to another, as `selected_lines` of `trace_json` has them, with the reasons that `selected_reasons` has as
-/// text: why the device handles a datagram that arrives as it does, and why it sends each that it sends by itself; or
-/// the first of what the scenario and the trace do not have.
+/// text: why the device handles a datagram that arrives as it does, why it sends each that it sends by itself, and
+/// which observations end without one; or the first of what the scenario and the trace do not have.
 pub fn reasoned_lines(
     alloc: Global,
     scenario: &Scenario,
