@@ -231,8 +231,8 @@ fn ask_socket(socket: &UdpSocket, buffer: &mut [u8]) -> Given {
     }
 }
 
-/// A socket for each device of a scenario, at this address, and the port of each: the first at this port, the next at the
-/// one after it, and so on; at port 0 the system chooses a port for each.
+/// A socket for each device of a scenario, at this address, and the port of each: the first at this port, the next at
+/// the one after it, and so on; at port 0 the system chooses a port for each.
 fn open_doors<R: Net>(
     rt: &R,
     alloc: Global,
