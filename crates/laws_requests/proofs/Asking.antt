@@ -10,7 +10,6 @@ use Rattle.device_requests.specs.declared.operation.Operation.{Operation}
 use Rattle.device_requests.specs.declared.request.Request.{Request}
 use Rattle.device_requests.specs.declared.ruling.Ruling.{Ruling}
 use Rattle.device_requests.specs.declared.ruling.Ruling.TheVariants as rule
-use Rattle.device_requests.specs.declared.answer.Code.{Code}
 use Rattle.device_requests.specs.Answer.{Outcome}
 use Rattle.device_requests.specs.Client.{Client}
 use Rattle.device_requests.specs.Laws.{is_refusal}
@@ -50,7 +49,7 @@ refuses (line ∷ lines) all ruling h =
     ] h
 
 -- an answer that is no refusal comes where no line holds
-pub passes : (lines : List (Bool × Ruling)) → AllRefuse lines → (by : Option Code → Outcome)
+pub passes : (lines : List (Bool × Ruling)) → AllRefuse lines → (by : Option Ruling → Outcome)
     → ((r : Ruling) → (by (Some r)).answer.ruling ≡ r)
     → is_refusal (code_of (by (first_line lines)).answer.ruling) ≡ false
     → first_line lines ≡ None
