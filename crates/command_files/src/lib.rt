@@ -1,5 +1,5 @@
-//! What all commands of the program share: files and streams, answers and refusals with their faults, and how the
-//! program ends.
+//! What commands of the program share: files and streams, words that name devices, answers and refusals with their
+//! faults, and how the program ends.
 #![tactic(auto)]
 
 mod answer;

@@ -9,7 +9,7 @@ use Rattle.device_requests.specs.declared.operation.Operation.{Operation}
 use Rattle.device_requests.specs.declared.ruling.Ruling.{Ruling}
 use Rattle.device_requests.specs.declared.ruling.Ruling.TheVariants as ruling
 use Rattle.device_requests.specs.Client.{Client}
-use Rattle.device_requests.specs.Laws.{lines_by, lines_on, request_lines}
+use Rattle.device_requests.specs.Laws.{lines_by, lines_on}
 use Rattle.device_requests.specs.Options.{path_of, segments_of}
 use Rattle.device_requests.specs.Order.{Asks}
 use Rattle.device_requests.specs.Refusals.{Purpose, done_ruling, format_ruling, is_invalid, is_out_of_turn, is_too_much}

@@ -27,7 +27,7 @@ use Rattle.request_reasons.specs.declared.reasons.Reason.TheVariants.{Unrecogniz
 use Rattle.request_reasons.specs.declared.reasons.Rule.{Rule}
 use Rattle.request_reasons.specs.declared.reasons.Rule.TheVariants as rule
 
--- the rule of device_requests that this one is
+-- the ruling of a request that this rule refuses
 abbrev pub ruling_at : Purpose → Rule → Ruling
 ruling_at purpose rule.Security = ruling.Security
 ruling_at purpose (rule.Target missing) = ruling.Target
@@ -39,12 +39,12 @@ ruling_at purpose (rule.Payload unfit) = ruling.Payload
 ruling_at purpose (rule.State state) = ruling.State
 ruling_at purpose (rule.Limit limit) = ruling.Limit
 
--- or success, where there is none
+-- or of one that none refuses
 abbrev pub ruling_with : Purpose → Option Rule → Ruling
 ruling_with purpose None = done_ruling purpose
 ruling_with purpose (Some rule) = ruling_at purpose rule
 
--- the rule that a reason of a request names
+-- the ruling that a reason of a request names
 abbrev pub ruling_of : Message → Reason → Ruling
 ruling_of m (Unrecognized number fault) = ruling.Options
 ruling_of m (NoPath fault) = ruling.NoPath
