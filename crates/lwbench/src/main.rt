@@ -1,34 +1,5 @@
-//! `lwbench`: a bench of emulated LwM2M devices. What the program does for each of its commands, from its words to the
-//! status that it ends with. The words are read here (`command_line`), and one family of commands is called, each of
-//! which is a crate of its own:
-//!
-//! | Commands | Crate |
-//! |---|---|
-//! | `one` | `command_demo` |
-//! | `say`, `spell` | `command_words` |
-//! | `play` | `command_play` |
-//! | `asm`, `dis`, `run`, `check` | `command_scenarios` |
-//! | `join` | `command_join` |
-//! | `lint` | `command_lint` |
-//! | `show`, `pcap` | `command_traces` |
-//! | `debug` | `command_debug` |
-//! | `test` | `command_test` |
-//! | `live` | `command_live` |
-//! | `fleet` | `command_fleet` |
-//!
-//! What they share is in `command_files`. What each is answered with stands in specs/Command.antt (`IsDone`,
-//! `IsDebugged`, `IsLived`, `AreServed`, `IsLogAnswered`), and why it is refused (`IsRefusedJob`).
+//! `lwbench`: a bench of emulated LwM2M devices. `bench_commands` is what it does.
 #![tactic(auto)]
-
-mod asked;
-mod fleets;
-mod forms;
-mod jobs;
-mod program;
-mod system;
-
-pub use program::command;
-pub use system::{conclude, start};
 
 use std::io::IsTerminal;
 use std::process::ExitCode;
@@ -38,5 +9,5 @@ use std::process::ExitCode;
 fn main(rt: HostRuntime) -> ExitCode {
     let mut errors = rt.stderr();
     let terminal = errors.is_terminal();
-    start(&rt, terminal, &mut rt.reader(), &mut errors)
+    bench_commands::start(&rt, terminal, &mut rt.reader(), &mut errors)
 }

@@ -1,0 +1,166 @@
+//! A session of several devices, and its verdict.
+ghost use Rattle.std.specs.Prelude.{ℕ, ◌≡◌, IfErr, IfOk, List, None, map, option_map, option_to_list};
+ghost use Rattle.command_expect.specs.Reading.{AreRead, IsRefusalOf};
+ghost use Rattle.command_line.specs.Words.{IsReadAs};
+ghost use Rattle.bench_commands.specs.Command.{AreServed, IsFleetLost};
+ghost use Rattle.bench_commands.specs.Judged.{IsJudgedBy, IsUnjudgedBy, judged_status, verdict_form};
+
+use command_expect::{ExpectedFile, read_expected, report_on};
+use command_files::files::Files;
+use command_files::{Output, Refusal, Status, deliver};
+use command_fleet::{Held, fleet};
+use command_line::{Asked, AskedFleet};
+use expectations::ExpectedCase;
+use std::alloc::Global;
+use std::net::Net;
+use std::rt::Clock;
+use test_reports::ReportForm;
+
+/// The file that says what servers have to send, if there is one.
+fn read_goal<'a, F: Files>(
+    alloc: Global,
+    file: Option<&'a str>,
+    files: &F,
+) -> Result<Vec<ExpectedFile<'a>>, Refusal<'a>>
+    ensures read { IfOk result (λ v. AreRead (F.holds files.now)
+        (option_to_list (option_map (λ p. p.now) file.entry)) v.items) }
+    ensures refused { IfErr result (λ r. IsRefusalOf (F.holds files.now) (F.fails files.now)
+        (option_to_list (option_map (λ p. p.now) file.entry)) (option_map (λ p. p.now) r.about) r.fault) }
+{
+    match file {
+        None => Ok(Vec::new(alloc)),
+        Some(path) => read_expected(alloc, &[path], files),
+    }
+}
+
+/// The cases of the first of these files, if there is one.
+fn cases_in<'b>(goal: &'b [ExpectedFile]) -> &'b [ExpectedCase] {
+    match goal {
+        [] => &[],
+        [file, ..] => file.cases.as_slice(),
+    }
+}
+
+/// How a verdict is told.
+fn verdict_form(json: bool) -> ReportForm
+    ensures { result ≡ verdict_form json }
+{
+    if json {
+        ReportForm::JsonLines
+    } else {
+        ReportForm::Text
+    }
+}
+
+/// The status of a session, and of its verdict.
+fn judged_status(held: Status, verdict: Status) -> Status
+    ensures { result ≡ judged_status held verdict }
+{
+    match held {
+        Status::Done => verdict,
+        _ => held,
+    }
+}
+
+/// Judges a session of which this is left, where these files say what servers have to send, and tells the report.
+fn judge<'a, F: Files, O: Output>(
+    alloc: Global,
+    goal: &[ExpectedFile<'a>],
+    json: bool,
+    junit: Option<&'a str>,
+    held: Held,
+    files: &mut F,
+    output: &mut O,
+) -> Result<Status, Refusal<'a>>
+    ensures judged { IfOk result (IsJudgedBy goal.now json (option_map (λ p. p.now) junit.entry) held.saved
+        (record {
+          made = F.made files.old;
+          streams = record { input = None; output = O.taken output.old; errors = None };
+        })
+        (record {
+          made = F.made files.new;
+          streams = record { input = None; output = O.taken output.new; errors = None };
+        })
+        held.status) }
+    ensures unjudged { IfErr result (λ r. IsUnjudgedBy
+        (record { holds = F.holds files.old; fails = F.fails files.old; refuses = F.refuses })
+        (record { input_fails = ⊥; output_refuses = O.refuses; errors_refuse = λ _. ⊥ })
+        goal.now json (option_map (λ p. p.now) junit.entry) held.saved
+        (record {
+          made = F.made files.old;
+          streams = record { input = None; output = O.taken output.old; errors = None };
+        })
+        (record {
+          made = F.made files.new;
+          streams = record { input = None; output = O.taken output.new; errors = None };
+        })
+        r.fault) }
+{
+    match (goal, held.saved) {
+        ([_, ..], Some(saved)) => {
+            let answer = report_on(alloc, goal, &saved, None, None, verdict_form(json), junit)?;
+            let verdict = deliver(&answer, files, output)?;
+            Ok(judged_status(held.status, verdict))
+        }
+        _ => Ok(held.status),
+    }
+}
+
+/// Serves devices for a session, and judges it, if there is something that servers have to send.
+#[tactic(none)]
+pub(crate) fn answer_fleet<'a, R: Net + Clock + std::io::Input, F: Files, O: Output, E: Output>(
+    rt: &R,
+    alloc: Global,
+    asked: AskedFleet<'a>,
+    terminal: bool,
+    files: &mut F,
+    output: &mut O,
+    errors: &mut E,
+) -> Result<Status, Refusal<'a>>
+    ensures done { (words : List (List ℕ)) → IsReadAs words (Asked.Fleet asked.entry) → IfOk result (AreServed
+        (record { holds = F.holds files.old; fails = F.fails files.old; refuses = F.refuses })
+        (record {
+          made = F.made files.old;
+          streams = record { input = None; output = O.taken output.old; errors = E.taken errors.old };
+        })
+        (record {
+          made = F.made files.new;
+          streams = record { input = None; output = O.taken output.new; errors = E.taken errors.new };
+        })
+        terminal words) }
+    ensures lost { (words : List (List ℕ)) → IsReadAs words (Asked.Fleet asked.entry) → IfErr result (λ r. IsFleetLost
+        (record { holds = F.holds files.old; fails = F.fails files.old; refuses = F.refuses })
+        (record { input_fails = ⊥; output_refuses = O.refuses; errors_refuse = E.refuses })
+        (record {
+          made = F.made files.old;
+          streams = record { input = None; output = O.taken output.old; errors = E.taken errors.old };
+        })
+        (record {
+          made = F.made files.new;
+          streams = record { input = None; output = O.taken output.new; errors = E.taken errors.new };
+        })
+        terminal words r.fault) }
+{
+    let json = asked.json;
+    let verdict = asked.verdict;
+    let goal = read_goal(alloc, verdict.file, files)?;
+    let held = fleet(
+        rt,
+        alloc,
+        asked,
+        cases_in(goal.as_slice()),
+        terminal,
+        files,
+        output,
+        errors,
+    )?;
+    judge(
+        alloc,
+        goal.as_slice(),
+        json,
+        verdict.junit,
+        held,
+        files,
+        output,
+    )
+}
