@@ -10,7 +10,7 @@ use Rattle.case_text.specs.declared.item.Part.{Part}
 use Rattle.case_text.specs.declared.item.Part.TheVariants as parts
 use Rattle.case_text.specs.declared.question.Question.{Question}
 use Rattle.case_text.specs.declared.stated.Stated.{Stated}
-use Rattle.case_text.specs.declared.stated.Stated.TheVariants.{Nothing, Send, Code, Notification, Act, More}
+use Rattle.case_text.specs.declared.stated.Stated.TheVariants as states
 use Rattle.case_play.specs.declared.named_item.NamedItem.{NamedItem}
 use Rattle.case_play.specs.Outputs.{States, IsFirstWrong}
 use Rattle.case_play.specs.Questions.{IsAnswer}
@@ -18,12 +18,7 @@ use Rattle.case_play.specs.Spots.{Spot, spot_at, IsAsked, PutsOut}
 
 -- an answer is about outputs, and not about the whole scenario
 abbrev pub is_of_outputs : Stated → Bool
-is_of_outputs Nothing = true
-is_of_outputs (Send server digits) = true
-is_of_outputs (Code code text) = true
-is_of_outputs (Notification number text) = true
-is_of_outputs (Act act) = true
-is_of_outputs (More count) = true
+is_of_outputs (states.Output output) = true
 is_of_outputs stated = false
 
 -- one of the answers about outputs must come, or must not come

@@ -19,24 +19,7 @@ use std::alloc::{AllocError, Global};
 fn is_of_outputs(stated: &Stated) -> bool
     ensures { result ≡ is_of_outputs stated.now }
 {
-    match stated {
-        Stated::Nothing
-        | Stated::Send { .. }
-        | Stated::Code { .. }
-        | Stated::Notification { .. }
-        | Stated::Act(_)
-        | Stated::More(_) => true,
-        Stated::Done(_)
-        | Stated::Stalled { .. }
-        | Stated::Image(_)
-        | Stated::Trace(_)
-        | Stated::Text
-        | Stated::TextLine(_)
-        | Stated::Fault { .. }
-        | Stated::Run
-        | Stated::NotARun(_)
-        | Stated::RecordedFault(_) => false,
-    }
+    matches!(stated, Stated::Output(_))
 }
 
 fn has_right(answers: &[Answer]) -> bool

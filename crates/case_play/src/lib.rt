@@ -45,6 +45,6 @@ pub use items::first_difference;
 pub use judging::judge_scenario;
 pub use laws::what_is_tried;
 pub use named_item::NamedItem;
-pub use outputs::{first_unstated, states_one};
+pub use outputs::first_unstated;
 pub use questions::is_answered;
 pub use verdict::Verdict;
