@@ -11,7 +11,6 @@ use Rattle.case_text.specs.declared.item.Part.TheVariants as parts
 use Rattle.case_text.specs.declared.question.Question.{Question}
 use Rattle.case_text.specs.declared.stated.Stated.{Stated}
 use Rattle.case_text.specs.declared.stated.Stated.TheVariants as states
-use Rattle.case_play.specs.declared.named_item.NamedItem.{NamedItem}
 use Rattle.case_play.specs.Outputs.{States, IsFirstWrong}
 use Rattle.case_play.specs.Questions.{IsAnswer}
 use Rattle.case_play.specs.Spots.{Spot, spot_at, IsAsked, PutsOut}
@@ -96,8 +95,3 @@ pub record IsFirstDifference (s : Scenario) (items : List Item) (line : ℕ) : T
       → Holds s (spot_at items k) other
   pub differs : Holds s (spot_at items place) item → ⊥
   pub named : IsNamed s (spot_at items place) item line
-
--- each item holds, or this is the first that does not, and the line that names it
-abbrev pub IsJudged : Scenario → List Item → Option NamedItem → Type 0
-IsJudged s items None = (k : ℕ) (item : Item) → slice_get items k ≡ Some item → Holds s (spot_at items k) item
-IsJudged s items (Some named) = (first : IsFirstDifference s items named.line) × (first.place ≡ named.place)

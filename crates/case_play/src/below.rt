@@ -94,7 +94,7 @@ fn first_end(
 
 /// Where the first answer of a case stands that is about the whole scenario or a recorded trace, and does not hold;
 /// none where all do. The entries are those of the serial run.
-pub fn first_wrong_end(
+pub(crate) fn first_wrong_end(
     alloc: Global,
     scenario: &Scenario,
     entries: &[Entry],

@@ -132,7 +132,7 @@ fn is_so(
 
 /// The number, counted from 0, of the first answer that is not so of the outputs; the count of the answers where all
 /// are, and an output is left. None where they state the outputs, all of them, in their order.
-pub fn first_unstated(
+pub(crate) fn first_unstated(
     alloc: Global,
     answers: &[Answer],
     outputs: &[Output],
