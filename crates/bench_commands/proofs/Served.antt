@@ -4,7 +4,8 @@ use Rattle.std.proofs.Common.{inl, inr, option_map}
 use Rattle.std.proofs.Math.Logic.{⊎_map}
 use Rattle.command_line.specs.declared.fleet_words.AskedFleet.{AskedFleet}
 use Rattle.scenario_image.specs.Scenario.{Scenario}
-use Rattle.command_expect.specs.declared.expected_file.ExpectedFile.{ExpectedFile}
+use Rattle.expectations.specs.declared.expectation.ExpectedCase.{ExpectedCase}
+use Rattle.test_reports.specs.declared.case_file.CaseFile.{CaseFile}
 use Rattle.bench_commands.specs.Command.{AreServed, IsFinished, IsFleetLost, IsSessionUnjudged, IsUnfinished}
 use Rattle.bench_commands.specs.Judged.{IsGoalRefused, IsJudgedBy, IsUnjudged}
 use Rattle.command_fleet.specs.declared.concluding.Held.{Held}
@@ -66,7 +67,7 @@ done_so files before between fleet terminal held served =
     }
 
 -- and so is its verdict
-judged_so : (goal : List ExpectedFile) (json : Bool) (junit : Option (List ℕ)) (saved : Option Scenario)
+judged_so : (goal : List (CaseFile ExpectedCase)) (json : Bool) (junit : Option (List ℕ)) (saved : Option Scenario)
     (between after : World) (held status : Status)
     → IsJudgedBy goal json junit saved between (beside after) held status
     → IsJudgedBy goal json junit saved between after held status

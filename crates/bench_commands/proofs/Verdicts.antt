@@ -3,8 +3,10 @@ use Rattle.std.proofs.Common.{ℕ, ◌≡◌, ◌⊎◌, Bool, List, [], ◌∷�
 use Rattle.std.proofs.Common.{arith, inl, inr, length, option_map, refl, sym, subst, ◌≤◌}
 use Rattle.command_files.specs.Answers.{IsUndelivered}
 use Rattle.std.specs.Result.{IsErrAnd}
-use Rattle.command_expect.specs.Reading.{AreRead, IsRefusalOf}
-use Rattle.command_expect.specs.declared.expected_file.ExpectedFile.{ExpectedFile}
+use Rattle.test_reports.specs.Reading.{AreRead, IsRefusalOf}
+use Rattle.expectations.specs.ExpectedCases.{expected_cases_in}
+use Rattle.expectations.specs.declared.expectation.ExpectedCase.{ExpectedCase}
+use Rattle.test_reports.specs.declared.case_file.CaseFile.{CaseFile}
 use Rattle.command_files.specs.World.{FilesKnown, StreamFaults, World}
 use Rattle.command_files.specs.declared.answer.Answer.{Answer}
 use Rattle.command_files.specs.declared.fault.Fault.{Fault}
@@ -22,7 +24,7 @@ use Rattle.bench_commands.specs.Judged.{IsVerdict, goal_paths}
 use Rattle.bench_commands.proofs.Seen.{aside_faults, aside_world}
 
 -- a verdict is the same beside standard error, which heard nothing
-judged_so : (goal : List ExpectedFile) (json : Bool) (junit : Option (List ℕ)) (saved : Option Scenario)
+judged_so : (goal : List (CaseFile ExpectedCase)) (json : Bool) (junit : Option (List ℕ)) (saved : Option Scenario)
     (between after : World) (held status : Status)
     → IsJudgedBy goal json junit saved (aside_world between) (aside_world after) held status
     → after.streams.errors ≡ between.streams.errors
@@ -42,7 +44,7 @@ judged_so (file ∷ files) json junit (Some saved) between after held status jud
 
 -- and so is one that could not be told
 unjudged_so : (files : FilesKnown) (holds : List ℕ → List ℕ → Type 0) (fails : List ℕ → Type 0)
-    (faults : StreamFaults) (goal : List ExpectedFile) (json : Bool) (junit : Option (List ℕ))
+    (faults : StreamFaults) (goal : List (CaseFile ExpectedCase)) (json : Bool) (junit : Option (List ℕ))
     (saved : Option Scenario) (between after : World) (fault : Fault)
     → IsUnjudgedBy (record { holds = holds; fails = fails; refuses = files.refuses }) (aside_faults faults) goal json
     junit saved (aside_world between) (aside_world after) fault
@@ -65,7 +67,7 @@ unjudged_so files holds fails faults goal json junit (Some saved) between after 
     so (inr unprinted) = inr (record { failed = unprinted.failed; made = unprinted.made })
 
 -- where there is something that servers have to send, the report is the verdict
-pub judged_by : (goal : List ExpectedFile) (json : Bool) (junit : Option (List ℕ)) (saved : Scenario)
+pub judged_by : (goal : List (CaseFile ExpectedCase)) (json : Bool) (junit : Option (List ℕ)) (saved : Scenario)
     (before after : World) (held status : Status) → 1 ≤ length goal
     → IsReported goal json junit saved before after held status
     → IsJudgedBy goal json junit (Some saved) before after held status
@@ -74,7 +76,8 @@ judged_by (file ∷ files) json junit saved before after held status some report
 
 -- a report that was not told is the fault
 pub undelivered_by : {T : Type 0}
-    → (files : FilesKnown) (faults : StreamFaults) (goal : List ExpectedFile) (json : Bool) (junit : Option (List ℕ))
+    → (files : FilesKnown) (faults : StreamFaults) (goal : List (CaseFile ExpectedCase)) (json : Bool)
+    (junit : Option (List ℕ))
     (left : Option Scenario) (saved : Scenario) (before after : World) (answer : Answer) (result : Result T Refusal)
     (refusal : Refusal) → left ≡ Some saved → IsVerdict goal json junit saved answer
     → IsErrAnd result (λ r. r ≡ refusal) → IsUndelivered files faults before after answer refusal.fault
@@ -91,8 +94,8 @@ undelivered_by files faults goal json junit left saved before after answer (Err 
 -- ---- a session that was concluded
 
 pub judged_if : (files : FilesKnown) (before between after : World) (terminal : Bool) (words : List (List ℕ))
-    (fleet : AskedFleet) (goal read : List ExpectedFile) (held : Held) (result : Result Status Refusal)
-    → IsReadAs words (asked.Fleet fleet) → goal ≡ read → AreRead files.holds (goal_paths fleet) read
+    (fleet : AskedFleet) (goal read : List (CaseFile ExpectedCase)) (held : Held) (result : Result Status Refusal)
+    → IsReadAs words (asked.Fleet fleet) → goal ≡ read → AreRead expected_cases_in files.holds (goal_paths fleet) read
     → IsFleetDone files before between fleet terminal held
     → IfOk result (IsJudgedBy goal fleet.json (option_map (λ p. p.now) fleet.verdict.junit) held.saved
     (aside_world between) (aside_world after) held.status)
@@ -103,7 +106,7 @@ judged_if files before between after terminal words fleet goal read held (Ok sta
       fleet = fleet;
       read = asks;
       goal = goal;
-      goal_is = subst (AreRead files.holds (goal_paths fleet)) (sym same) are;
+      goal_is = subst (AreRead expected_cases_in files.holds (goal_paths fleet)) (sym same) are;
       between = between;
       held = held;
       done = done;
@@ -113,9 +116,10 @@ judged_if files before between after terminal words fleet goal read held (Ok sta
 
 pub unjudged_if : (files : FilesKnown) (holds : List ℕ → List ℕ → Type 0) (fails : List ℕ → Type 0)
     (faults : StreamFaults) (before between after : World) (terminal : Bool)
-    (words : List (List ℕ)) (fleet : AskedFleet) (goal read : List ExpectedFile) (held : Held)
+    (words : List (List ℕ)) (fleet : AskedFleet) (goal read : List (CaseFile ExpectedCase)) (held : Held)
     (result : Result Status Refusal) → IsReadAs words (asked.Fleet fleet) → goal ≡ read
-    → AreRead files.holds (goal_paths fleet) read → IsFleetDone files before between fleet terminal held
+    → AreRead expected_cases_in files.holds (goal_paths fleet) read
+    → IsFleetDone files before between fleet terminal held
     → IfErr result (λ r. IsUnjudgedBy (record { holds = holds; fails = fails; refuses = files.refuses })
     (aside_faults faults) goal fleet.json (option_map (λ p. p.now) fleet.verdict.junit) held.saved
     (aside_world between) (aside_world after) r.fault)
@@ -130,7 +134,7 @@ unjudged_if files holds fails faults before between after terminal words fleet g
       read = asks;
       lost = inr (inr (record {
         goal = goal;
-        goal_is = subst (AreRead files.holds (goal_paths fleet)) (sym same) are;
+        goal_is = subst (AreRead expected_cases_in files.holds (goal_paths fleet)) (sym same) are;
         between = between;
         held = held;
         done = done;
@@ -146,7 +150,7 @@ pub goal_refused_if : {T : Type 0}
     → (files : FilesKnown) (faults : StreamFaults) (before : World) (terminal : Bool) (words : List (List ℕ))
     (fleet : AskedFleet) (about : Option (List ℕ)) (result : Result T Refusal) (refusal : Refusal)
     → IsErrAnd result (λ r. r ≡ refusal) → IsReadAs words (asked.Fleet fleet)
-    → IsRefusalOf files.holds files.fails (goal_paths fleet) about refusal.fault
+    → IsRefusalOf expected_cases_in files.holds files.fails (goal_paths fleet) about refusal.fault
     → IfErr result (λ r. IsFleetLost files faults before before terminal words r.fault)
 goal_refused_if files faults before terminal words fleet about (Ok x) refusal told asks refused = tt
 goal_refused_if files faults before terminal words fleet about (Err r) refusal told asks refused =

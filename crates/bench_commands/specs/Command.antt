@@ -49,8 +49,10 @@ use Rattle.command_traces.specs.declared.form.TraceForm.TheVariants as forms
 use Rattle.command_words.specs.Inputs.{IsInputRefused, IsInputSaid}
 use Rattle.command_words.specs.Saying.{IsSayDone, IsSayFault}
 use Rattle.command_words.specs.Spelling.{IsSpellDone, IsSpellFault}
-use Rattle.command_expect.specs.Reading.{AreRead}
-use Rattle.command_expect.specs.declared.expected_file.ExpectedFile.{ExpectedFile}
+use Rattle.test_reports.specs.Reading.{AreRead}
+use Rattle.expectations.specs.ExpectedCases.{expected_cases_in}
+use Rattle.expectations.specs.declared.expectation.ExpectedCase.{ExpectedCase}
+use Rattle.test_reports.specs.declared.case_file.CaseFile.{CaseFile}
 use Rattle.bench_commands.specs.Judged.{IsGoalRefused, IsJudged, IsUnjudged, goal_paths}
 use Rattle.command_files.specs.World.{FilesKnown, IsAside, StreamFaults, Streams, World}
 use Rattle.command_files.specs.declared.answer.Answer.{Answer}
@@ -279,8 +281,8 @@ pub record AreServed (files : FilesKnown) (before after : World) (terminal : Boo
     (status : Status) : Type 0 where
   pub fleet : AskedFleet
   pub read : IsReadAs words (asked.Fleet fleet)
-  pub goal : List ExpectedFile
-  pub goal_is : AreRead files.holds (goal_paths fleet) goal
+  pub goal : List (CaseFile ExpectedCase)
+  pub goal_is : AreRead expected_cases_in files.holds (goal_paths fleet) goal
   -- the files and the streams when the session was concluded, and what is left of it
   pub between : World
   pub held : Held
@@ -290,8 +292,8 @@ pub record AreServed (files : FilesKnown) (before after : World) (terminal : Boo
 -- a session was concluded, and not judged
 pub record IsSessionUnjudged (files : FilesKnown) (faults : StreamFaults) (before after : World) (fleet : AskedFleet)
     (terminal : Bool) (fault : Fault) : Type 0 where
-  pub goal : List ExpectedFile
-  pub goal_is : AreRead files.holds (goal_paths fleet) goal
+  pub goal : List (CaseFile ExpectedCase)
+  pub goal_is : AreRead expected_cases_in files.holds (goal_paths fleet) goal
   pub between : World
   pub held : Held
   pub done : IsFleetDone files before between fleet terminal held

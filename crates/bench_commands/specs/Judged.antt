@@ -5,9 +5,11 @@ use Rattle.std.specs.Io.KnownBytes.{Appends}
 use Rattle.std.specs.String.{string_bytes}
 use Rattle.command_line.specs.declared.fleet_words.AskedFleet.{AskedFleet}
 use Rattle.scenario_image.specs.Scenario.{Scenario}
-use Rattle.command_expect.specs.Reading.{AreRead, IsRefusalOf}
-use Rattle.command_expect.specs.Answers.{IsReportOn}
-use Rattle.command_expect.specs.declared.expected_file.ExpectedFile.{ExpectedFile}
+use Rattle.test_reports.specs.Reading.{AreRead, IsRefusalOf}
+use Rattle.command_expect.specs.Expect.{IsReportOn}
+use Rattle.expectations.specs.ExpectedCases.{expected_cases_in}
+use Rattle.expectations.specs.declared.expectation.ExpectedCase.{ExpectedCase}
+use Rattle.test_reports.specs.declared.case_file.CaseFile.{CaseFile}
 use Rattle.command_files.specs.Answers.{IsUndelivered, files_of}
 use Rattle.command_files.specs.Files.{Grows}
 use Rattle.command_files.specs.World.{FilesKnown, IsSilent, StreamFaults, World}
@@ -29,7 +31,7 @@ verdict_form false = report_forms.Text
 verdict_form true = report_forms.JsonLines
 
 -- the report of what was saved, in which these files say what servers have to send to each device
-abbrev pub IsVerdict : List ExpectedFile → Bool → Option (List ℕ) → Scenario → Answer → Type 0
+abbrev pub IsVerdict : List (CaseFile ExpectedCase) → Bool → Option (List ℕ) → Scenario → Answer → Type 0
 IsVerdict goal json junit saved answer = IsReportOn None (verdict_form json) junit goal None saved answer
 
 -- a session that ends with a status of its own keeps it; otherwise its verdict gives it
@@ -43,7 +45,7 @@ pub record IsUntouched (before after : World) : Type 0 where
   pub silent : IsSilent before.streams after.streams
 
 -- the report was told, and its file made, if it has one
-pub record IsReported (goal : List ExpectedFile) (json : Bool) (junit : Option (List ℕ)) (saved : Scenario)
+pub record IsReported (goal : List (CaseFile ExpectedCase)) (json : Bool) (junit : Option (List ℕ)) (saved : Scenario)
     (before after : World) (held status : Status) : Type 0 where
   pub answer : Answer
   pub report : IsVerdict goal json junit saved answer
@@ -53,32 +55,36 @@ pub record IsReported (goal : List ExpectedFile) (json : Bool) (junit : Option (
   pub judged : status ≡ judged_status held answer.status
 
 -- a session of which this was saved is judged, where there is something that servers have to send
-abbrev pub IsJudgedBy : List ExpectedFile → Bool → Option (List ℕ) → Option Scenario → World → World → Status → Status
+abbrev pub IsJudgedBy : List (CaseFile ExpectedCase) → Bool → Option (List ℕ) → Option Scenario → World → World → Status
+    → Status
     → Type 0
 IsJudgedBy (file ∷ files) json junit (Some saved) before after held status =
     IsReported (file ∷ files) json junit saved before after held status
 IsJudgedBy goal json junit saved before after held status = IsUntouched before after × (status ≡ held)
 
-abbrev pub IsJudged : List ExpectedFile → AskedFleet → Option Scenario → World → World → Status → Status → Type 0
+abbrev pub IsJudged : List (CaseFile ExpectedCase) → AskedFleet → Option Scenario → World → World → Status → Status
+    → Type 0
 IsJudged goal fleet saved before after held status =
     IsJudgedBy goal fleet.json (option_map (λ p. p.now) fleet.verdict.junit) saved before after held status
 
 -- no memory was left for the report, or it could not be told
-pub record IsUnreported (files : FilesKnown) (faults : StreamFaults) (goal : List ExpectedFile) (json : Bool)
+pub record IsUnreported (files : FilesKnown) (faults : StreamFaults) (goal : List (CaseFile ExpectedCase)) (json : Bool)
     (junit : Option (List ℕ)) (saved : Scenario) (before after : World) (fault : Fault) : Type 0 where
   pub answer : Answer
   pub report : IsVerdict goal json junit saved answer
   pub undelivered : IsUndelivered files faults before after answer fault
   pub quiet : after.streams.errors ≡ before.streams.errors
 
-abbrev pub IsUnjudgedBy : FilesKnown → StreamFaults → List ExpectedFile → Bool → Option (List ℕ) → Option Scenario
+abbrev pub IsUnjudgedBy : FilesKnown → StreamFaults → List (CaseFile ExpectedCase) → Bool → Option (List ℕ)
+    → Option Scenario
     → World → World → Fault → Type 0
 IsUnjudgedBy files faults goal json junit None before after fault = ⊥
 IsUnjudgedBy files faults goal json junit (Some saved) before after fault =
     ((fault ≡ Memory) × IsUntouched before after)
     ⊎ IsUnreported files faults goal json junit saved before after fault
 
-abbrev pub IsUnjudged : FilesKnown → StreamFaults → List ExpectedFile → AskedFleet → Option Scenario → World → World
+abbrev pub IsUnjudged : FilesKnown → StreamFaults → List (CaseFile ExpectedCase) → AskedFleet → Option Scenario → World
+    → World
     → Fault → Type 0
 IsUnjudged files faults goal fleet saved before after fault =
     IsUnjudgedBy files faults goal fleet.json (option_map (λ p. p.now) fleet.verdict.junit) saved before after fault
@@ -87,5 +93,5 @@ IsUnjudged files faults goal fleet saved before after fault =
 pub record IsGoalRefused (files : FilesKnown) (before after : World) (fleet : AskedFleet) (fault : Fault) : Type 0
   where
     pub about : Option (List ℕ)
-    pub why : IsRefusalOf files.holds files.fails (goal_paths fleet) about fault
+    pub why : IsRefusalOf expected_cases_in files.holds files.fails (goal_paths fleet) about fault
     pub untouched : IsUntouched before after

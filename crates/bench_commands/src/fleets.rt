@@ -1,11 +1,12 @@
 //! A session of several devices, and its verdict.
 ghost use Rattle.std.specs.Prelude.{ℕ, ◌≡◌, IfErr, IfOk, List, None, map, option_map, option_to_list};
-ghost use Rattle.command_expect.specs.Reading.{AreRead, IsRefusalOf};
 ghost use Rattle.command_line.specs.Words.{IsReadAs};
+ghost use Rattle.expectations.specs.ExpectedCases.{expected_cases_in};
+ghost use Rattle.test_reports.specs.Reading.{AreRead, IsRefusalOf};
 ghost use Rattle.bench_commands.specs.Command.{AreServed, IsFleetLost};
 ghost use Rattle.bench_commands.specs.Judged.{IsJudgedBy, IsUnjudgedBy, judged_status, verdict_form};
 
-use command_expect::{ExpectedFile, read_expected, report_on};
+use command_expect::report_on;
 use command_files::files::Files;
 use command_files::{Output, Refusal, Status, deliver};
 use command_fleet::{Held, fleet};
@@ -14,27 +15,27 @@ use expectations::ExpectedCase;
 use std::alloc::Global;
 use std::net::Net;
 use std::rt::Clock;
-use test_reports::ReportForm;
+use test_reports::{CaseFile, ReportForm, read_files};
 
 /// The file that says what servers have to send, if there is one.
 fn read_goal<'a, F: Files>(
     alloc: Global,
     file: Option<&'a str>,
     files: &F,
-) -> Result<Vec<ExpectedFile<'a>>, Refusal<'a>>
-    ensures read { IfOk result (λ v. AreRead (F.holds files.now)
+) -> Result<Vec<CaseFile<'a, ExpectedCase>>, Refusal<'a>>
+    ensures read { IfOk result (λ v. AreRead expected_cases_in (F.holds files.now)
         (option_to_list (option_map (λ p. p.now) file.entry)) v.items) }
-    ensures refused { IfErr result (λ r. IsRefusalOf (F.holds files.now) (F.fails files.now)
+    ensures refused { IfErr result (λ r. IsRefusalOf expected_cases_in (F.holds files.now) (F.fails files.now)
         (option_to_list (option_map (λ p. p.now) file.entry)) (option_map (λ p. p.now) r.about) r.fault) }
 {
     match file {
         None => Ok(Vec::new(alloc)),
-        Some(path) => read_expected(alloc, &[path], files),
+        Some(path) => read_files(alloc, &[path], files),
     }
 }
 
 /// The cases of the first of these files, if there is one.
-fn cases_in<'b>(goal: &'b [ExpectedFile]) -> &'b [ExpectedCase] {
+fn cases_in<'b>(goal: &'b [CaseFile<'_, ExpectedCase>]) -> &'b [ExpectedCase] {
     match goal {
         [] => &[],
         [file, ..] => file.cases.as_slice(),
@@ -65,7 +66,7 @@ fn judged_status(held: Status, verdict: Status) -> Status
 /// Judges a session of which this is left, where these files say what servers have to send, and tells the report.
 fn judge<'a, F: Files, O: Output>(
     alloc: Global,
-    goal: &[ExpectedFile<'a>],
+    goal: &[CaseFile<'a, ExpectedCase>],
     json: bool,
     junit: Option<&'a str>,
     held: Held,

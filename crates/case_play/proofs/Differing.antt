@@ -1,5 +1,5 @@
--- What the verdict on a case that differs rests on.
-use Rattle.std.proofs.Common.{◌≡◌, ℕ, ◌<◌, inl, inr, List, length, get_or, Some, slice_get, sym, ap, subst}
+-- What the verdict on a case rests on that differs in what is stated of the whole.
+use Rattle.std.proofs.Common.{◌≡◌, ℕ, ◌<◌, inr, List, length, get_or, Some, slice_get, sym, ap, subst}
 use Rattle.std.proofs.Common.{◌∙◌}
 use Rattle.std.proofs.lemmas.Option.{get_or_from_slice_get, slice_get_within}
 use Rattle.scenario_image.specs.Scenario.{Scenario}
@@ -9,30 +9,10 @@ use Rattle.case_text.specs.declared.answer.Answer.{Answer}
 use Rattle.case_text.specs.declared.item.Item.{Item}
 use Rattle.case_play.specs.declared.answer_place.AnswerPlace.{AnswerPlace}
 use Rattle.case_play.specs.declared.came.Came.{Came}
-use Rattle.case_play.specs.declared.named_item.NamedItem.{NamedItem}
 use Rattle.case_play.specs.declared.verdict.Verdict.TheVariants.{Differs}
-use Rattle.case_play.specs.Spots.{spot_at}
-use Rattle.case_play.specs.Holds.{Holds, IsJudged}
 use Rattle.case_play.specs.Ends.{IsFirstOfAll}
-use Rattle.case_play.specs.Came.{CameThere, CameBelow}
+use Rattle.case_play.specs.Came.{CameBelow}
 use Rattle.case_play.specs.Cases.{AllHold, IsVerdictIn}
-
-pub held_above : (s : Scenario) (items : List Item) (named : NamedItem) → IsJudged s items (Some named) → (k : ℕ)
-    (item : Item) → k < named.place → slice_get items k ≡ Some item → Holds s (spot_at items k) item
-held_above s items named judged k item less stands =
-    judged.0.above k item (subst (λ n. k < n) (sym judged.1) less) stands
-
-pub item_differs : (s : Scenario) (items : List Item) (named : NamedItem) (came : Came)
-    → IsJudged s items (Some named)
-    → ((item : Item) → slice_get items named.place ≡ Some item
-    → CameThere s (spot_at items named.place) item.part came)
-    → IsVerdictIn s items (Differs named.line came)
-item_differs s items named came judged there = inl (record {
-  first = judged.0;
-  there =
-      subst (λ n. (item : Item) → slice_get items n ≡ Some item → CameThere s (spot_at items n) item.part came)
-      (sym judged.1) there judged.0.item judged.0.stands;
-})
 
 -- what is read at a place is what stands there
 read_there : {X : Type 0} (xs : List X) (i : ℕ) (x y : X) → slice_get xs i ≡ Some x → y ≡ get_or xs i y → y ≡ x

@@ -5,10 +5,12 @@ use Rattle.std.proofs.lemmas.List.Sums.{fold_more}
 use Rattle.std.proofs.lemmas.Option.{same_Some, slice_get_within, get_or_from_slice_get}
 use Rattle.scenario_image.specs.Scenario.{Scenario}
 use Rattle.case_text.specs.declared.item.Item.{Item}
+use Rattle.case_play.specs.declared.differences.ItemDifference.{ItemDifference}
 use Rattle.case_play.specs.declared.walk.Walk.{Walk}
 use Rattle.case_play.specs.Spots.{Spot, first_spot, spot_after, spot_at}
-use Rattle.case_play.specs.Holds.{Holds, IsFirstDifference}
-use Rattle.case_play.specs.Walks.{IsAt, IsChecked}
+use Rattle.case_play.specs.Cases.{DiffersInItem}
+use Rattle.case_play.specs.Holds.{Holds}
+use Rattle.case_play.specs.Walks.{IsAt, IsTold}
 
 pub record IsWalked (s : Scenario) (items : List Item) (i : ℕ) (walk : Walk) : Type 0 where
   pub at : IsAt s (spot_at items i) walk
@@ -32,7 +34,7 @@ walked_first s items walk at = record {
 }
 
 pub walked_next : (s : Scenario) (items : List Item) (i : ℕ) (item : Item) (before after : Walk)
-    → IsWalked s items i before → slice_get items i ≡ Some item → IsChecked s (spot_at items i) item None after
+    → IsWalked s items i before → slice_get items i ≡ Some item → IsTold s (spot_at items i) item None after
     → IsWalked s items (i + 1) after
 walked_next s items i item before after walked at checked = record {
   at = subst (λ spot. IsAt s spot after) (sym (spot_next items i item at)) checked.1;
@@ -40,20 +42,20 @@ walked_next s items i item before after walked at checked = record {
       (λ x there. subst (Holds s (spot_at items i)) (same_Some item x (sym at ∙ there)) checked.0);
 }
 
-pub walked_differs : (s : Scenario) (items : List Item) (i : ℕ) (item : Item) (line : ℕ) (before after : Walk)
-    → IsWalked s items i before → slice_get items i ≡ Some item → IsChecked s (spot_at items i) item (Some line) after
-    → (first : IsFirstDifference s items line) × (first.place ≡ i)
-walked_differs s items i item line before after walked at checked = (
-  record {
+pub walked_differs : (s : Scenario) (items : List Item) (i : ℕ) (item : Item) (d : ItemDifference)
+    (before after : Walk) → IsWalked s items i before → slice_get items i ≡ Some item
+    → IsTold s (spot_at items i) item (Some d) after → DiffersInItem s items d.line d.came
+walked_differs s items i item d before after walked at told = record {
+  first = record {
     place = i;
     item = item;
     stands = at;
     above = λ k other less there. walked.above k less other there;
-    differs = checked.0;
-    named = checked.1;
-  },
-  refl,
-)
+    differs = told.0.0;
+    named = told.0.1;
+  };
+  there = told.1;
+}
 
 pub walked_all : (s : Scenario) (items : List Item) (i : ℕ) (walk : Walk) → IsWalked s items i walk
     → length items ≤ i → (k : ℕ) (item : Item) → slice_get items k ≡ Some item → Holds s (spot_at items k) item

@@ -7,41 +7,39 @@ use Rattle.device_requests.specs.declared.answer.Act.{Act as Deed}
 use Rattle.device_machine.specs.declared.output.Output.{Output}
 use Rattle.case_text.specs.declared.digit.Digit.{Digit}
 use Rattle.case_text.specs.declared.answer.Answer.{Answer}
+use Rattle.case_text.specs.declared.stated.OutputStated.{OutputStated}
+use Rattle.case_text.specs.declared.stated.OutputStated.TheVariants.{Nothing, Send, Code, Notification, Act, More}
 use Rattle.case_text.specs.declared.stated.Stated.{Stated}
-use Rattle.case_text.specs.declared.stated.Stated.TheVariants.{Nothing, Send, Code, Notification, Act, More, Done}
-use Rattle.case_text.specs.declared.stated.Stated.TheVariants.{Stalled, Image, Trace, Text, TextLine, Fault}
-use Rattle.case_text.specs.declared.stated.Stated.TheVariants.{Run, NotARun, RecordedFault}
-use Rattle.case_play.specs.Outputs.{IsMessage, IsNotification, StatesSend, StatesThis, width, width_before, IsSo}
-use Rattle.case_play.specs.Outputs.{States}
+use Rattle.case_text.specs.declared.stated.Stated.TheVariants as states
+use Rattle.case_play.specs.Outputs.{IsMessage, IsNotification, StatesSend, StatesThis, output_width, width}
+use Rattle.case_play.specs.Outputs.{width_before, IsOutputSo, IsSo, States}
 use Rattle.case_play.specs.Outputs.{IsSoOr, IsSoAt, IsFirstWrong}
 
-this_there : (stated : Stated) (outputs : List Output) (before : ℕ) (o : Option Output) → slice_get outputs before ≡ o
-    → StatesThis stated o → before + 1 ≤ length outputs
+this_there : (stated : OutputStated) (outputs : List Output) (before : ℕ) (o : Option Output)
+    → slice_get outputs before ≡ o → StatesThis stated o → before + 1 ≤ length outputs
 this_there stated outputs before None at is = absurd is
 this_there stated outputs before (Some output) at is = omega (arith, slice_get_within outputs before output at)
 
 -- the outputs that an answer is about are there, if it is so
+output_within : (stated : OutputStated) (outputs : List Output) (before : ℕ) → before ≤ length outputs
+    → IsOutputSo stated outputs before → before + output_width stated ≤ length outputs
+output_within Nothing outputs before within so = omega (arith, within)
+output_within (Send server digits) outputs before within so =
+    this_there (Send server digits) outputs before (slice_get outputs before) refl so
+output_within (Code code text) outputs before within so =
+    this_there (Code code text) outputs before (slice_get outputs before) refl so
+output_within (Notification number text) outputs before within so =
+    this_there (Notification number text) outputs before (slice_get outputs before) refl so
+output_within (Act act) outputs before within so =
+    this_there (Act act) outputs before (slice_get outputs before) refl so
+output_within (More count) outputs before within so = so
+
 pub so_within : (stated : Stated) (outputs : List Output) (before : ℕ) → before ≤ length outputs
     → IsSo stated outputs before → before + width stated ≤ length outputs
-so_within Nothing outputs before within so = omega (arith, within)
-so_within (Send server digits) outputs before within so =
-    this_there (Send server digits) outputs before (slice_get outputs before) refl so
-so_within (Code code text) outputs before within so =
-    this_there (Code code text) outputs before (slice_get outputs before) refl so
-so_within (Notification number text) outputs before within so =
-    this_there (Notification number text) outputs before (slice_get outputs before) refl so
-so_within (Act act) outputs before within so = this_there (Act act) outputs before (slice_get outputs before) refl so
-so_within (More count) outputs before within so = so
-so_within (Done entries) outputs before within so = omega (arith, within)
-so_within (Stalled entries waiting) outputs before within so = omega (arith, within)
-so_within (Image digits) outputs before within so = omega (arith, within)
-so_within (Trace digits) outputs before within so = omega (arith, within)
-so_within Text outputs before within so = omega (arith, within)
-so_within (TextLine text) outputs before within so = omega (arith, within)
-so_within (Fault line cause) outputs before within so = omega (arith, within)
-so_within Run outputs before within so = omega (arith, within)
-so_within (NotARun place) outputs before within so = omega (arith, within)
-so_within (RecordedFault words) outputs before within so = omega (arith, within)
+so_within (states.Output stated) outputs before within so = output_within stated outputs before within so
+so_within (states.End stated) outputs before within so = omega (arith, within)
+so_within (states.Verdict stated) outputs before within so = omega (arith, within)
+so_within (states.Written stated) outputs before within so = omega (arith, within)
 
 -- the answers before this one are so, and are about as many outputs
 pub record AreSo (answers : List Answer) (outputs : List Output) (i before : ℕ) : Type 0 where
@@ -121,7 +119,7 @@ all_so answers outputs i before are end more = record {
 
 -- ---- what is known of the variant of an answer
 
-pub code_sent : {E : Type 0} (r : Result Bool E) (stated : Stated) (code : ℕ) (text o : Option (List ℕ)) (to : ℕ)
+pub code_sent : {E : Type 0} (r : Result Bool E) (stated : OutputStated) (code : ℕ) (text o : Option (List ℕ)) (to : ℕ)
     (bytes : List ℕ)
     → stated ≡ Code code text → o ≡ text → IfOk r (λ b. IsTrue b ↔ IsMessage code o bytes)
     → IfOk r (λ b. IsTrue b ↔ StatesSend stated to bytes)
@@ -129,40 +127,46 @@ code_sent r stated code text o to bytes is same h =
     subst (λ s. IfOk r (λ b. IsTrue b ↔ StatesSend s to bytes)) (sym is)
     (subst (λ t. IfOk r (λ b. IsTrue b ↔ IsMessage code t bytes)) same h)
 
-pub notification_sent : {E : Type 0} (r : Result Bool E) (stated : Stated) (number : ℕ) (text : List ℕ) (to : ℕ)
+pub notification_sent : {E : Type 0} (r : Result Bool E) (stated : OutputStated) (number : ℕ) (text : List ℕ) (to : ℕ)
     (bytes : List ℕ)
     → stated ≡ Notification number text → IfOk r (λ b. IsTrue b ↔ IsNotification number text bytes)
     → IfOk r (λ b. IsTrue b ↔ StatesSend stated to bytes)
 notification_sent r stated number text to bytes is h =
     subst (λ s. IfOk r (λ b. IsTrue b ↔ StatesSend s to bytes)) (sym is) h
 
-pub send_so : {E : Type 0} (r : Result Bool E) (stated : Stated) (server : ℕ) (digits : List Digit)
+pub send_so : {E : Type 0} (r : Result Bool E) (stated : OutputStated) (server : ℕ) (digits : List Digit)
     (outputs : List Output) (before : ℕ)
     → stated ≡ Send server digits → IfOk r (λ b. IsTrue b ↔ StatesThis stated (slice_get outputs before))
-    → IfOk r (λ b. IsTrue b ↔ IsSo stated outputs before)
+    → IfOk r (λ b. IsTrue b ↔ IsOutputSo stated outputs before)
 send_so r stated server digits outputs before is =
     subst (λ s. IfOk r (λ b. IsTrue b ↔ StatesThis s (slice_get outputs before))
-    → IfOk r (λ b. IsTrue b ↔ IsSo s outputs before)) (sym is) (λ h. h)
+    → IfOk r (λ b. IsTrue b ↔ IsOutputSo s outputs before)) (sym is) (λ h. h)
 
-pub code_so : {E : Type 0} (r : Result Bool E) (stated : Stated) (code : ℕ) (text : Option (List ℕ))
+pub code_so : {E : Type 0} (r : Result Bool E) (stated : OutputStated) (code : ℕ) (text : Option (List ℕ))
     (outputs : List Output) (before : ℕ)
     → stated ≡ Code code text → IfOk r (λ b. IsTrue b ↔ StatesThis stated (slice_get outputs before))
-    → IfOk r (λ b. IsTrue b ↔ IsSo stated outputs before)
+    → IfOk r (λ b. IsTrue b ↔ IsOutputSo stated outputs before)
 code_so r stated code text outputs before is =
     subst (λ s. IfOk r (λ b. IsTrue b ↔ StatesThis s (slice_get outputs before))
-    → IfOk r (λ b. IsTrue b ↔ IsSo s outputs before)) (sym is) (λ h. h)
+    → IfOk r (λ b. IsTrue b ↔ IsOutputSo s outputs before)) (sym is) (λ h. h)
 
-pub notification_so : {E : Type 0} (r : Result Bool E) (stated : Stated) (number : ℕ) (text : List ℕ)
+pub notification_so : {E : Type 0} (r : Result Bool E) (stated : OutputStated) (number : ℕ) (text : List ℕ)
     (outputs : List Output) (before : ℕ)
     → stated ≡ Notification number text → IfOk r (λ b. IsTrue b ↔ StatesThis stated (slice_get outputs before))
-    → IfOk r (λ b. IsTrue b ↔ IsSo stated outputs before)
+    → IfOk r (λ b. IsTrue b ↔ IsOutputSo stated outputs before)
 notification_so r stated number text outputs before is =
     subst (λ s. IfOk r (λ b. IsTrue b ↔ StatesThis s (slice_get outputs before))
-    → IfOk r (λ b. IsTrue b ↔ IsSo s outputs before)) (sym is) (λ h. h)
+    → IfOk r (λ b. IsTrue b ↔ IsOutputSo s outputs before)) (sym is) (λ h. h)
 
-pub act_so : {E : Type 0} (r : Result Bool E) (stated : Stated) (act : Deed) (outputs : List Output) (before : ℕ)
+pub act_so : {E : Type 0} (r : Result Bool E) (stated : OutputStated) (act : Deed) (outputs : List Output) (before : ℕ)
     → stated ≡ Act act → IfOk r (λ b. IsTrue b ↔ StatesThis stated (slice_get outputs before))
-    → IfOk r (λ b. IsTrue b ↔ IsSo stated outputs before)
+    → IfOk r (λ b. IsTrue b ↔ IsOutputSo stated outputs before)
 act_so r stated act outputs before is =
     subst (λ s. IfOk r (λ b. IsTrue b ↔ StatesThis s (slice_get outputs before))
-    → IfOk r (λ b. IsTrue b ↔ IsSo s outputs before)) (sym is) (λ h. h)
+    → IfOk r (λ b. IsTrue b ↔ IsOutputSo s outputs before)) (sym is) (λ h. h)
+
+pub output_so : {E : Type 0} (r : Result Bool E) (stated : Stated) (part : OutputStated) (outputs : List Output)
+    (before : ℕ) → stated ≡ states.Output part → IfOk r (λ b. IsTrue b ↔ IsOutputSo part outputs before)
+    → IfOk r (λ b. IsTrue b ↔ IsSo stated outputs before)
+output_so r stated part outputs before is h =
+    subst (λ s. IfOk r (λ b. IsTrue b ↔ IsSo s outputs before)) (sym is) h

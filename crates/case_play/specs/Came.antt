@@ -1,5 +1,5 @@
 -- What came where something else is stated.
-use Rattle.std.specs.Prelude.{◌≡◌, ℕ, ◌⊎◌, List, length, MatchBool, MatchOption}
+use Rattle.std.specs.Prelude.{◌≡◌, ℕ, ◌⊎◌, List, length, MatchOption}
 use Rattle.byte_layout.specs.declared.fault.LayoutFault.{LayoutFault}
 use Rattle.byte_layout.specs.Whole.{HasFault}
 use Rattle.device_machine.specs.declared.output.Output.{Output}
@@ -17,10 +17,11 @@ use Rattle.case_text.specs.declared.item.Part.TheVariants as parts
 use Rattle.case_text.specs.declared.question.Question.{Question}
 use Rattle.case_text.specs.declared.question.Question.TheVariants as asks
 use Rattle.case_text.specs.declared.stated.Stated.{Stated}
-use Rattle.case_text.specs.declared.stated.Stated.TheVariants.{Image, Trace, Text}
+use Rattle.case_text.specs.declared.stated.Stated.TheVariants.{Verdict, Written}
+use Rattle.case_text.specs.declared.stated.WrittenStated.TheVariants.{Image, Trace, Text}
 use Rattle.case_play.specs.declared.came.Came.{Came}
 use Rattle.case_play.specs.declared.came.Came.TheVariants as came
-use Rattle.case_play.specs.Ends.{is_of_verdict, recorded_in}
+use Rattle.case_play.specs.Ends.{recorded_in}
 use Rattle.case_play.specs.Faults.{fault_words}
 use Rattle.case_play.specs.Holds.{IsAnswered}
 use Rattle.case_play.specs.Questions.{IsAnswer}
@@ -85,9 +86,9 @@ EndCame s es x = ⊥
 -- what a scenario and its run have of the kind that is stated: an image, a trace file, a text; and else how the run
 -- ends
 abbrev pub CameInstead : Scenario → List Entry → Stated → Came → Type 0
-CameInstead s es (Image digits) x = ImageCame s x
-CameInstead s es (Trace digits) x = TraceCame es x
-CameInstead s es Text x = TextCame s x
+CameInstead s es (Written (Image digits)) x = ImageCame s x
+CameInstead s es (Written (Trace digits)) x = TraceCame es x
+CameInstead s es (Written Text) x = TextCame s x
 CameInstead s es stated x = EndCame s es x
 
 -- ---- of a recorded trace
@@ -100,7 +101,8 @@ VerdictCame s es x = ⊥
 
 -- the verdict on the entries where one is stated, and all else as of a serial run
 abbrev pub CameOfEntries : Scenario → List Entry → Stated → Came → Type 0
-CameOfEntries s es stated x = MatchBool (is_of_verdict stated) (VerdictCame s es x) (CameInstead s es stated x)
+CameOfEntries s es (Verdict stated) x = VerdictCame s es x
+CameOfEntries s es stated x = CameInstead s es stated x
 
 -- why the bytes are refused, or what comes of the entries of which they are the trace file
 abbrev pub CameOfRecorded : Scenario → List ℕ → Stated → Came → Type 0

@@ -9,6 +9,7 @@ use Rattle.case_text.specs.declared.item.Item.{Item}
 use Rattle.case_text.specs.declared.scenario_case.ScenarioCase.{ScenarioCase}
 use Rattle.case_play.specs.declared.answer_place.AnswerPlace.{AnswerPlace}
 use Rattle.case_play.specs.declared.came.Came.{Came}
+use Rattle.case_play.specs.declared.differences.ItemDifference.{ItemDifference}
 use Rattle.case_play.specs.declared.verdict.Verdict.{Verdict}
 use Rattle.case_play.specs.declared.verdict.Verdict.TheVariants.{Passes, Differs, Refused}
 use Rattle.case_play.specs.Spots.{spot_at}
@@ -32,6 +33,11 @@ pub record HoldsIn (s : Scenario) (items : List Item) : Type 0 where
 pub record DiffersInItem (s : Scenario) (items : List Item) (line : ℕ) (came : Came) : Type 0 where
   pub first : IsFirstDifference s items line
   pub there : CameThere s (spot_at items first.place) first.item.part came
+
+-- each item holds, or this is the first that does not
+abbrev pub IsJudged : Scenario → List Item → Option ItemDifference → Type 0
+IsJudged s items None = AllHold s items
+IsJudged s items (Some d) = DiffersInItem s items d.line d.came
 
 -- each item holds; of what is stated of the whole scenario or of a recorded trace, this is the first line that does
 -- not, and this came instead

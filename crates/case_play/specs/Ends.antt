@@ -1,6 +1,6 @@
 -- What is stated of a whole scenario, or of a recorded trace.
 use Rattle.std.specs.Prelude.{◌≡◌, ℕ, ◌<◌, ◌⊎◌, Bool, true, false, List, [], length, Option, None, Some, slice_get}
-use Rattle.std.specs.Prelude.{MatchBool, MatchOption}
+use Rattle.std.specs.Prelude.{MatchOption}
 use Rattle.std.specs.List.{flat_map}
 use Rattle.byte_layout.specs.declared.fault.LayoutFault.{LayoutFault}
 use Rattle.byte_layout.specs.Whole.{HasFault}
@@ -18,10 +18,14 @@ use Rattle.case_text.specs.declared.answer.Answer.{Answer}
 use Rattle.case_text.specs.declared.item.Item.{Item}
 use Rattle.case_text.specs.declared.item.Part.{Part}
 use Rattle.case_text.specs.declared.item.Part.TheVariants as parts
+use Rattle.case_text.specs.declared.stated.EndStated.{EndStated}
+use Rattle.case_text.specs.declared.stated.EndStated.TheVariants as ends
 use Rattle.case_text.specs.declared.stated.Stated.{Stated}
-use Rattle.case_text.specs.declared.stated.Stated.TheVariants.{Done}
-use Rattle.case_text.specs.declared.stated.Stated.TheVariants.{Stalled, Image, Trace, Text, TextLine, Fault}
-use Rattle.case_text.specs.declared.stated.Stated.TheVariants.{Run, NotARun, RecordedFault}
+use Rattle.case_text.specs.declared.stated.Stated.TheVariants.{Output, End, Verdict, Written}
+use Rattle.case_text.specs.declared.stated.VerdictStated.{VerdictStated}
+use Rattle.case_text.specs.declared.stated.VerdictStated.TheVariants as verdicts
+use Rattle.case_text.specs.declared.stated.WrittenStated.{WrittenStated}
+use Rattle.case_text.specs.declared.stated.WrittenStated.TheVariants.{Image, Trace, Text, TextLine}
 use Rattle.case_play.specs.declared.answer_place.AnswerPlace.{AnswerPlace}
 use Rattle.case_play.specs.Digits.{Matches}
 use Rattle.case_play.specs.Faults.{fault_words}
@@ -35,51 +39,50 @@ abbrev pub IsTraceOf : List Entry → List Digit → Type 0
 IsTraceOf es digits = (bytes : List ℕ) × IsTraceFile bytes es × Matches digits bytes
 
 abbrev pub line_in : Stated → List ℕ
-line_in (TextLine text) = ended_line text
+line_in (Written (TextLine text)) = ended_line text
 line_in stated = []
 
 -- the lines of a text that are stated below an item
 abbrev pub text_in : List Answer → List ℕ
 text_in answers = flat_map (λ a. line_in a.stated) answers
 
--- an answer, among those below its item, holds of a scenario and its serial run: the run has this number of entries,
--- and these devices wait after them; the image, the trace file of the run, the canonical text are these. A line of the
--- text is part of what `text` states, and answers on outputs are judged at their item. A text that was read has no
--- fault, and the verdict on a recorded trace stands below one
+-- the run has this number of entries, and these devices wait after them. A text that was read has no fault
+abbrev pub EndsSo : Scenario → List Entry → EndStated → Type 0
+EndsSo s es (ends.Done count) = (length es ≡ count) × (waiting_devices s es ≡ [])
+EndsSo s es (ends.Stalled count devices) = (length es ≡ count) × (waiting_devices s es ≡ devices)
+EndsSo s es (ends.Fault line cause) = ⊥
+
+-- the image, the trace file of the run, the canonical text are these, by the answers of an item. A line of the text is
+-- part of what `text` states
+abbrev pub IsWrittenSo : Scenario → List Entry → List Answer → WrittenStated → Type 0
+IsWrittenSo s es answers (Image digits) = IsImageOf s digits
+IsWrittenSo s es answers (Trace digits) = IsTraceOf es digits
+IsWrittenSo s es answers Text = text_of_scenario s ≡ text_in answers
+IsWrittenSo s es answers (TextLine text) = Unit {0}
+
+-- an answer, among those below its item, holds of a scenario and its serial run. Answers on outputs are judged at their
+-- item, and the verdict on a recorded trace stands below one
 abbrev pub IsEnd : Scenario → List Entry → List Answer → Stated → Type 0
-IsEnd s es answers (Done count) = (length es ≡ count) × (waiting_devices s es ≡ [])
-IsEnd s es answers (Stalled count devices) = (length es ≡ count) × (waiting_devices s es ≡ devices)
-IsEnd s es answers (Image digits) = IsImageOf s digits
-IsEnd s es answers (Trace digits) = IsTraceOf es digits
-IsEnd s es answers Text = text_of_scenario s ≡ text_in answers
-IsEnd s es answers (Fault line cause) = ⊥
-IsEnd s es answers Run = ⊥
-IsEnd s es answers (NotARun place) = ⊥
-IsEnd s es answers (RecordedFault words) = ⊥
-IsEnd s es answers stated = Unit {0}
+IsEnd s es answers (Output stated) = Unit {0}
+IsEnd s es answers (End stated) = EndsSo s es stated
+IsEnd s es answers (Verdict stated) = ⊥
+IsEnd s es answers (Written stated) = IsWrittenSo s es answers stated
 
 -- ---- a recorded trace
 
--- it is the verdict on a recorded trace
-abbrev pub is_of_verdict : Stated → Bool
-is_of_verdict Run = true
-is_of_verdict (NotARun place) = true
-is_of_verdict (RecordedFault words) = true
-is_of_verdict stated = false
-
--- entries are a run, or the one at this place is the first that does not follow
-abbrev pub IsOfVerdict : Scenario → List Entry → Stated → Type 0
-IsOfVerdict s es Run = IsRun s es
-IsOfVerdict s es (NotARun place) = BreaksAt s es place
-IsOfVerdict s es stated = ⊥
+-- entries are a run, or the one at this place is the first that does not follow. Bytes that were read have no fault
+abbrev pub IsOfVerdict : Scenario → List Entry → VerdictStated → Type 0
+IsOfVerdict s es verdicts.Run = IsRun s es
+IsOfVerdict s es (verdicts.NotARun place) = BreaksAt s es place
+IsOfVerdict s es (verdicts.Fault words) = ⊥
 
 -- an answer holds of entries that were recorded: the verdict on them does, and all else as of a serial run
 abbrev pub IsOfEntries : Scenario → List Entry → List Answer → Stated → Type 0
-IsOfEntries s es answers stated =
-    MatchBool (is_of_verdict stated) (IsOfVerdict s es stated) (IsEnd s es answers stated)
+IsOfEntries s es answers (Verdict stated) = IsOfVerdict s es stated
+IsOfEntries s es answers stated = IsEnd s es answers stated
 
 abbrev pub StatesRefusal : LayoutFault → Stated → Type 0
-StatesRefusal fault (RecordedFault words) = words ≡ fault_words fault
+StatesRefusal fault (Verdict (verdicts.Fault words)) = words ≡ fault_words fault
 StatesRefusal fault stated = ⊥
 
 -- an answer holds of bytes that were recorded: they are refused, which it states; or they are the trace file of entries
@@ -103,16 +106,9 @@ IsEndBelow s es part answers stated =
 
 -- it is about the whole scenario or a recorded trace, and not about outputs or a line of a text
 abbrev pub is_of_all : Stated → Bool
-is_of_all (Done count) = true
-is_of_all (Stalled count devices) = true
-is_of_all (Image digits) = true
-is_of_all (Trace digits) = true
-is_of_all Text = true
-is_of_all (Fault line cause) = true
-is_of_all Run = true
-is_of_all (NotARun place) = true
-is_of_all (RecordedFault words) = true
-is_of_all stated = false
+is_of_all (Output stated) = false
+is_of_all (Written (TextLine text)) = false
+is_of_all stated = true
 
 abbrev pub EndHoldsBy : Bool → Bool → Type 0 → Type 0
 EndHoldsBy false must_not is = Unit {0}

@@ -10,20 +10,14 @@ use Rattle.case_text.specs.declared.item.Part.{Part}
 use Rattle.case_text.specs.declared.item.Part.TheVariants as parts
 use Rattle.case_text.specs.declared.question.Question.{Question}
 use Rattle.case_text.specs.declared.stated.Stated.{Stated}
-use Rattle.case_text.specs.declared.stated.Stated.TheVariants.{Nothing, Send, Code, Notification, Act, More}
-use Rattle.case_play.specs.declared.named_item.NamedItem.{NamedItem}
+use Rattle.case_text.specs.declared.stated.Stated.TheVariants as states
 use Rattle.case_play.specs.Outputs.{States, IsFirstWrong}
 use Rattle.case_play.specs.Questions.{IsAnswer}
 use Rattle.case_play.specs.Spots.{Spot, spot_at, IsAsked, PutsOut}
 
 -- an answer is about outputs, and not about the whole scenario
 abbrev pub is_of_outputs : Stated → Bool
-is_of_outputs Nothing = true
-is_of_outputs (Send server digits) = true
-is_of_outputs (Code code text) = true
-is_of_outputs (Notification number text) = true
-is_of_outputs (Act act) = true
-is_of_outputs (More count) = true
+is_of_outputs (states.Output output) = true
 is_of_outputs stated = false
 
 -- one of the answers about outputs must come, or must not come
@@ -101,8 +95,3 @@ pub record IsFirstDifference (s : Scenario) (items : List Item) (line : ℕ) : T
       → Holds s (spot_at items k) other
   pub differs : Holds s (spot_at items place) item → ⊥
   pub named : IsNamed s (spot_at items place) item line
-
--- each item holds, or this is the first that does not, and the line that names it
-abbrev pub IsJudged : Scenario → List Item → Option NamedItem → Type 0
-IsJudged s items None = (k : ℕ) (item : Item) → slice_get items k ≡ Some item → Holds s (spot_at items k) item
-IsJudged s items (Some named) = (first : IsFirstDifference s items named.line) × (first.place ≡ named.place)

@@ -10,8 +10,10 @@ use Rattle.device_requests.specs.declared.answer.Act.{Act as Deed}
 use Rattle.device_machine.specs.declared.output.Output.{Output}
 use Rattle.device_machine.specs.declared.output.Output.TheVariants as outputs
 use Rattle.case_text.specs.declared.answer.Answer.{Answer}
+use Rattle.case_text.specs.declared.stated.OutputStated.{OutputStated}
+use Rattle.case_text.specs.declared.stated.OutputStated.TheVariants.{Nothing, Send, Code, Notification, Act, More}
 use Rattle.case_text.specs.declared.stated.Stated.{Stated}
-use Rattle.case_text.specs.declared.stated.Stated.TheVariants.{Nothing, Send, Code, Notification, Act, More}
+use Rattle.case_text.specs.declared.stated.Stated.TheVariants as states
 use Rattle.case_play.specs.Digits.{Matches}
 
 -- ---- one output
@@ -41,35 +43,36 @@ pub record IsNotification (number : ℕ) (text : List ℕ) (bytes : List ℕ) : 
   pub payload : message.payload ≡ text
 
 -- an answer states that this server is sent this datagram
-abbrev pub StatesSend : Stated → ℕ → List ℕ → Type 0
+abbrev pub StatesSend : OutputStated → ℕ → List ℕ → Type 0
 StatesSend (Send server digits) to bytes = (to ≡ server) × Matches digits bytes
 StatesSend (Code code text) to bytes = IsMessage code text bytes
 StatesSend (Notification number text) to bytes = IsNotification number text bytes
 StatesSend stated to bytes = ⊥
 
 -- an answer states that the device does this
-abbrev pub StatesAct : Stated → Deed → Type 0
+abbrev pub StatesAct : OutputStated → Deed → Type 0
 StatesAct (Act stated) act = act ≡ stated
 StatesAct stated act = ⊥
 
 -- an answer states this output
-abbrev pub StatesOne : Stated → Output → Type 0
+abbrev pub StatesOne : OutputStated → Output → Type 0
 StatesOne stated (outputs.Send server bytes) = StatesSend stated server bytes
 StatesOne stated (outputs.Act act) = StatesAct stated act
 
-abbrev pub StatesThis : Stated → Option Output → Type 0
+abbrev pub StatesThis : OutputStated → Option Output → Type 0
 StatesThis stated None = ⊥
 StatesThis stated (Some output) = StatesOne stated output
 
 -- ---- all outputs of a step
 
--- how many outputs an answer is about
+-- how many outputs an answer is about; one that is not on outputs is about none
+abbrev pub output_width : OutputStated → ℕ
+output_width Nothing = 0
+output_width (More count) = count
+output_width stated = 1
+
 abbrev pub width : Stated → ℕ
-width (Send server digits) = 1
-width (Code code text) = 1
-width (Notification number text) = 1
-width (Act act) = 1
-width (More count) = count
+width (states.Output stated) = output_width stated
 width stated = 0
 
 -- how many outputs the first i answers are about
@@ -78,13 +81,13 @@ width_before answers i = sum_by (λ a. width a.stated) (take i answers)
 
 -- an answer is so of outputs, of which the answers above it are about the first of this number. What is stated of the
 -- whole scenario says nothing of them
+abbrev pub IsOutputSo : OutputStated → List Output → ℕ → Type 0
+IsOutputSo Nothing outputs before = length outputs ≡ before
+IsOutputSo (More count) outputs before = before + count ≤ length outputs
+IsOutputSo stated outputs before = StatesThis stated (slice_get outputs before)
+
 abbrev pub IsSo : Stated → List Output → ℕ → Type 0
-IsSo Nothing outputs before = length outputs ≡ before
-IsSo (Send server digits) outputs before = StatesThis (Send server digits) (slice_get outputs before)
-IsSo (Code code text) outputs before = StatesThis (Code code text) (slice_get outputs before)
-IsSo (Notification number text) outputs before = StatesThis (Notification number text) (slice_get outputs before)
-IsSo (Act act) outputs before = StatesThis (Act act) (slice_get outputs before)
-IsSo (More count) outputs before = before + count ≤ length outputs
+IsSo (states.Output stated) outputs before = IsOutputSo stated outputs before
 IsSo stated outputs before = Unit {0}
 
 -- the answers below a step state its outputs, all of them, in their order

@@ -7,8 +7,9 @@ use Rattle.case_text.specs.declared.answer.Answer.{Answer}
 use Rattle.case_text.specs.declared.item.Item.{Item}
 use Rattle.case_text.specs.declared.item.Part.{Part}
 use Rattle.case_text.specs.declared.item.Part.TheVariants as parts
+use Rattle.case_text.specs.declared.stated.EndStated.TheVariants.{Fault}
 use Rattle.case_text.specs.declared.stated.Stated.{Stated}
-use Rattle.case_text.specs.declared.stated.Stated.TheVariants.{Fault}
+use Rattle.case_text.specs.declared.stated.Stated.TheVariants.{End}
 
 -- the number in the case of a line of its text, which is counted from 1
 abbrev pub number_of : List ℕ → ℕ → Option ℕ
@@ -17,11 +18,12 @@ number_of numbers (suc i) = slice_get numbers i
 
 -- the answer states this fault, at the line of the case that is the text's line
 abbrev pub StatesFault : List ℕ → AsmFault → Stated → Type 0
-StatesFault numbers fault (Fault line cause) = (number_of numbers fault.line ≡ Some line) × (fault.cause ≡ cause)
+StatesFault numbers fault (End (Fault line cause)) =
+    (number_of numbers fault.line ≡ Some line) × (fault.cause ≡ cause)
 StatesFault numbers fault stated = ⊥
 
 abbrev pub is_fault : Stated → Bool
-is_fault (Fault line cause) = true
+is_fault (End (Fault line cause)) = true
 is_fault stated = false
 
 -- an answer to a text that is refused: it states the fault, or a fault that must not come is another one

@@ -15,10 +15,11 @@ use Rattle.case_text.specs.declared.item.Part.{Part}
 use Rattle.case_text.specs.declared.question.Question.{Question}
 use Rattle.case_play.specs.declared.came.Came.{Came}
 use Rattle.case_play.specs.declared.came.Came.TheVariants as came
+use Rattle.case_play.specs.declared.differences.ItemDifference.{ItemDifference}
 use Rattle.case_play.specs.declared.walk.Walk.{Walk}
 use Rattle.case_play.specs.Spots.{Spot, spot_after, IsAsked, PutsOut}
 use Rattle.case_play.specs.Holds.{Hold, IsMet, Holds, IsWrongIn, IsNamed}
-use Rattle.case_play.specs.Came.{RepliesWith}
+use Rattle.case_play.specs.Came.{CameThere, RepliesWith}
 
 -- the last of the devices that have begun has made these steps of its row; before the first one there is none
 abbrev pub IsMachine : Scenario → ℕ → ℕ → Option Device → Type 0
@@ -83,6 +84,11 @@ IsCompared own answers outputs (Some line) =
 abbrev pub IsChecked : Scenario → Spot → Item → Option ℕ → Walk → Type 0
 IsChecked s spot item None walk = Holds s spot item × IsAt s (spot_after spot item.part) walk
 IsChecked s spot item (Some line) walk = (Holds s spot item → ⊥) × IsNamed s spot item line
+
+-- an item holds, and the walk goes on after it; or this line of it is named, and this came of it
+abbrev pub IsTold : Scenario → Spot → Item → Option ItemDifference → Walk → Type 0
+IsTold s spot item None walk = IsChecked s spot item None walk
+IsTold s spot item (Some d) walk = IsChecked s spot item (Some d.line) walk × CameThere s spot item.part d.came
 
 -- what came of a question that is asked of this flat state, at which this is output
 abbrev pub CameAsked : Bool → Question → Machine → List Output → Came → Type 0

@@ -7,7 +7,7 @@ ghost use Rattle.case_play.specs.Ends.{recorded_in, is_of_all, IsEndBelow, EndHo
 use crate::answer_place::AnswerPlace;
 use crate::ends::is_end;
 use crate::recorded::is_of_recorded;
-use case_text::{Answer, Item, Part, Stated};
+use case_text::{Answer, Item, Part, Stated, WrittenStated};
 use fleet_core::Entry;
 use octets::Bytes;
 use scenario_image::Scenario;
@@ -50,22 +50,8 @@ fn is_of_all(stated: &Stated) -> bool
     ensures { result ≡ is_of_all stated.now }
 {
     match stated {
-        Stated::Done(_)
-        | Stated::Stalled { .. }
-        | Stated::Image(_)
-        | Stated::Trace(_)
-        | Stated::Text
-        | Stated::Fault { .. }
-        | Stated::Run
-        | Stated::NotARun(_)
-        | Stated::RecordedFault(_) => true,
-        Stated::Nothing
-        | Stated::Send { .. }
-        | Stated::Code { .. }
-        | Stated::Notification { .. }
-        | Stated::Act(_)
-        | Stated::More(_)
-        | Stated::TextLine(_) => false,
+        Stated::Output(_) | Stated::Written(WrittenStated::TextLine(_)) => false,
+        Stated::End(_) | Stated::Verdict(_) | Stated::Written(_) => true,
     }
 }
 
@@ -108,7 +94,7 @@ fn first_end(
 
 /// Where the first answer of a case stands that is about the whole scenario or a recorded trace, and does not hold;
 /// none where all do. The entries are those of the serial run.
-pub fn first_wrong_end(
+pub(crate) fn first_wrong_end(
     alloc: Global,
     scenario: &Scenario,
     entries: &[Entry],

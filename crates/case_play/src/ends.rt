@@ -3,10 +3,10 @@
 ghost use Rattle.std.specs.Prelude.{◌≡◌, ◌↔◌, ◌++◌, length, IsTrue, IfOk};
 ghost use Rattle.fleet_core.specs.Waiting.{waiting_devices};
 ghost use Rattle.scenario_asm.specs.Canonical.{text_of_scenario};
-ghost use Rattle.case_play.specs.Ends.{IsImageOf, IsTraceOf, IsEnd, line_in, text_in};
+ghost use Rattle.case_play.specs.Ends.{EndsSo, IsEnd, IsImageOf, IsTraceOf, IsWrittenSo, line_in, text_in};
 
 use crate::digits::matches;
-use case_text::{Answer, Digit, Stated};
+use case_text::{Answer, Digit, EndStated, Stated, WrittenStated};
 use fleet_core::{Entry, WriteFault, unfinished, write_entries};
 use scenario_asm::disassemble;
 use scenario_image::{Scenario, save};
@@ -58,28 +58,11 @@ pub(crate) fn is_trace(
 fn put_line(out: &mut Vec<u8>, stated: &Stated) -> Result<(), AllocError>
     ensures { IfOk result (λ u. out.new.items ≡ out.old.items ++ line_in stated.now) }
 {
-    match stated {
-        Stated::TextLine(text) => {
-            out.extend_from_slice(text.as_str().as_bytes())?;
-            out.push(b'\n')?;
-            Ok(())
-        }
-        Stated::Nothing
-        | Stated::Send { .. }
-        | Stated::Code { .. }
-        | Stated::Notification { .. }
-        | Stated::Act(_)
-        | Stated::More(_)
-        | Stated::Done(_)
-        | Stated::Stalled { .. }
-        | Stated::Image(_)
-        | Stated::Trace(_)
-        | Stated::Text
-        | Stated::Fault { .. }
-        | Stated::Run
-        | Stated::NotARun(_)
-        | Stated::RecordedFault(_) => Ok(()),
+    if let Stated::Written(WrittenStated::TextLine(text)) = stated {
+        out.extend_from_slice(text.as_str().as_bytes())?;
+        out.push(b'\n')?;
     }
+    Ok(())
 }
 
 /// The text whose lines are stated.
@@ -102,6 +85,42 @@ fn is_text(alloc: Global, scenario: &Scenario, answers: &[Answer]) -> Result<boo
     Ok(text.as_str().as_bytes() == stated.as_slice())
 }
 
+/// Whether the serial run ends as an answer states.
+fn ends_so(
+    alloc: Global,
+    scenario: &Scenario,
+    entries: &[Entry],
+    stated: &EndStated,
+) -> Result<bool, AllocError>
+    ensures { IfOk result (λ b. IsTrue b ↔ EndsSo scenario.now entries.now stated.now) }
+{
+    match stated {
+        EndStated::Done(count) => is_run(alloc, scenario, entries, *count, &[]),
+        EndStated::Stalled { steps, waiting } => {
+            is_run(alloc, scenario, entries, *steps, waiting.as_slice())
+        }
+        EndStated::Fault { .. } => Ok(false),
+    }
+}
+
+/// Whether what is written of the scenario and its serial run is what an answer states, among those below its item.
+fn is_written_so(
+    alloc: Global,
+    scenario: &Scenario,
+    entries: &[Entry],
+    answers: &[Answer],
+    stated: &WrittenStated,
+) -> Result<bool, AllocError>
+    ensures { IfOk result (λ b. IsTrue b ↔ IsWrittenSo scenario.now entries.now answers.now stated.now) }
+{
+    match stated {
+        WrittenStated::Image(digits) => is_image(alloc, scenario, digits.as_slice()),
+        WrittenStated::Trace(digits) => is_trace(alloc, entries, digits.as_slice()),
+        WrittenStated::Text => is_text(alloc, scenario, answers),
+        WrittenStated::TextLine(_) => Ok(true),
+    }
+}
+
 /// Whether an answer, among those below its item, is so of the scenario and its serial run.
 pub(crate) fn is_end(
     alloc: Global,
@@ -113,21 +132,9 @@ pub(crate) fn is_end(
     ensures { IfOk result (λ b. IsTrue b ↔ IsEnd scenario.now entries.now answers.now stated.now) }
 {
     match stated {
-        Stated::Done(count) => is_run(alloc, scenario, entries, *count, &[]),
-        Stated::Stalled { steps, waiting } => {
-            is_run(alloc, scenario, entries, *steps, waiting.as_slice())
-        }
-        Stated::Image(digits) => is_image(alloc, scenario, digits.as_slice()),
-        Stated::Trace(digits) => is_trace(alloc, entries, digits.as_slice()),
-        Stated::Text => is_text(alloc, scenario, answers),
-        Stated::Fault { .. } => Ok(false),
-        Stated::Run | Stated::NotARun(_) | Stated::RecordedFault(_) => Ok(false),
-        Stated::Nothing
-        | Stated::Send { .. }
-        | Stated::Code { .. }
-        | Stated::Notification { .. }
-        | Stated::Act(_)
-        | Stated::More(_)
-        | Stated::TextLine(_) => Ok(true),
+        Stated::Output(_) => Ok(true),
+        Stated::End(stated) => ends_so(alloc, scenario, entries, stated),
+        Stated::Verdict(_) => Ok(false),
+        Stated::Written(stated) => is_written_so(alloc, scenario, entries, answers, stated),
     }
 }

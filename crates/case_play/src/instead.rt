@@ -7,9 +7,8 @@ ghost use Rattle.case_play.specs.Came.{CameOfEntries, CameOfRecorded, CameBelow}
 use crate::below::recorded_in;
 use crate::came::Came;
 use crate::faults::fault_words;
-use crate::recorded::is_of_verdict;
 use byte_layout::LayoutFault;
-use case_text::{DeviceNumbers, Part, Stated};
+use case_text::{DeviceNumbers, Part, Stated, WrittenStated};
 use fleet_core::{Entry, Verdict, WriteFault, check, read_entries, unfinished, write_entries};
 use lwm2m_values::Text;
 use octets::Bytes;
@@ -62,22 +61,12 @@ fn came_instead(
     ensures { IfOk result (λ x. CameInstead scenario.now entries.now stated.now x) }
 {
     match stated {
-        Stated::Image(_) => image_came(alloc, scenario),
-        Stated::Trace(_) => trace_came(alloc, entries),
-        Stated::Text => text_came(alloc, scenario),
-        Stated::Nothing
-        | Stated::Send { .. }
-        | Stated::Code { .. }
-        | Stated::Notification { .. }
-        | Stated::Act(_)
-        | Stated::More(_)
-        | Stated::Done(_)
-        | Stated::Stalled { .. }
-        | Stated::TextLine(_)
-        | Stated::Fault { .. }
-        | Stated::Run
-        | Stated::NotARun(_)
-        | Stated::RecordedFault(_) => end_came(alloc, scenario, entries),
+        Stated::Written(WrittenStated::Image(_)) => image_came(alloc, scenario),
+        Stated::Written(WrittenStated::Trace(_)) => trace_came(alloc, entries),
+        Stated::Written(WrittenStated::Text) => text_came(alloc, scenario),
+        Stated::Output(_) | Stated::End(_) | Stated::Verdict(_) | Stated::Written(_) => {
+            end_came(alloc, scenario, entries)
+        }
     }
 }
 
@@ -100,10 +89,12 @@ fn came_of_entries(
 ) -> Result<Came, AllocError>
     ensures { IfOk result (λ x. CameOfEntries scenario.now entries.now stated.now x) }
 {
-    if is_of_verdict(stated) {
-        return verdict_came(alloc, scenario, entries);
+    match stated {
+        Stated::Verdict(_) => verdict_came(alloc, scenario, entries),
+        Stated::Output(_) | Stated::End(_) | Stated::Written(_) => {
+            came_instead(alloc, scenario, entries, stated)
+        }
     }
-    came_instead(alloc, scenario, entries, stated)
 }
 
 /// What a recorded trace has in place of what is stated.

@@ -1,12 +1,11 @@
-//! The items of a case, one after another.
+//! Whether an item of a case holds.
 
 ghost use Rattle.std.specs.Prelude.{◌≡◌, ◌↔◌, slice_get, IsTrue, IfOk};
 ghost use Rattle.device_machine.specs.State.{Machine, Shows};
 ghost use Rattle.case_play.specs.Spots.{Spot, spot_after, PutsOut};
-ghost use Rattle.case_play.specs.Holds.{is_of_outputs, has_right, has_wrong, line_or, IsMet, IsAnswered, IsJudged};
-ghost use Rattle.case_play.specs.Walks.{IsAt, IsSomewhere, IsCompared, IsChecked};
+ghost use Rattle.case_play.specs.Holds.{is_of_outputs, has_right, has_wrong, line_or, IsMet, IsAnswered};
+ghost use Rattle.case_play.specs.Walks.{IsAt, IsCompared, IsChecked};
 
-use crate::named_item::NamedItem;
 use crate::outputs::first_unstated;
 use crate::questions::is_answered;
 use crate::walk::Walk;
@@ -19,24 +18,7 @@ use std::alloc::{AllocError, Global};
 fn is_of_outputs(stated: &Stated) -> bool
     ensures { result ≡ is_of_outputs stated.now }
 {
-    match stated {
-        Stated::Nothing
-        | Stated::Send { .. }
-        | Stated::Code { .. }
-        | Stated::Notification { .. }
-        | Stated::Act(_)
-        | Stated::More(_) => true,
-        Stated::Done(_)
-        | Stated::Stalled { .. }
-        | Stated::Image(_)
-        | Stated::Trace(_)
-        | Stated::Text
-        | Stated::TextLine(_)
-        | Stated::Fault { .. }
-        | Stated::Run
-        | Stated::NotARun(_)
-        | Stated::RecordedFault(_) => false,
-    }
+    matches!(stated, Stated::Output(_))
 }
 
 fn has_right(answers: &[Answer]) -> bool
@@ -118,7 +100,7 @@ fn has_answer(walk: &Walk, scenario: &Scenario, part: &Part) -> bool
 }
 
 /// The line to be named where an item does not hold, of which this is output, and after which the walk is.
-fn check_outputs(
+pub(crate) fn check_outputs(
     alloc: Global,
     scenario: &Scenario,
     walk: &Walk,
@@ -133,40 +115,4 @@ fn check_outputs(
         return Ok(Some(item.line));
     }
     wrong_line(alloc, item.line, item.answers.as_slice(), outputs)
-}
-
-/// Goes past an item. It gives the line to be named where the item does not hold.
-fn check_item(
-    alloc: Global,
-    scenario: &Scenario,
-    walk: &mut Walk,
-    item: &Item,
-) -> Result<Option<usize>, AllocError>
-    requires { IsSomewhere scenario.now walk.old }
-    ensures { (spot : Spot) → IsAt scenario.now spot walk.old
-        → IfOk result (λ r. IsChecked scenario.now spot item.now r walk.new) }
-{
-    match walk.pass(alloc, scenario, &item.part)? {
-        None => Ok(Some(item.line)),
-        Some(outputs) => check_outputs(alloc, scenario, walk, item, outputs.as_slice()),
-    }
-}
-
-/// The first item of a case that does not hold in the scenario, and its line, or that of the answer in it that is not
-/// so. None where each item holds.
-pub fn first_difference(
-    alloc: Global,
-    scenario: &Scenario,
-    items: &[Item],
-) -> Result<Option<NamedItem>, AllocError>
-    ensures { IfOk result (λ r. IsJudged scenario.now items.now r) }
-{
-    let mut walk = Walk::new();
-    for (place, item) in items.iter().enumerate() {
-        match check_item(alloc, scenario, &mut walk, item)? {
-            None => {}
-            Some(line) => return Ok(Some(NamedItem { place, line })),
-        }
-    }
-    Ok(None)
 }

@@ -7,9 +7,8 @@ ghost use Rattle.case_play.specs.Ends.{IsFirstOfAll};
 
 use crate::answer_place::AnswerPlace;
 use crate::below::first_wrong_end;
+use crate::differences::{ItemDifference, first_difference};
 use crate::instead::came_below;
-use crate::items::first_difference;
-use crate::outcomes::came_at;
 use crate::refusals::{are_refused, number_of};
 use crate::verdict::Verdict;
 use case_text::{Item, ScenarioCase};
@@ -59,10 +58,7 @@ fn judge_items(alloc: Global, scenario: &Scenario, items: &[Item]) -> Result<Ver
 {
     match first_difference(alloc, scenario, items)? {
         None => judge_ends(alloc, scenario, items),
-        Some(named) => Ok(Verdict::Differs {
-            line: named.line,
-            came: came_at(alloc, scenario, items, named.place)?,
-        }),
+        Some(ItemDifference { line, came }) => Ok(Verdict::Differs { line, came }),
     }
 }
 

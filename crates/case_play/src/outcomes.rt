@@ -1,23 +1,20 @@
 //! What comes of an item.
 
-ghost use Rattle.std.specs.Prelude.{◌≡◌, ℕ, ◌<◌, Some, slice_get, IfOk, OnOk, List};
+ghost use Rattle.std.specs.Prelude.{◌≡◌, IfOk};
 ghost use Rattle.std.specs.Option.{option_copied};
-ghost use Rattle.device_machine.specs.declared.output.Output.{Output};
 ghost use Rattle.device_machine.specs.State.{Machine, Shows};
-ghost use Rattle.case_text.specs.declared.item.Item.{Item};
-ghost use Rattle.case_play.specs.Spots.{Spot, spot_after, spot_at, PutsOut};
-ghost use Rattle.case_play.specs.Holds.{Holds};
+ghost use Rattle.case_play.specs.Spots.{Spot, spot_after, PutsOut};
 ghost use Rattle.case_play.specs.Came.{RepliesWith, CameThere};
-ghost use Rattle.case_play.specs.Walks.{IsAt, IsSomewhere, CameAsked};
+ghost use Rattle.case_play.specs.Walks.{IsAt, CameAsked};
 
 use crate::came::Came;
 use crate::items::is_met;
 use crate::walk::Walk;
-use case_text::{Item, Part, Question};
+use case_text::{Part, Question};
 use device_machine::{Device, Outputs};
 use lwm2m_values::Value;
 use scenario_image::Scenario;
-use std::alloc::{AllocError, Global};
+use std::alloc::AllocError;
 
 /// A copy of a value, if there is one.
 fn copy_of(value: Option<&Value>) -> Result<Option<Value>, AllocError>
@@ -61,7 +58,7 @@ fn came_asked(
 }
 
 /// What came of an item, of which this is output, and after which the walk is.
-fn came_after(
+pub(crate) fn came_after(
     scenario: &Scenario,
     walk: &Walk,
     part: &Part,
@@ -83,59 +80,4 @@ fn came_after(
         | Part::Aside(_)
         | Part::Recorded(_) => Ok(Came::Outputs(outputs)),
     }
-}
-
-/// What came of an item, before which the walk is.
-fn came_there(
-    alloc: Global,
-    scenario: &Scenario,
-    walk: &mut Walk,
-    part: &Part,
-) -> Result<Came, AllocError>
-    requires { IsSomewhere scenario.now walk.old }
-    ensures { (spot : Spot) → IsAt scenario.now spot walk.old
-        → IfOk result (λ x. CameThere scenario.now spot part.now x) }
-{
-    match walk.pass(alloc, scenario, part)? {
-        None => Ok(Came::Nowhere),
-        Some(outputs) => came_after(scenario, walk, part, outputs),
-    }
-}
-
-/// Goes past an item that can be there.
-fn go_past(
-    alloc: Global,
-    scenario: &Scenario,
-    walk: &mut Walk,
-    part: &Part,
-) -> Result<(), AllocError>
-    requires { IsSomewhere scenario.now walk.old }
-    ensures { (spot : Spot) (outputs : List Output) → IsAt scenario.now spot walk.old
-        → PutsOut scenario.now spot part.now outputs
-        → OnOk result (IsAt scenario.now (spot_after spot part.now) walk.new) }
-{
-    let _outputs = walk.pass(alloc, scenario, part)?;
-    Ok(())
-}
-
-/// What came of the item at this place, counted from 0, before which each item holds.
-pub(crate) fn came_at(
-    alloc: Global,
-    scenario: &Scenario,
-    items: &[Item],
-    place: usize,
-) -> Result<Came, AllocError>
-    requires { (k : ℕ) (item : Item) → k < place → slice_get items.now k ≡ Some item
-        → Holds scenario.now (spot_at items.now k) item }
-    ensures { IfOk result (λ x. (item : Item) → slice_get items.now place ≡ Some item
-        → CameThere scenario.now (spot_at items.now place) item.part x) }
-{
-    let mut walk = Walk::new();
-    for (i, item) in items.iter().enumerate() {
-        if i == place {
-            return came_there(alloc, scenario, &mut walk, &item.part);
-        }
-        go_past(alloc, scenario, &mut walk, &item.part)?;
-    }
-    Ok(Came::Nowhere)
 }

@@ -32,7 +32,7 @@ fn is_same_second(second: Option<u64>, stated: Option<u64>) -> bool
 }
 
 /// Whether a device gives the stated answer to what it is asked.
-pub fn is_answered(question: &Question, device: &Device) -> bool
+pub(crate) fn is_answered(question: &Question, device: &Device) -> bool
     ensures { (f : Machine) → Shows device.now f → IsTrue result ↔ IsAnswer question.now f }
 {
     match question {

@@ -4,12 +4,12 @@ ghost use Rattle.std.specs.Prelude.{◌≡◌, ◌↔◌, IsTrue, IfOk};
 ghost use Rattle.fleet_core.specs.Run.{IsRun};
 ghost use Rattle.fleet_core.specs.Verdict.{BreaksAt};
 ghost use Rattle.case_play.specs.Faults.{fault_words};
-ghost use Rattle.case_play.specs.Ends.{StatesRefusal, is_of_verdict, IsOfVerdict, IsOfEntries, IsOfRecorded};
+ghost use Rattle.case_play.specs.Ends.{StatesRefusal, IsOfVerdict, IsOfEntries, IsOfRecorded};
 
 use crate::ends::is_end;
 use crate::faults::fault_words;
 use byte_layout::LayoutFault;
-use case_text::{Answer, Stated};
+use case_text::{Answer, Stated, VerdictStated};
 use fleet_core::{Entry, Verdict, check, read_entries};
 use lwm2m_values::Text;
 use scenario_image::Scenario;
@@ -40,54 +40,19 @@ fn break_at(
     }
 }
 
-/// Whether an answer is the verdict on a recorded trace.
-pub(crate) fn is_of_verdict(stated: &Stated) -> bool
-    ensures { result ≡ is_of_verdict stated.now }
-{
-    match stated {
-        Stated::Run | Stated::NotARun(_) | Stated::RecordedFault(_) => true,
-        Stated::Nothing
-        | Stated::Send { .. }
-        | Stated::Code { .. }
-        | Stated::Notification { .. }
-        | Stated::Act(_)
-        | Stated::More(_)
-        | Stated::Done(_)
-        | Stated::Stalled { .. }
-        | Stated::Image(_)
-        | Stated::Trace(_)
-        | Stated::Text
-        | Stated::TextLine(_)
-        | Stated::Fault { .. } => false,
-    }
-}
-
 /// Whether a verdict is so of entries.
 fn is_verdict(
     alloc: Global,
     scenario: &Scenario,
     entries: &[Entry],
-    stated: &Stated,
+    stated: &VerdictStated,
 ) -> Result<bool, AllocError>
     ensures { IfOk result (λ b. IsTrue b ↔ IsOfVerdict scenario.now entries.now stated.now) }
 {
     match stated {
-        Stated::Run => are_run(alloc, scenario, entries),
-        Stated::NotARun(place) => break_at(alloc, scenario, entries, *place),
-        Stated::Nothing
-        | Stated::Send { .. }
-        | Stated::Code { .. }
-        | Stated::Notification { .. }
-        | Stated::Act(_)
-        | Stated::More(_)
-        | Stated::Done(_)
-        | Stated::Stalled { .. }
-        | Stated::Image(_)
-        | Stated::Trace(_)
-        | Stated::Text
-        | Stated::TextLine(_)
-        | Stated::Fault { .. }
-        | Stated::RecordedFault(_) => Ok(false),
+        VerdictStated::Run => are_run(alloc, scenario, entries),
+        VerdictStated::NotARun(place) => break_at(alloc, scenario, entries, *place),
+        VerdictStated::Fault(_) => Ok(false),
     }
 }
 
@@ -101,10 +66,12 @@ fn is_of_entries(
 ) -> Result<bool, AllocError>
     ensures { IfOk result (λ b. IsTrue b ↔ IsOfEntries scenario.now entries.now answers.now stated.now) }
 {
-    if is_of_verdict(stated) {
-        return is_verdict(alloc, scenario, entries, stated);
+    match stated {
+        Stated::Verdict(stated) => is_verdict(alloc, scenario, entries, stated),
+        Stated::Output(_) | Stated::End(_) | Stated::Written(_) => {
+            is_end(alloc, scenario, entries, answers, stated)
+        }
     }
-    is_end(alloc, scenario, entries, answers, stated)
 }
 
 /// Whether words are those of a fault.
@@ -120,22 +87,8 @@ fn states_refusal(alloc: Global, fault: LayoutFault, stated: &Stated) -> Result<
     ensures { IfOk result (λ b. IsTrue b ↔ StatesRefusal fault stated.now) }
 {
     match stated {
-        Stated::RecordedFault(words) => are_words(alloc, fault, words),
-        Stated::Nothing
-        | Stated::Send { .. }
-        | Stated::Code { .. }
-        | Stated::Notification { .. }
-        | Stated::Act(_)
-        | Stated::More(_)
-        | Stated::Done(_)
-        | Stated::Stalled { .. }
-        | Stated::Image(_)
-        | Stated::Trace(_)
-        | Stated::Text
-        | Stated::TextLine(_)
-        | Stated::Fault { .. }
-        | Stated::Run
-        | Stated::NotARun(_) => Ok(false),
+        Stated::Verdict(VerdictStated::Fault(words)) => are_words(alloc, fault, words),
+        Stated::Output(_) | Stated::End(_) | Stated::Verdict(_) | Stated::Written(_) => Ok(false),
     }
 }
 

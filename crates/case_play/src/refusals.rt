@@ -4,7 +4,7 @@ ghost use Rattle.std.specs.Prelude.{◌≡◌, ◌↔◌, IsTrue};
 ghost use Rattle.case_play.specs.Refusals.{number_of, StatesFault, is_fault, FaultHolds, AllFaultsHold, is_plain};
 ghost use Rattle.case_play.specs.Refusals.{FaultsHold, has_answer, AreRefused};
 
-use case_text::{Answer, Item, Part, Stated};
+use case_text::{Answer, EndStated, Item, Part, Stated};
 use scenario_asm::AsmFault;
 
 /// The number in the case of a line of its text.
@@ -20,7 +20,7 @@ pub(crate) fn number_of(numbers: &[usize], line: usize) -> Option<usize>
 fn is_fault(stated: &Stated) -> bool
     ensures { result ≡ is_fault stated.now }
 {
-    matches!(stated, Stated::Fault { .. })
+    matches!(stated, Stated::End(EndStated::Fault { .. }))
 }
 
 /// Whether an answer states this fault.
@@ -28,25 +28,11 @@ fn states_fault(numbers: &[usize], fault: AsmFault, stated: &Stated) -> bool
     ensures { IsTrue result ↔ StatesFault numbers.now fault stated.now }
 {
     match stated {
-        Stated::Fault { line, cause } => match number_of(numbers, fault.line) {
+        Stated::End(EndStated::Fault { line, cause }) => match number_of(numbers, fault.line) {
             None => false,
             Some(number) => number as u64 == *line && fault.cause == *cause,
         },
-        Stated::Nothing
-        | Stated::Send { .. }
-        | Stated::Code { .. }
-        | Stated::Notification { .. }
-        | Stated::Act(_)
-        | Stated::More(_)
-        | Stated::Done(_)
-        | Stated::Stalled { .. }
-        | Stated::Image(_)
-        | Stated::Trace(_)
-        | Stated::Text
-        | Stated::TextLine(_)
-        | Stated::Run
-        | Stated::NotARun(_)
-        | Stated::RecordedFault(_) => false,
+        Stated::Output(_) | Stated::End(_) | Stated::Verdict(_) | Stated::Written(_) => false,
     }
 }
 

@@ -20,7 +20,8 @@ use Rattle.case_text.specs.declared.line.Line.TheVariants as is
 use Rattle.case_text.specs.declared.numbered.Numbered.{Numbered}
 use Rattle.case_text.specs.declared.scenario_case.ScenarioCase.{ScenarioCase}
 use Rattle.case_text.specs.declared.stated.Stated.{Stated}
-use Rattle.case_text.specs.declared.stated.Stated.TheVariants as states
+use Rattle.case_text.specs.declared.stated.Stated.TheVariants.{Written}
+use Rattle.case_text.specs.declared.stated.WrittenStated.TheVariants as written
 use Rattle.case_text.specs.declared.trial.Trial.{Trial}
 
 -- the title of a case, and the line that it stands in
@@ -44,8 +45,8 @@ check_of_start (x ∷ xs) = begun_by x.line x.number (check_of_start xs)
 
 -- the line of the first `=| LINE` without `=> text` above it
 abbrev pub stray_by : Bool → Stated → ℕ → (Bool → Option ℕ) → Option ℕ
-stray_by announced states.Text n more = more true
-stray_by announced (states.TextLine t) n more = if announced then more true else Some n
+stray_by announced (Written written.Text) n more = more true
+stray_by announced (Written (written.TextLine t)) n more = if announced then more true else Some n
 stray_by announced _ n more = more false
 
 abbrev pub stray : List Answer → Bool → Option ℕ

@@ -12,7 +12,9 @@ use Rattle.scenario_statements.specs.Grammar.{check_of_name, only_number}
 use Rattle.case_text.specs.declared.file_stated.FileStated.{FileStated}
 use Rattle.case_text.specs.declared.file_stated.FileStated.TheVariants as states
 use Rattle.case_text.specs.declared.stated.Stated.{Stated}
-use Rattle.case_text.specs.declared.stated.Stated.TheVariants as states_of_run
+use Rattle.case_text.specs.declared.stated.Stated.TheVariants.{End, Verdict}
+use Rattle.case_text.specs.declared.stated.EndStated.TheVariants.{Done}
+use Rattle.case_text.specs.declared.stated.VerdictStated.TheVariants as verdict
 use Rattle.case_text.specs.BytesWords.{all_digits}
 use Rattle.case_text.specs.Stating.{fault, only_name, stalled}
 
@@ -79,22 +81,22 @@ not_a_run ws = do
   r ← word_by (check_of_name (codes "run")) a.1
   p ← word_by (check_of_name (codes "at")) r.1
   n ← only_number 0 18446744073709551615 p.1
-  Ok (states_of_run.NotARun n)
+  Ok (Verdict (verdict.NotARun n))
 
 -- fault line N CAUSE of the text, fault WORDS of the trace file
 abbrev pub recorded_fault : List (List ℕ) → Result Stated Cause
 recorded_fault ws = do
   w ← first_of ws
-  if bytes_eq w.0 (codes "line") then fault ws else (fault_words ws >>= (λ t. Ok (states_of_run.RecordedFault t)))
+  if bytes_eq w.0 (codes "line") then fault ws else (fault_words ws >>= (λ t. Ok (Verdict (verdict.Fault t))))
 
 -- what is stated, by its first word and those after it
 abbrev pub recorded_stated_by : List ℕ → List (List ℕ) → Result Stated Cause
 recorded_stated_by w ws =
-    if bytes_eq w (codes "run") then (check_of_end ws >>= (λ e. Ok states_of_run.Run))
+    if bytes_eq w (codes "run") then (check_of_end ws >>= (λ e. Ok (Verdict verdict.Run)))
     else (if bytes_eq w (codes "not") then not_a_run ws
     else (if bytes_eq w (codes "fault") then recorded_fault ws
     else (if bytes_eq w (codes "done") then
-    (only_number 0 18446744073709551615 ws >>= (λ n. Ok (states_of_run.Done n)))
+    (only_number 0 18446744073709551615 ws >>= (λ n. Ok (End (Done n))))
     else (if bytes_eq w (codes "stalled") then stalled ws else Err (name_fault w)))))
 
 -- what is stated

@@ -26,7 +26,8 @@ use Rattle.case_text.specs.declared.line.Line.{Line}
 use Rattle.case_text.specs.declared.line.Line.TheVariants as is
 use Rattle.case_text.specs.declared.question.Question.{Question}
 use Rattle.case_text.specs.declared.stated.Stated.{Stated}
-use Rattle.case_text.specs.declared.stated.Stated.TheVariants as states
+use Rattle.case_text.specs.declared.stated.Stated.TheVariants.{Written}
+use Rattle.case_text.specs.declared.stated.WrittenStated.TheVariants.{TextLine}
 use Rattle.case_text.specs.Asking.{question_of}
 use Rattle.case_text.specs.BytesWords.{bytes_of}
 use Rattle.case_text.specs.Digits.{times_of}
@@ -48,7 +49,7 @@ abbrev pub answer_of : CaseKind → Bool → List ℕ → Result Line Why
 answer_of k must_not line = line_or_refusal why.NotAnAnswer (is.Answer must_not) (stated_in k (words line))
 
 abbrev pub text_line_of : List ℕ → Result Line Why
-text_line_of line = of_text (λ t. is.Answer false (states.TextLine t)) (text_from line)
+text_line_of line = of_text (λ t. is.Answer false (Written (TextLine t))) (text_from line)
 
 abbrev pub ask : Bool × Question → Line
 ask q = beside (part.Ask q.0 q.1)

@@ -15,6 +15,9 @@ use Rattle.scenario_statements.specs.Grammar.{check_of_name, only_number}
 use Rattle.case_text.specs.declared.digit.Digit.{Digit}
 use Rattle.case_text.specs.declared.stated.Stated.{Stated}
 use Rattle.case_text.specs.declared.stated.Stated.TheVariants as states
+use Rattle.case_text.specs.declared.stated.OutputStated.TheVariants as output
+use Rattle.case_text.specs.declared.stated.EndStated.TheVariants as end
+use Rattle.case_text.specs.declared.stated.WrittenStated.TheVariants as written
 use Rattle.case_text.specs.Digits.{digits_of}
 
 -- this name, and no further word
@@ -56,21 +59,21 @@ abbrev pub send : List (List ℕ) → Result Stated Cause
 send ws = do
   s ← word_by (number_of 1 65534) ws
   d ← only_digits s.1
-  Ok (states.Send s.0 d)
+  Ok (states.Output (output.Send s.0 d))
 
 -- code C.DD "TEXT"
 abbrev pub code : List (List ℕ) → Result Stated Cause
 code ws = do
   c ← word_by code_of ws
   t ← text_or_none c.1
-  Ok (states.Code c.0 t)
+  Ok (states.Output (output.Code c.0 t))
 
 -- notification N "TEXT"
 abbrev pub notification : List (List ℕ) → Result Stated Cause
 notification ws = do
   n ← word_by (number_of 0 16777215) ws
   t ← only_text n.1
-  Ok (states.Notification n.0 t)
+  Ok (states.Output (output.Notification n.0 t))
 
 -- what a device does, by its name
 abbrev pub act_by : List ℕ → List (List ℕ) → Result Act Cause
@@ -86,14 +89,14 @@ abbrev pub act_at : List (List ℕ) → Result Stated Cause
 act_at ws = do
   w ← first_of ws
   a ← act_by w.0 w.1
-  Ok (states.Act a)
+  Ok (states.Output (output.Act a))
 
 -- N more
 abbrev pub more : List (List ℕ) → Result Stated Cause
 more ws = do
   n ← word_by (number_of 1 100000) ws
   e ← only_name (codes "more") n.1
-  Ok (states.More n.0)
+  Ok (states.Output (output.More n.0))
 
 -- the numbers of devices
 abbrev pub devices_of : List (List ℕ) → Result (List ℕ) Cause
@@ -113,7 +116,7 @@ stalled ws = do
   n ← word_by (number_of 0 18446744073709551615) ws
   w ← word_by (check_of_name (codes "waiting")) n.1
   ds ← some_devices w.1
-  Ok (states.Stalled n.0 ds)
+  Ok (states.End (end.Stalled n.0 ds))
 
 -- why a text is refused, as it is printed
 abbrev pub cause_by : List ℕ → List (List ℕ) → Result Cause Cause
@@ -132,22 +135,22 @@ fault ws = do
   n ← word_by (number_of 1 18446744073709551615) l.1
   w ← first_of n.1
   c ← cause_by w.0 w.1
-  Ok (states.Fault n.0 c)
+  Ok (states.End (end.Fault n.0 c))
 
 -- what is stated of a scenario as a whole, by its first word and those after it
 abbrev pub whole_by : List ℕ → List (List ℕ) → Result Stated Cause
 whole_by w ws =
-    if bytes_eq w (codes "done") then (only_number 0 18446744073709551615 ws >>= (λ n. Ok (states.Done n)))
+    if bytes_eq w (codes "done") then (only_number 0 18446744073709551615 ws >>= (λ n. Ok (states.End (end.Done n))))
     else (if bytes_eq w (codes "stalled") then stalled ws
-    else (if bytes_eq w (codes "image") then (only_digits ws >>= (λ d. Ok (states.Image d)))
-    else (if bytes_eq w (codes "trace") then (only_digits ws >>= (λ d. Ok (states.Trace d)))
-    else (if bytes_eq w (codes "text") then (check_of_end ws >>= (λ e. Ok states.Text))
+    else (if bytes_eq w (codes "image") then (only_digits ws >>= (λ d. Ok (states.Written (written.Image d))))
+    else (if bytes_eq w (codes "trace") then (only_digits ws >>= (λ d. Ok (states.Written (written.Trace d))))
+    else (if bytes_eq w (codes "text") then (check_of_end ws >>= (λ e. Ok (states.Written written.Text)))
     else (if bytes_eq w (codes "fault") then fault ws else Err (name_fault w))))))
 
 -- what is stated, by its first word and those after it
 abbrev pub stated_by : List ℕ → List (List ℕ) → Result Stated Cause
 stated_by w ws =
-    if bytes_eq w (codes "nothing") then (check_of_end ws >>= (λ e. Ok states.Nothing))
+    if bytes_eq w (codes "nothing") then (check_of_end ws >>= (λ e. Ok (states.Output output.Nothing)))
     else (if bytes_eq w (codes "send") then send ws
     else (if bytes_eq w (codes "code") then code ws
     else (if bytes_eq w (codes "notification") then notification ws

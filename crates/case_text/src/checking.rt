@@ -16,7 +16,7 @@ use crate::item::{Item, Part};
 use crate::line::Line;
 use crate::numbered::Numbered;
 use crate::scenario_case::ScenarioCase;
-use crate::stated::Stated;
+use crate::stated::{Stated, WrittenStated};
 use crate::trial::Trial;
 
 /// Refuses lines of which none begins a case, or where something but remarks stands before the first.
@@ -52,8 +52,8 @@ fn stray(answers: &[Answer]) -> Option<usize>
     let mut announced = false;
     for answer in answers {
         match &answer.stated {
-            Stated::Text => announced = true,
-            Stated::TextLine(_) => {
+            Stated::Written(WrittenStated::Text) => announced = true,
+            Stated::Written(WrittenStated::TextLine(_)) => {
                 if !announced {
                     return Some(answer.line);
                 }

@@ -10,7 +10,7 @@ ghost use Rattle.case_text.specs.FileStating.{recorded_stated_of, phrase};
 use crate::bytes_words::digits_of_line;
 use crate::file_stated::FileStated;
 use crate::marks::checked;
-use crate::stated::Stated;
+use crate::stated::{EndStated, Stated, VerdictStated};
 use crate::stating::{after_name, fault, only_name, only_number, stalled};
 use lwm2m_values::Text;
 use scenario_words::{Cause, end, first_word, is_name, name_fault, natural, next_word};
@@ -131,7 +131,7 @@ fn not_a_run(alloc: Global, line: &[u8]) -> Result<Stated, Cause>
     let line = after_name(alloc, "run", line)?;
     let line = after_name(alloc, "at", line)?;
     let entry = only_number(line, 0, u64::MAX)?;
-    Ok(Stated::NotARun(entry))
+    Ok(Stated::Verdict(VerdictStated::NotARun(entry)))
 }
 
 /// A fault of the text, whose words begin with `line`, or of the trace file.
@@ -143,7 +143,7 @@ fn recorded_fault(alloc: Global, line: &[u8]) -> Result<Stated, Cause>
         return fault(alloc, line);
     }
     let words = fault_words(alloc, line)?;
-    Ok(Stated::RecordedFault(words))
+    Ok(Stated::Verdict(VerdictStated::Fault(words)))
 }
 
 /// What is stated of a recorded trace, by its first word and the line after it.
@@ -152,14 +152,14 @@ fn recorded_stated_by(alloc: Global, word: &[u8], line: &[u8]) -> Result<Stated,
 {
     if is_name(word, "run") {
         end(line)?;
-        Ok(Stated::Run)
+        Ok(Stated::Verdict(VerdictStated::Run))
     } else if is_name(word, "not") {
         not_a_run(alloc, line)
     } else if is_name(word, "fault") {
         recorded_fault(alloc, line)
     } else if is_name(word, "done") {
         let steps = only_number(line, 0, u64::MAX)?;
-        Ok(Stated::Done(steps))
+        Ok(Stated::End(EndStated::Done(steps)))
     } else if is_name(word, "stalled") {
         stalled(alloc, line)
     } else {

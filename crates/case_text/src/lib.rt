@@ -54,6 +54,6 @@ pub use numbers::{DeviceNumbers, LineNumbers};
 pub use pieces::read_digits;
 pub use question::Question;
 pub use scenario_case::ScenarioCase;
-pub use stated::Stated;
+pub use stated::{EndStated, OutputStated, Stated, VerdictStated, WrittenStated};
 pub use stating::read_stated;
 pub use trial::{Made, Trial, Trials};

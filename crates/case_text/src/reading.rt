@@ -9,8 +9,10 @@ ghost use Rattle.scenario_statements.specs.declared.statement.Statement.TheVaria
 ghost use Rattle.scenario_statements.specs.Acks.{ack_datagram};
 ghost use Rattle.scenario_statements.specs.Grammar.{statement_of};
 ghost use Rattle.scenario_statements.specs.Spelling.{line_of};
-ghost use Rattle.case_text.specs.Lines.{ack_event, answer_of, aside_of, asking_of, beside, counted_of, event_by, event_of};
-ghost use Rattle.case_text.specs.Lines.{event_or, is_marked, line_in_text, marked_of, part_by, part_of, question_line_of};
+ghost use Rattle.case_text.specs.Lines.{ack_event, answer_of, aside_of, asking_of, beside, counted_of, event_by};
+ghost use Rattle.case_text.specs.Lines.{event_of};
+ghost use Rattle.case_text.specs.Lines.{event_or, is_marked, line_in_text, marked_of, part_by, part_of};
+ghost use Rattle.case_text.specs.Lines.{question_line_of};
 ghost use Rattle.case_text.specs.Lines.{recorded_of, stated_in, text_line_of, text_of, text_part, unmarked_of};
 ghost use Rattle.case_text.specs.Marks.{Finds};
 
@@ -24,7 +26,7 @@ use crate::item::Part;
 use crate::line::Line;
 use crate::marks::{begins, behind, checked, headed, text_from, unless_memory};
 use crate::pieces::times_of;
-use crate::stated::Stated;
+use crate::stated::{Stated, WrittenStated};
 use crate::stating::read_stated;
 use device_machine::Event;
 use lwm2m_values::Text;
@@ -58,7 +60,7 @@ fn text_line_of(alloc: Global, line: &[u8]) -> Result<Line, Why>
     let text = text_from(alloc, line)?;
     Ok(Line::Answer {
         must_not: false,
-        stated: Stated::TextLine(text),
+        stated: Stated::Written(WrittenStated::TextLine(text)),
     })
 }
 

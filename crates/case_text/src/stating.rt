@@ -11,7 +11,7 @@ ghost use Rattle.case_text.specs.Stating.{stated_by, stated_of, text_or_none, wh
 use crate::digits::Digits;
 use crate::numbers::DeviceNumbers;
 use crate::pieces::read_digits;
-use crate::stated::Stated;
+use crate::stated::{EndStated, OutputStated, Stated, WrittenStated};
 use device_machine::Act;
 use lwm2m_values::Text;
 use scenario_words::{Cause, end, first_word, is_name, name_fault, natural, next_word, quoted};
@@ -102,10 +102,10 @@ fn send(alloc: Global, line: &[u8]) -> Result<Stated, Cause>
 {
     let (server, line) = natural(line, 1, 65534)?;
     let digits = only_digits(alloc, line)?;
-    Ok(Stated::Send {
+    Ok(Stated::Output(OutputStated::Send {
         server: server as u16,
         digits,
-    })
+    }))
 }
 
 fn code(alloc: Global, line: &[u8]) -> Result<Stated, Cause>
@@ -114,7 +114,7 @@ fn code(alloc: Global, line: &[u8]) -> Result<Stated, Cause>
     let (word, line) = first_word(line)?;
     let code = code_of(word)?;
     let text = text_or_none(alloc, line)?;
-    Ok(Stated::Code { code, text })
+    Ok(Stated::Output(OutputStated::Code { code, text }))
 }
 
 fn notification(alloc: Global, line: &[u8]) -> Result<Stated, Cause>
@@ -122,10 +122,10 @@ fn notification(alloc: Global, line: &[u8]) -> Result<Stated, Cause>
 {
     let (number, line) = natural(line, 0, 16_777_215)?;
     let text = only_text(alloc, line)?;
-    Ok(Stated::Notification {
+    Ok(Stated::Output(OutputStated::Notification {
         number: number as u32,
         text,
-    })
+    }))
 }
 
 fn act_by(alloc: Global, word: &[u8], line: &[u8]) -> Result<Act, Cause>
@@ -156,7 +156,7 @@ fn act(alloc: Global, line: &[u8]) -> Result<Stated, Cause>
 {
     let (word, line) = first_word(line)?;
     let act = act_by(alloc, word, line)?;
-    Ok(Stated::Act(act))
+    Ok(Stated::Output(OutputStated::Act(act)))
 }
 
 fn more(alloc: Global, line: &[u8]) -> Result<Stated, Cause>
@@ -164,7 +164,7 @@ fn more(alloc: Global, line: &[u8]) -> Result<Stated, Cause>
 {
     let (count, line) = natural(line, 1, 100_000)?;
     only_name(alloc, "more", line)?;
-    Ok(Stated::More(count as u32))
+    Ok(Stated::Output(OutputStated::More(count as u32)))
 }
 
 /// The numbers of devices that a line has.
@@ -194,7 +194,7 @@ pub(crate) fn stalled(alloc: Global, line: &[u8]) -> Result<Stated, Cause>
     let (steps, line) = natural(line, 0, u64::MAX)?;
     let line = after_name(alloc, "waiting", line)?;
     let waiting = some_devices(alloc, line)?;
-    Ok(Stated::Stalled { steps, waiting })
+    Ok(Stated::End(EndStated::Stalled { steps, waiting }))
 }
 
 fn cause_by(alloc: Global, word: &[u8], line: &[u8]) -> Result<Cause, Cause>
@@ -230,10 +230,10 @@ pub(crate) fn fault(alloc: Global, line: &[u8]) -> Result<Stated, Cause>
     let (number, line) = natural(line, 1, u64::MAX)?;
     let (word, line) = first_word(line)?;
     let cause = cause_by(alloc, word, line)?;
-    Ok(Stated::Fault {
+    Ok(Stated::End(EndStated::Fault {
         line: number,
         cause,
-    })
+    }))
 }
 
 /// What is stated of a scenario as a whole, by its first word and the line after it.
@@ -242,18 +242,18 @@ fn whole_by(alloc: Global, word: &[u8], line: &[u8]) -> Result<Stated, Cause>
 {
     if is_name(word, "done") {
         let steps = only_number(line, 0, u64::MAX)?;
-        Ok(Stated::Done(steps))
+        Ok(Stated::End(EndStated::Done(steps)))
     } else if is_name(word, "stalled") {
         stalled(alloc, line)
     } else if is_name(word, "image") {
         let digits = only_digits(alloc, line)?;
-        Ok(Stated::Image(digits))
+        Ok(Stated::Written(WrittenStated::Image(digits)))
     } else if is_name(word, "trace") {
         let digits = only_digits(alloc, line)?;
-        Ok(Stated::Trace(digits))
+        Ok(Stated::Written(WrittenStated::Trace(digits)))
     } else if is_name(word, "text") {
         end(line)?;
-        Ok(Stated::Text)
+        Ok(Stated::Written(WrittenStated::Text))
     } else if is_name(word, "fault") {
         fault(alloc, line)
     } else {
@@ -267,7 +267,7 @@ fn stated_by(alloc: Global, word: &[u8], line: &[u8]) -> Result<Stated, Cause>
 {
     if is_name(word, "nothing") {
         end(line)?;
-        Ok(Stated::Nothing)
+        Ok(Stated::Output(OutputStated::Nothing))
     } else if is_name(word, "send") {
         send(alloc, line)
     } else if is_name(word, "code") {

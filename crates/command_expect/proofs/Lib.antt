@@ -1,5 +1,3 @@
-pub mod Faults
-pub mod Files
 pub mod Built
+pub mod Judged
 pub mod Refused
-pub mod Again

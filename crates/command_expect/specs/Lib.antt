@@ -1,10 +1,3 @@
-pub mod Reading
 pub mod Choice
-pub mod Judging
-pub mod Report
-pub mod Tap
-pub mod Objects
-pub mod InJson
-pub mod Junit
-pub mod Answers
+pub mod Told
 pub mod Expect

@@ -1,28 +1,17 @@
 //! What the program answers to `test --on`. Nothing is written or printed here.
 ghost use Rattle.std.specs.Prelude.{◌≡◌, ◌≢◌, [], true, false, map, option_map, IfErr, IfOk, Some};
-ghost use Rattle.std.specs.String.{string_bytes};
-ghost use Rattle.command_files.specs.Answers.{files_of};
-ghost use Rattle.command_files.specs.declared.fault.Fault.TheVariants.{NoDevice, NoSuchCase};
-ghost use Rattle.command_expect.specs.Answers.{IsReportOn, are_several, junit_files, printed_report};
-ghost use Rattle.command_expect.specs.Choice.{HasDevice, choice};
-ghost use Rattle.command_expect.specs.Expect.{IsExpectDone, IsExpectFault};
+ghost use Rattle.command_files.specs.declared.fault.Fault.TheVariants.{NoDevice};
+ghost use Rattle.command_expect.specs.Choice.{HasDevice, chosen_cases};
+ghost use Rattle.command_expect.specs.Expect.{IsExpectDone, IsExpectFault, IsReportOn};
 
-use crate::choice::chosen_cases;
-use crate::expected_file::ExpectedFile;
-use crate::in_json::json_report;
-use crate::judged_case::JudgedCase;
 use crate::judging::{has_device, judge_all};
-use crate::junit::junit_text;
-use crate::reading::read_expected;
-use crate::report::{report, status_of};
-use crate::tap::tap_text;
 use command_files::files::Files;
-use command_files::{Answer, Fault, NewFile, Refusal, Why};
+use command_files::{Answer, Fault, Refusal, Why};
 use command_sources::load_source;
-use octets::Bytes;
+use expectations::ExpectedCase;
 use scenario_image::Scenario;
 use std::alloc::{AllocError, Global};
-use test_reports::ReportForm;
+use test_reports::{CaseFile, ReportForm, chosen_cases, no_such_case, read_files, report_answer};
 
 /// `test FILE .. --on IMAGE`: whether servers send what the files expect, as the rows of the scenario IMAGE (image or
 /// text) have it. Each case is judged for each device, or for the one that is asked for; with words, the cases whose
@@ -45,7 +34,7 @@ pub fn expect<'a, F: Files>(
     ensures refused { IfErr result (λ r. IsExpectFault (F.holds files.now) (F.fails files.now)
         (map (λ p. p.now) paths.now) image.entry.now device (option_map (λ w. w.now) only.entry) r.fault) }
 {
-    let read = read_expected(alloc, paths, files)?;
+    let read = read_files::<F, ExpectedCase>(alloc, paths, files)?;
     if is_none_chosen(alloc, only, read.as_slice())? {
         return Err(no_such_case(only));
     }
@@ -70,25 +59,13 @@ pub fn expect<'a, F: Files>(
 fn is_none_chosen(
     alloc: Global,
     only: Option<&str>,
-    files: &[ExpectedFile],
+    files: &[CaseFile<'_, ExpectedCase>],
 ) -> Result<bool, AllocError>
-    ensures none { IfOk result (λ b. b ≡ true → choice (option_map (λ w. w.now) only.entry) files.now ≡ []) }
-    ensures some { IfOk result (λ b. b ≡ false → choice (option_map (λ w. w.now) only.entry) files.now ≢ []) }
+    ensures none { IfOk result (λ b. b ≡ true → chosen_cases (option_map (λ w. w.now) only.entry) files.now ≡ []) }
+    ensures some { IfOk result (λ b. b ≡ false → chosen_cases (option_map (λ w. w.now) only.entry) files.now ≢ []) }
 {
     let chosen = chosen_cases(alloc, only, files)?;
     Ok(chosen.is_empty())
-}
-
-/// The refusal of words with which no title begins.
-fn no_such_case<'a>(only: Option<&'a str>) -> Refusal<'a>
-    ensures fault { result.fault ≡ NoSuchCase }
-    ensures about { option_map (λ w. w.now) result.about ≡ option_map (λ w. w.now) only.entry }
-{
-    Refusal {
-        fault: Fault::NoSuchCase,
-        about: only,
-        why: Why::Named,
-    }
 }
 
 /// The refusal of a scenario that lacks the device that is asked for.
@@ -103,19 +80,12 @@ fn no_device<'a>(image: &'a str) -> Refusal<'a>
     }
 }
 
-/// Whether there is more than one file.
-fn are_several(files: &[ExpectedFile]) -> bool
-    ensures { result ≡ are_several files.now }
-{
-    files.len() > 1
-}
-
 /// The report on the cases of these files for the devices of a scenario, or for the one that is asked for; with words,
 /// on the cases whose titles begin with them.
 #[tactic(auto, using(crate::proofs::Built::reported))]
 pub fn report_on<'a>(
     alloc: Global,
-    files: &[ExpectedFile],
+    files: &[CaseFile<'_, ExpectedCase>],
     scenario: &Scenario,
     device: Option<u16>,
     only: Option<&str>,
@@ -127,48 +97,6 @@ pub fn report_on<'a>(
         (option_map (λ p. p.now) junit_path.entry) files.now device scenario.now) }
 {
     let chosen = chosen_cases(alloc, only, files)?;
-    let judged = judge_all(alloc, chosen.as_slice(), scenario, device)?;
-    let text = printed(alloc, form, are_several(files), judged.as_slice())?;
-    let file = junit_file(alloc, junit_path, files, judged.as_slice())?;
-    Ok(Answer {
-        status: status_of(judged.as_slice()),
-        text,
-        file,
-    })
-}
-
-/// What is printed: the report, the form of TAP, or JSON Lines.
-fn printed(
-    alloc: Global,
-    form: ReportForm,
-    several: bool,
-    all: &[JudgedCase],
-) -> Result<String, AllocError>
-    ensures { IfOk result (λ text. string_bytes text ≡ printed_report form several all.now) }
-{
-    match form {
-        ReportForm::Text => report(alloc, several, all),
-        ReportForm::Tap => tap_text(alloc, all),
-        ReportForm::JsonLines => json_report(alloc, all),
-    }
-}
-
-/// The JUnit report, if it has a path.
-fn junit_file<'a>(
-    alloc: Global,
-    path: Option<&'a str>,
-    files: &[ExpectedFile],
-    all: &[JudgedCase],
-) -> Result<Option<NewFile<'a>>, AllocError>
-    ensures { IfOk result (λ file. files_of file
-        ≡ junit_files (option_map (λ p. p.now) path.entry) files.now all.now) }
-{
-    let Some(path) = path else {
-        return Ok(None);
-    };
-    let text = junit_text(alloc, are_several(files), files, all)?;
-    Ok(Some(NewFile {
-        path,
-        bytes: Bytes::from_vec(text.into_bytes()),
-    }))
+    let all = judge_all(alloc, chosen.as_slice(), scenario, device)?;
+    report_answer(alloc, form, junit_path, files, all.as_slice())
 }

@@ -1,14 +1,19 @@
-//! Cases that are judged for devices, one after another.
-ghost use Rattle.std.specs.Prelude.{◌≡◌, ◌<◌, ◌++◌, ◌∷◌, [], true, false, length, map, IfOk, OnOk};
-ghost use Rattle.command_expect.specs.Choice.{HasDevice, case_of_file, cases_of_device, cases_of_devices, devices_of};
+//! Cases that are judged for devices, one after another, and what is told of them.
+ghost use Rattle.std.specs.Prelude.{◌≡◌, ◌<◌, ◌++◌, ◌∷◌, [], List, true, false, length, map, option_map, IfOk};
+ghost use Rattle.std.specs.Prelude.{OnOk};
+ghost use Rattle.scenario_image.specs.Scenario.{Scenario};
+ghost use Rattle.expectations.specs.Arrivals.{arrivals_of, end_of_row};
+ghost use Rattle.expectations.specs.Laying.{IsVerdict};
+ghost use Rattle.test_reports.specs.Choice.{case_of_file};
+ghost use Rattle.test_reports.specs.Told.{AreEach, told_difference};
+ghost use Rattle.command_expect.specs.Choice.{CaseOfDevice, HasDevice, cases_of_device, cases_of_devices, devices_of};
 ghost use Rattle.command_expect.specs.Choice.{devices_to};
-ghost use Rattle.command_expect.specs.Judging.{AreRight, case_of_device};
+ghost use Rattle.command_expect.specs.Told.{IsToldOn, difference_at, missed_line};
 
-use crate::chosen_case::ChosenCase;
-use crate::judged_case::JudgedCase;
-use expectations::{arrivals_of, end_of_row, judge};
+use expectations::{ExpectedCase, Verdict, arrivals_of, end_of_row, judge};
 use scenario_image::Scenario;
 use std::alloc::{AllocError, Global};
+use test_reports::{CaseReport, ChosenCase, Difference, Instead, line_at};
 
 /// Whether the scenario has the device that is asked for.
 pub(crate) fn has_device(scenario: &Scenario, device: Option<u16>) -> bool
@@ -21,27 +26,73 @@ pub(crate) fn has_device(scenario: &Scenario, device: Option<u16>) -> bool
     }
 }
 
-/// Adds a case that was judged.
-fn add<'a>(all: &mut Vec<JudgedCase<'a>>, judged: JudgedCase<'a>) -> Result<(), AllocError>
-    ensures { OnOk result (all.new.items ≡ all.old.items ++ judged.entry ∷ []) }
+/// The line of the file that is not met by this verdict on a case, if the case is not met.
+fn missed_line(case: &ExpectedCase, verdict: Verdict) -> Option<usize>
+    ensures { result ≡ missed_line case.now verdict }
 {
-    all.push(judged)?;
+    match verdict {
+        Verdict::Met => None,
+        Verdict::Missed { place } => match case.lines.as_slice().get(place) {
+            Some(expectation) => Some(expectation.line),
+            None => Some(case.line),
+        },
+    }
+}
+
+fn difference_at<'a>(
+    chosen: &ChosenCase<'a, ExpectedCase>,
+    line: Option<usize>,
+) -> Option<Difference<'a>>
+    ensures { option_map told_difference result ≡ difference_at (case_of_file chosen.now) line }
+{
+    match line {
+        None => None,
+        Some(line) => Some(Difference {
+            line: line as u128,
+            stated: line_at(chosen.text, line as u128),
+            instead: Instead::Nothing,
+        }),
+    }
+}
+
+/// What is told of a case by the verdict on it for a device.
+#[tactic(auto, using(crate::proofs::Judged::told))]
+fn told<'a>(chosen: &ChosenCase<'a, ExpectedCase>, device: u16, verdict: Verdict) -> CaseReport<'a>
+    ensures { (s : Scenario) → IsVerdict verdict chosen.now.case.now.lines (arrivals_of s device) (end_of_row s device)
+        → IsToldOn s (device, case_of_file chosen.now) result }
+{
+    let line = missed_line(chosen.case, verdict);
+    let difference = difference_at(chosen, line);
+    CaseReport {
+        file: chosen.file,
+        path: chosen.path,
+        title: chosen.case.title.as_str(),
+        device: Some(device),
+        difference,
+    }
+}
+
+/// Adds what is told of a case.
+fn add<'a>(all: &mut Vec<CaseReport<'a>>, report: CaseReport<'a>) -> Result<(), AllocError>
+    ensures { OnOk result (all.new.items ≡ all.old.items ++ report.entry ∷ []) }
+{
+    all.push(report)?;
     Ok(())
 }
 
-/// Adds the verdict on each of the cases for a device, in their order.
+/// Adds what is told of each of the cases for a device, in their order.
+#[tactic(auto, using(crate::proofs::Judged::none_yet, crate::proofs::Judged::all_judged))]
 fn judge_device<'a>(
     alloc: Global,
-    all: &mut Vec<JudgedCase<'a>>,
-    cases: &[ChosenCase<'a>],
+    all: &mut Vec<CaseReport<'a>>,
+    cases: &[ChosenCase<'a, ExpectedCase>],
     scenario: &Scenario,
     device: u16,
 ) -> Result<(), AllocError>
-    requires row { device < length scenario.now.rows }
-    requires right { AreRight scenario.now all.old.items }
-    ensures are { OnOk result (map case_of_device all.new.items
-        ≡ map case_of_device all.old.items ++ cases_of_device (map case_of_file cases.now) device) }
-    ensures right { OnOk result (AreRight scenario.now all.new.items) }
+    requires { device < length scenario.now.rows }
+    ensures { (before : List CaseOfDevice) → AreEach (IsToldOn scenario.now) before all.old.items
+        → OnOk result (AreEach (IsToldOn scenario.now)
+        (before ++ cases_of_device (map case_of_file cases.now) device) all.new.items) }
 {
     let arrivals = arrivals_of(alloc, scenario, device)?;
     let end = end_of_row(scenario, device);
@@ -52,52 +103,46 @@ fn judge_device<'a>(
             arrivals.as_slice(),
             end,
         )?;
-        add(
-            all,
-            JudgedCase {
-                chosen: *chosen,
-                device,
-                verdict,
-            },
-        )?;
+        add(all, told(chosen, device, verdict))?;
     }
     Ok(())
 }
 
-/// Adds the verdict on each of the cases for each device, in their order.
+/// What is told of each of the cases for each device, in their order.
+#[tactic(auto, using(crate::proofs::Judged::no_device))]
 fn judge_devices<'a>(
     alloc: Global,
-    all: &mut Vec<JudgedCase<'a>>,
-    cases: &[ChosenCase<'a>],
+    cases: &[ChosenCase<'a, ExpectedCase>],
     scenario: &Scenario,
-) -> Result<(), AllocError>
-    requires right { AreRight scenario.now all.old.items }
-    ensures are { OnOk result (map case_of_device all.new.items ≡ map case_of_device all.old.items
-        ++ cases_of_devices (map case_of_file cases.now) (devices_to (length scenario.now.rows))) }
-    ensures right { OnOk result (AreRight scenario.now all.new.items) }
-{
-    for device in 0..scenario.rows() {
-        judge_device(alloc, all, cases, scenario, device as u16)?;
-    }
-    Ok(())
-}
-
-/// The verdict on each of the cases for the device that is asked for, or for each device.
-pub(crate) fn judge_all<'a>(
-    alloc: Global,
-    cases: &[ChosenCase<'a>],
-    scenario: &Scenario,
-    device: Option<u16>,
-) -> Result<Vec<JudgedCase<'a>>, AllocError>
-    requires { HasDevice device scenario.now }
-    ensures are { IfOk result (λ v. map case_of_device v.items
-        ≡ cases_of_devices (map case_of_file cases.now) (devices_of device scenario.now)) }
-    ensures right { IfOk result (λ v. AreRight scenario.now v.items) }
+) -> Result<Vec<CaseReport<'a>>, AllocError>
+    ensures { IfOk result (λ v. AreEach (IsToldOn scenario.now)
+        (cases_of_devices (map case_of_file cases.now) (devices_to (length scenario.now.rows))) v.items) }
 {
     let mut all = Vec::new(alloc);
-    match device {
-        None => judge_devices(alloc, &mut all, cases, scenario)?,
-        Some(device) => judge_device(alloc, &mut all, cases, scenario, device)?,
+    for device in 0..scenario.rows() {
+        judge_device(alloc, &mut all, cases, scenario, device as u16)?;
     }
     Ok(all)
+}
+
+/// What is told of each of the cases for the device that is asked for, or for each device.
+#[tactic(auto, using(crate::proofs::Judged::one_device))]
+pub(crate) fn judge_all<'a>(
+    alloc: Global,
+    cases: &[ChosenCase<'a, ExpectedCase>],
+    scenario: &Scenario,
+    device: Option<u16>,
+) -> Result<Vec<CaseReport<'a>>, AllocError>
+    requires { HasDevice device scenario.now }
+    ensures { IfOk result (λ v. AreEach (IsToldOn scenario.now)
+        (cases_of_devices (map case_of_file cases.now) (devices_of device scenario.now)) v.items) }
+{
+    match device {
+        None => judge_devices(alloc, cases, scenario),
+        Some(device) => {
+            let mut all = Vec::new(alloc);
+            judge_device(alloc, &mut all, cases, scenario, device)?;
+            Ok(all)
+        }
+    }
 }

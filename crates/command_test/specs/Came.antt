@@ -7,43 +7,15 @@ use Rattle.coap_codec.specs.Reading.{reading_of}
 use Rattle.lwm2m_values.specs.declared.value.Value.{Value}
 use Rattle.device_machine.specs.declared.output.Output.{Output}
 use Rattle.device_machine.specs.declared.output.Output.TheVariants.{Send, Act}
-use Rattle.scenario_words.specs.CauseWords.{cause_words}
 use Rattle.scenario_words.specs.HexWord.{hex_word}
 use Rattle.scenario_words.specs.ValueWords.{spelling_of_value}
-use Rattle.scenario_words.specs.Words.{ended_line}
-use Rattle.scenario_words.specs.declared.cause.Cause.{Cause}
 use Rattle.message_words.specs.Text.{reading_text}
 use Rattle.case_play.specs.EntryWords.{output_words}
 use Rattle.case_play.specs.declared.came.Came.{Came}
 use Rattle.case_play.specs.declared.came.Came.TheVariants as came
-use Rattle.test_reports.specs.Escaping.{in_quotes}
-use Rattle.command_test.specs.declared.came.Form.{Form}
-use Rattle.command_test.specs.declared.came.Form.TheVariants.{Lines, Items}
+use Rattle.test_reports.specs.declared.instead.CameAnswer.{CameAnswer}
 
--- a line of an answer: `came ANSWER`, or an item of a list in YAML
-abbrev pub answer_line : Form → List ℕ → List ℕ
-answer_line Lines words = ended_line (codes "came " ++ words)
-answer_line Items words = ended_line (codes "    - " ++ in_quotes words)
-
--- what a datagram says
-abbrev pub said_line : List ℕ → List ℕ
-said_line bytes = ended_line (codes "    " ++ reading_text (reading_of bytes))
-
-abbrev pub said_below : Form → Output → List ℕ
-said_below Lines (Send server bytes) = said_line bytes
-said_below Lines (Act act) = []
-said_below Items output = []
-
--- the lines of an output; below a datagram stands what it says
-abbrev pub output_lines : Form → Output → List ℕ
-output_lines form output = answer_line form (output_words output) ++ said_below form output
-
--- those of outputs, or that there are none
-abbrev pub all_output_lines : Form → List Output → List ℕ
-all_output_lines form [] = answer_line form (codes "nothing")
-all_output_lines form (output ∷ outputs) = flat_map (output_lines form) (output ∷ outputs)
-
--- ---- other answers
+-- ---- words
 
 abbrev pub value_or_none : Option Value → List ℕ
 value_or_none None = codes "none"
@@ -67,10 +39,6 @@ counts_words classes devices steps =
     codes "ok " ++ decimal classes ++ codes " classes " ++ decimal devices ++ codes " devices " ++ decimal steps
     ++ codes " steps"
 
--- why the text of a case is refused, in this line below the title
-abbrev pub refusal_words : ℕ → Cause → List ℕ
-refusal_words line cause = codes "fault line " ++ decimal line ++ codes " " ++ cause_words cause
-
 -- the words of an answer that stands in one line; of others those of their first line
 abbrev pub came_words : Came → List ℕ
 came_words came.Nowhere = codes "nothing: this cannot be"
@@ -91,30 +59,35 @@ came_words (came.Ok classes devices steps) = counts_words classes devices steps
 came_words (came.OkEntries count) = codes "ok " ++ decimal count ++ codes " entries"
 came_words (came.Entries text) = codes "entries"
 
--- the lines that stand below `text` or `entries`
-abbrev pub text_lines : Form → List ℕ → List ℕ
-text_lines form text = flat_map (λ line. answer_line form (codes "=| " ++ line)) (lines text)
+-- ---- answers
 
--- what came, a line for each answer
-abbrev pub came_lines : Form → Came → List ℕ
-came_lines form (came.Outputs outputs) = all_output_lines form outputs
-came_lines form (came.Text text) = answer_line form (codes "text") ++ text_lines form text
-came_lines form (came.Entries text) = answer_line form (codes "entries") ++ text_lines form text
-came_lines form answer = answer_line form (came_words answer)
+-- words that are no datagram
+abbrev pub plain : List ℕ → CameAnswer
+plain words = record { words = words; says = None }
 
--- ---- the same answers, one by one
+-- what a datagram says
+abbrev pub said : List ℕ → List ℕ
+said bytes = reading_text (reading_of bytes)
 
--- the words of outputs, or that there are none
-abbrev pub output_items : List Output → List (List ℕ)
-output_items [] = codes "nothing" ∷ []
-output_items (output ∷ outputs) = map output_words (output ∷ outputs)
+abbrev pub says_of : Output → Option (List ℕ)
+says_of (Send server bytes) = Some (said bytes)
+says_of (Act act) = None
 
-abbrev pub text_items : List ℕ → List (List ℕ)
-text_items text = map (λ line. codes "=| " ++ line) (lines text)
+abbrev pub output_answer : Output → CameAnswer
+output_answer output = record { words = output_words output; says = says_of output }
 
--- what came, the words of each answer
-abbrev pub came_items : Came → List (List ℕ)
-came_items (came.Outputs outputs) = output_items outputs
-came_items (came.Text text) = codes "text" ∷ text_items text
-came_items (came.Entries text) = codes "entries" ∷ text_items text
-came_items answer = came_words answer ∷ []
+-- outputs, or that there are none
+abbrev pub output_answers : List Output → List CameAnswer
+output_answers [] = plain (codes "nothing") ∷ []
+output_answers (output ∷ outputs) = map output_answer (output ∷ outputs)
+
+-- a line that stands below `text` or `entries`
+abbrev pub text_line : List ℕ → CameAnswer
+text_line line = plain (codes "=| " ++ line)
+
+-- what came, answer by answer
+abbrev pub answers_of : Came → List CameAnswer
+answers_of (came.Outputs outputs) = output_answers outputs
+answers_of (came.Text text) = plain (codes "text") ∷ map text_line (lines text)
+answers_of (came.Entries text) = plain (codes "entries") ∷ map text_line (lines text)
+answers_of answer = plain (came_words answer) ∷ []

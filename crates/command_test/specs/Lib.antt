@@ -1,10 +1,4 @@
-pub mod Answers
 pub mod Came
-pub mod Jobs
-pub mod Junit
-pub mod Playing
-pub mod Reading
-pub mod Report
 pub mod Stated
-pub mod Tap
-pub mod InJson
+pub mod Told
+pub mod Jobs

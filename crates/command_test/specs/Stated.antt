@@ -8,8 +8,9 @@ use Rattle.case_text.specs.declared.case.Case.TheVariants as cases
 use Rattle.case_text.specs.declared.digit.Digit.{Digit}
 use Rattle.case_text.specs.declared.digit.Digit.TheVariants.{Any, Is}
 use Rattle.case_text.specs.declared.item.Item.{Item}
+use Rattle.case_text.specs.declared.stated.OutputStated.TheVariants.{Send}
 use Rattle.case_text.specs.declared.stated.Stated.{Stated}
-use Rattle.case_text.specs.declared.stated.Stated.TheVariants as states
+use Rattle.case_text.specs.declared.stated.Stated.TheVariants.{Output}
 
 -- the byte of two digits, where both are stated
 abbrev pub known_byte : Digit → Digit → Option ℕ
@@ -34,7 +35,7 @@ if_none (digit ∷ others) = None
 
 -- the datagram that is stated to be sent
 abbrev pub sent_by : Stated → Option (List ℕ)
-sent_by (states.Send server digits) = known_bytes digits
+sent_by (Output (Send server digits)) = known_bytes digits
 sent_by stated = None
 
 -- what the answer in this line states, if an answer stands there

@@ -1,168 +1,136 @@
-//! What came, a line for each answer.
-ghost use Rattle.std.specs.Prelude.{◌≡◌, ◌++◌, codes, OnOk};
-ghost use Rattle.std.specs.List.{flat_map};
+//! What came, the words of each answer, and what datagrams say.
+ghost use Rattle.std.specs.Prelude.{◌≡◌, ◌++◌, ◌∷◌, [], map, IfOk, OnOk};
+ghost use Rattle.std.specs.Str.Lines.{lines};
 ghost use Rattle.std.specs.String.{string_bytes};
-ghost use Rattle.command_test.specs.Came.{all_output_lines, answer_line, came_lines, came_words, output_lines};
-ghost use Rattle.command_test.specs.Came.{said_below, said_line, text_lines};
+ghost use Rattle.command_test.specs.Came.{answers_of, output_answer, output_answers, plain, said, says_of, text_line};
 
 use crate::words::{came_words, output_words};
 use case_play::Came;
 use device_machine::Output;
+use lwm2m_values::Text;
 use message_words::datagram_text;
 use std::alloc::{AllocError, Global};
-use test_reports::put_in_quotes;
+use test_reports::{CameAnswer, CameAnswers};
 
-/// How the lines of answers are written.
-#[derive(Clone, Copy)]
-pub enum Form {
-    /// `came ANSWER`, and below a datagram what it says.
-    Lines,
-    /// Items of a list in YAML.
-    Items,
-}
-
-/// Writes a line of an answer.
-pub(crate) fn put_answer(
-    alloc: Global,
-    out: &mut String,
-    form: Form,
-    words: &str,
-) -> Result<(), AllocError>
-    ensures { OnOk result (string_bytes out.new ≡ string_bytes out.old ++ answer_line form words.now) }
-{
-    match form {
-        Form::Lines => write!(out, "came {words}\n"),
-        Form::Items => {
-            out.push_str("    - ")?;
-            put_in_quotes(alloc, out, words)?;
-            out.push('\n')
-        }
-    }
-}
-
-/// Writes what a datagram says.
-pub(crate) fn put_said(alloc: Global, out: &mut String, bytes: &[u8]) -> Result<(), AllocError>
-    ensures { OnOk result (string_bytes out.new ≡ string_bytes out.old ++ said_line bytes.now) }
+/// What a datagram says.
+pub(crate) fn said(alloc: Global, bytes: &[u8]) -> Result<Text, AllocError>
+    ensures { IfOk result (λ text. text ≡ said bytes.now) }
 {
     let words = datagram_text(alloc, bytes)?;
-    out.push_str("    ")?;
-    out.push_str(words.as_str())?;
-    out.push('\n')
+    Ok(Text::from_string(words))
 }
 
-fn put_said_below(
-    alloc: Global,
-    out: &mut String,
-    form: Form,
-    output: &Output,
-) -> Result<(), AllocError>
-    ensures { OnOk result (string_bytes out.new ≡ string_bytes out.old ++ said_below form output.now) }
+/// Adds an answer.
+fn put(answers: &mut Vec<CameAnswer>, words: String, says: Option<Text>) -> Result<(), AllocError>
+    ensures { OnOk result (answers.new.items
+        ≡ answers.old.items ++ (record { words = string_bytes words; says = says }) ∷ []) }
 {
-    match (form, output) {
-        (Form::Lines, Output::Send { bytes, .. }) => put_said(alloc, out, bytes.as_slice()),
-        (Form::Lines, Output::Act(_)) | (Form::Items, _) => Ok(()),
+    answers.push(CameAnswer {
+        words: Text::from_string(words),
+        says,
+    })?;
+    Ok(())
+}
+
+/// What an output says, if it is a datagram.
+fn says_of(alloc: Global, output: &Output) -> Result<Option<Text>, AllocError>
+    ensures { IfOk result (λ o. o ≡ says_of output.now) }
+{
+    match output {
+        Output::Send { bytes, .. } => Ok(Some(said(alloc, bytes.as_slice())?)),
+        Output::Act(_) => Ok(None),
     }
 }
 
-/// Writes the lines of an output.
 fn put_output(
     alloc: Global,
-    out: &mut String,
-    form: Form,
+    answers: &mut Vec<CameAnswer>,
     output: &Output,
 ) -> Result<(), AllocError>
-    ensures { OnOk result (string_bytes out.new ≡ string_bytes out.old ++ output_lines form output.now) }
+    ensures { OnOk result (answers.new.items ≡ answers.old.items ++ output_answer output.now ∷ []) }
 {
     let words = output_words(alloc, output)?;
-    put_answer(alloc, out, form, words.as_str())?;
-    put_said_below(alloc, out, form, output)
+    let says = says_of(alloc, output)?;
+    put(answers, words, says)
 }
 
-/// Writes the lines of outputs, in their order.
 fn put_each_output(
     alloc: Global,
-    out: &mut String,
-    form: Form,
+    answers: &mut Vec<CameAnswer>,
     outputs: &[Output],
 ) -> Result<(), AllocError>
-    ensures { OnOk result (string_bytes out.new ≡ string_bytes out.old ++ flat_map (output_lines form) outputs.now) }
+    ensures { OnOk result (answers.new.items ≡ answers.old.items ++ map output_answer outputs.now) }
 {
     for output in outputs {
-        put_output(alloc, out, form, output)?;
+        put_output(alloc, answers, output)?;
     }
     Ok(())
 }
 
-/// Writes the lines of outputs, or that there are none.
+fn put_word(alloc: Global, answers: &mut Vec<CameAnswer>, word: &str) -> Result<(), AllocError>
+    ensures { OnOk result (answers.new.items ≡ answers.old.items ++ plain word.now ∷ []) }
+{
+    let words = String::from_str(alloc, word)?;
+    put(answers, words, None)
+}
+
+/// Adds outputs, in their order, or that there are none.
 fn put_outputs(
     alloc: Global,
-    out: &mut String,
-    form: Form,
+    answers: &mut Vec<CameAnswer>,
     outputs: &[Output],
 ) -> Result<(), AllocError>
-    ensures { OnOk result (string_bytes out.new ≡ string_bytes out.old ++ all_output_lines form outputs.now) }
+    ensures { OnOk result (answers.new.items ≡ answers.old.items ++ output_answers outputs.now) }
 {
-    if outputs.is_empty() {
-        return put_answer(alloc, out, form, "nothing");
+    match outputs {
+        [] => put_word(alloc, answers, "nothing"),
+        [_, ..] => put_each_output(alloc, answers, outputs),
     }
-    put_each_output(alloc, out, form, outputs)
 }
 
-/// Writes a line of a text.
-fn put_text_line(alloc: Global, out: &mut String, form: Form, line: &str) -> Result<(), AllocError>
-    ensures { OnOk result (string_bytes out.new ≡ string_bytes out.old
-        ++ answer_line form (codes "=| " ++ line.now)) }
+fn put_text_line(alloc: Global, answers: &mut Vec<CameAnswer>, line: &str) -> Result<(), AllocError>
+    ensures { OnOk result (answers.new.items ≡ answers.old.items ++ text_line line.now ∷ []) }
 {
     let words = format!(in alloc; "=| {line}")?;
-    put_answer(alloc, out, form, words.as_str())
+    put(answers, words, None)
 }
 
-/// Writes the lines of a text, in their order.
-fn put_text_lines(alloc: Global, out: &mut String, form: Form, text: &str) -> Result<(), AllocError>
-    ensures { OnOk result (string_bytes out.new ≡ string_bytes out.old ++ text_lines form text.now) }
+/// Adds the lines of a text, in their order.
+fn put_text_lines(
+    alloc: Global,
+    answers: &mut Vec<CameAnswer>,
+    text: &str,
+) -> Result<(), AllocError>
+    ensures { OnOk result (answers.new.items ≡ answers.old.items ++ map text_line (lines text.now)) }
 {
     for line in text.lines() {
-        put_text_line(alloc, out, form, line)?;
+        put_text_line(alloc, answers, line)?;
     }
     Ok(())
 }
 
-/// Writes an answer, and the lines of a text below it.
+/// Adds a word, and the lines of a text after it.
 fn put_text(
     alloc: Global,
-    out: &mut String,
-    form: Form,
-    words: &str,
+    answers: &mut Vec<CameAnswer>,
+    word: &str,
     text: &str,
 ) -> Result<(), AllocError>
-    ensures { OnOk result (string_bytes out.new ≡ string_bytes out.old
-        ++ (answer_line form words.now ++ text_lines form text.now)) }
+    ensures { OnOk result (answers.new.items
+        ≡ answers.old.items ++ plain word.now ∷ map text_line (lines text.now)) }
 {
-    put_answer(alloc, out, form, words)?;
-    put_text_lines(alloc, out, form, text)
+    put_word(alloc, answers, word)?;
+    put_text_lines(alloc, answers, text)
 }
 
-/// Writes an answer that stands in one line.
-fn put_one(alloc: Global, out: &mut String, form: Form, came: &Came) -> Result<(), AllocError>
-    ensures { OnOk result (string_bytes out.new ≡ string_bytes out.old ++ answer_line form (came_words came.now)) }
-{
-    let words = came_words(alloc, came)?;
-    put_answer(alloc, out, form, words.as_str())
-}
-
-/// Writes what came, a line for each answer.
-pub(crate) fn put_came(
-    alloc: Global,
-    out: &mut String,
-    form: Form,
-    came: &Came,
-) -> Result<(), AllocError>
-    ensures { OnOk result (string_bytes out.new ≡ string_bytes out.old ++ came_lines form came.now) }
+/// Adds what came.
+fn put_came(alloc: Global, answers: &mut Vec<CameAnswer>, came: &Came) -> Result<(), AllocError>
+    ensures { OnOk result (answers.new.items ≡ answers.old.items ++ answers_of came.now) }
 {
     match came {
-        Came::Outputs(outputs) => put_outputs(alloc, out, form, outputs.as_slice()),
-        Came::Text(text) => put_text(alloc, out, form, "text", text.as_str()),
-        Came::Entries(text) => put_text(alloc, out, form, "entries", text.as_str()),
+        Came::Outputs(outputs) => put_outputs(alloc, answers, outputs.as_slice()),
+        Came::Text(text) => put_text(alloc, answers, "text", text.as_str()),
+        Came::Entries(text) => put_text(alloc, answers, "entries", text.as_str()),
         Came::Nowhere
         | Came::Value(_)
         | Came::Clock(_)
@@ -176,6 +144,18 @@ pub(crate) fn put_came(
         | Came::NotARun(_)
         | Came::Fault(_)
         | Came::Ok { .. }
-        | Came::OkEntries(_) => put_one(alloc, out, form, came),
+        | Came::OkEntries(_) => {
+            let words = came_words(alloc, came)?;
+            put(answers, words, None)
+        }
     }
+}
+
+/// What came, answer by answer.
+pub(crate) fn answers_of(alloc: Global, came: &Came) -> Result<CameAnswers, AllocError>
+    ensures { IfOk result (λ answers. answers ≡ answers_of came.now) }
+{
+    let mut answers = Vec::new(alloc);
+    put_came(alloc, &mut answers, came)?;
+    Ok(CameAnswers::from_vec(answers))
 }

@@ -3,7 +3,7 @@ ghost use Rattle.std.specs.Prelude.{◌≡◌, ◌<◌, length, option_and_then,
 ghost use Rattle.command_test.specs.Stated.{byte_before, if_none, known_byte, known_bytes, sent_at, sent_by, stated_by};
 ghost use Rattle.command_test.specs.Stated.{stated_in};
 
-use case_text::{Answer, Case, Digit, Item, Stated};
+use case_text::{Answer, Case, Digit, Item, OutputStated, Stated};
 use std::alloc::{AllocError, Global};
 
 /// The byte of two digits, where both are stated.
@@ -51,22 +51,8 @@ fn sent_by(alloc: Global, stated: &Stated) -> Result<Option<Vec<u8>>, AllocError
     ensures { IfOk result (λ o. option_map (λ v. v.items) o ≡ sent_by stated.now) }
 {
     match stated {
-        Stated::Send { digits, .. } => known_bytes(alloc, digits.as_slice()),
-        Stated::Nothing
-        | Stated::Code { .. }
-        | Stated::Notification { .. }
-        | Stated::Act(_)
-        | Stated::More(_)
-        | Stated::Done(_)
-        | Stated::Stalled { .. }
-        | Stated::Image(_)
-        | Stated::Trace(_)
-        | Stated::Text
-        | Stated::TextLine(_)
-        | Stated::Fault { .. }
-        | Stated::Run
-        | Stated::NotARun(_)
-        | Stated::RecordedFault(_) => Ok(None),
+        Stated::Output(OutputStated::Send { digits, .. }) => known_bytes(alloc, digits.as_slice()),
+        Stated::Output(_) | Stated::End(_) | Stated::Verdict(_) | Stated::Written(_) => Ok(None),
     }
 }
 

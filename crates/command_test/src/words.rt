@@ -5,13 +5,13 @@ ghost use Rattle.std.specs.Option.{option_copied};
 ghost use Rattle.std.specs.String.{string_bytes};
 ghost use Rattle.scenario_words.specs.HexWord.{hex_word};
 ghost use Rattle.case_play.specs.EntryWords.{output_words};
-ghost use Rattle.command_test.specs.Came.{came_words, counts_words, device_words, number_or_none, refusal_words};
-ghost use Rattle.command_test.specs.Came.{run_words, value_or_none};
+ghost use Rattle.command_test.specs.Came.{came_words, counts_words, device_words, number_or_none, run_words};
+ghost use Rattle.command_test.specs.Came.{value_or_none};
 
 use case_play::Came;
 use device_machine::{Output, act_name};
 use lwm2m_values::Value;
-use scenario_words::{Cause, cause_words, hex_word, spell};
+use scenario_words::{hex_word, spell};
 use std::alloc::{AllocError, Global};
 
 /// A word, and what follows it.
@@ -125,20 +125,6 @@ fn entries_words(alloc: Global, count: u64) -> Result<String, AllocError>
     ensures { IfOk result (λ text. string_bytes text ≡ codes "ok " ++ decimal count ++ codes " entries") }
 {
     format!(in alloc; "ok {count} entries")
-}
-
-fn fault_words(alloc: Global, line: usize, words: &str) -> Result<String, AllocError>
-    ensures { IfOk result (λ text. string_bytes text
-        ≡ codes "fault line " ++ decimal line ++ codes " " ++ words.now) }
-{
-    format!(in alloc; "fault line {line} {words}")
-}
-
-/// Why the text of a case is refused, in this line below its title.
-pub(crate) fn refusal_words(alloc: Global, line: usize, cause: Cause) -> Result<String, AllocError>
-    ensures { IfOk result (λ text. string_bytes text ≡ refusal_words line cause) }
-{
-    fault_words(alloc, line, cause_words(cause))
 }
 
 /// The words of an answer that stands in one line; of others those of their first line.

@@ -1,8 +1,14 @@
 -- Reports of cases in the common dialect of JUnit XML.
-use Rattle.std.specs.Prelude.{ℕ, List, ◌++◌, Option, None, Some, codes}
+use Rattle.std.specs.Prelude.{ℕ, ◌+◌, ◌==◌, ◌&&◌, Bool, List, [], ◌∷◌, ◌++◌, Option, None, Some, codes, filter}
+use Rattle.std.specs.Prelude.{is_some, length}
 use Rattle.std.specs.Fmt.{decimal}
+use Rattle.std.specs.List.{flat_map}
 use Rattle.scenario_words.specs.Words.{ended_line}
 use Rattle.test_reports.specs.Escaping.{escaped_text}
+use Rattle.test_reports.specs.Report.{difference, line_words, title_of}
+use Rattle.test_reports.specs.declared.case_file.CaseFile.{CaseFile}
+use Rattle.test_reports.specs.declared.case_report.CaseReport.{CaseReport}
+use Rattle.test_reports.specs.declared.case_report.Difference.{Difference}
 use Rattle.test_reports.specs.declared.escaping.Escape.TheVariants.{Attribute, Element}
 use Rattle.test_reports.specs.declared.junit.Failure.{Failure}
 
@@ -59,3 +65,48 @@ report_head = ended_line (codes "<?xml version=\"1.0\" encoding=\"UTF-8\"?>") ++
 
 abbrev pub report_end : List ℕ
 report_end = ended_line (codes "</testsuites>")
+
+-- ---- the report
+
+-- a test case, with its file and its title
+abbrev pub passing_testcase : CaseReport → List ℕ
+passing_testcase case = testcase case.path.now (title_of case) None
+
+-- one that differs is a failure: in its text stands what the report prints of it
+abbrev pub failing_testcase : Bool → CaseReport → Difference → List ℕ
+failing_testcase several case d =
+    testcase case.path.now (title_of case)
+    (Some (record { message = line_words d.line d.instead; text = difference several case }))
+
+abbrev pub testcase_by : Bool → CaseReport → Option Difference → List ℕ
+testcase_by several case None = passing_testcase case
+testcase_by several case (Some d) = failing_testcase several case d
+
+abbrev pub case_testcase : Bool → CaseReport → List ℕ
+case_testcase several case = testcase_by several case case.difference
+
+-- a case of the file with this number; and one that differs
+abbrev pub is_of_file : ℕ → CaseReport → Bool
+is_of_file number case = case.file == number
+
+abbrev pub fails_in_file : ℕ → CaseReport → Bool
+fails_in_file number case = is_of_file number case && is_some case.difference
+
+-- the cases of a file
+unfoldable pub suite_cases : Bool → ℕ → List CaseReport → List ℕ
+suite_cases several number all = flat_map (case_testcase several) (filter (is_of_file number) all)
+
+-- the test suite of a file, by its number and its path
+unfoldable pub suite : Bool → ℕ → List ℕ → List CaseReport → List ℕ
+suite several number path all =
+    suite_head path (length (filter (is_of_file number) all)) (length (filter (fails_in_file number) all))
+    ++ suite_cases several number all ++ suite_end
+
+-- a test suite for each file, which have the numbers from this one on
+abbrev pub suites : {C : Type 0} → Bool → ℕ → List (CaseFile C) → List CaseReport → List ℕ
+suites several number [] all = []
+suites several number (file ∷ files) all =
+    suite several number file.path.now all ++ suites several (number + 1) files all
+
+abbrev pub junit_text : {C : Type 0} → Bool → List (CaseFile C) → List CaseReport → List ℕ
+junit_text several files all = report_head ++ suites several 0 files all ++ report_end

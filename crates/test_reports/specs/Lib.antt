@@ -2,3 +2,8 @@ pub mod Escaping
 pub mod Report
 pub mod Tap
 pub mod Junit
+pub mod InJson
+pub mod Reading
+pub mod Choice
+pub mod Told
+pub mod Answers

@@ -1,6 +1,6 @@
 use Rattle.std.proofs.Common.{List, None, Option, Some, ap, inr, length, option_map, refl, subst, sym, ◌≤◌, ◌∙◌, ℕ}
 use Rattle.command_files.specs.World.{FilesKnown, StreamFaults, World}
-use Rattle.command_expect.specs.Answers.{IsReportOn}
+use Rattle.command_expect.specs.Expect.{IsReportOn}
 use Rattle.bench_commands.specs.Judged.{IsJudgedBy, IsReported, IsUnjudgedBy, judged_status}
 use Rattle.bench_commands.proofs.Verdicts.{judged_by, undelivered_by}
 use Rattle.bench_commands.proofs.fleets.judge.Goals as goal

@@ -1,12 +1,12 @@
-use Rattle.case_play.proofs.Ending.{image_end, trace_end}
+use Rattle.case_play.proofs.Ending.{end_so, written_so}
 use Rattle.case_play.proofs.ends.is_end.Goals as goal
 
-pub returns-in-Image : goal.returns-in-Image
-returns-in-Image c =
-    image_end c.is_image.result c.args.scenario.now c.args.entries.now c.args.answers.now c.args.stated.now _
-    c.as_slice-in-Image.result.now c.in-Image.is c.as_slice-in-Image.ensures c.is_image.ensures
+pub returns-in-End : goal.returns-in-End
+returns-in-End c =
+    end_so c.ends_so.result c.args.scenario.now c.args.entries.now c.args.answers.now c.args.stated.now _ c.in-End.is
+    c.ends_so.ensures
 
-pub returns-in-Trace : goal.returns-in-Trace
-returns-in-Trace c =
-    trace_end c.is_trace.result c.args.scenario.now c.args.entries.now c.args.answers.now c.args.stated.now _
-    c.as_slice-in-Trace.result.now c.in-Trace.is c.as_slice-in-Trace.ensures c.is_trace.ensures
+pub returns-in-Written : goal.returns-in-Written
+returns-in-Written c =
+    written_so c.is_written_so.result c.args.scenario.now c.args.entries.now c.args.answers.now c.args.stated.now _
+    c.in-Written.is c.is_written_so.ensures

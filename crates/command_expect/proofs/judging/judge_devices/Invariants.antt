@@ -1,13 +1,11 @@
--- The cases were judged for the devices before this one.
-use Rattle.std.proofs.Common.{◌≡◌, ◌++◌, map}
-use Rattle.command_expect.specs.Choice.{case_of_file, cases_of_devices, devices_to}
-use Rattle.command_expect.specs.Judging.{AreRight, case_of_device}
+-- What is told for the devices before this one.
+use Rattle.std.proofs.Common.{map}
+use Rattle.test_reports.specs.Choice.{case_of_file}
+use Rattle.test_reports.specs.Told.{AreEach}
+use Rattle.command_expect.specs.Choice.{cases_of_devices, devices_to}
+use Rattle.command_expect.specs.Told.{IsToldOn}
 use Rattle.command_expect.proofs.judging.judge_devices.Given as goal
 
 abbrev pub invariant-loop-device : goal.invariant-loop-device
-invariant-loop-device l = record {
-  are : map case_of_device l.all.items
-      ≡ map case_of_device l.initial.all.items
-      ++ cases_of_devices (map case_of_file l.cases) (devices_to l.device);
-  right : AreRight l.scenario l.all.items;
-}
+invariant-loop-device l =
+    AreEach (IsToldOn l.scenario) (cases_of_devices (map case_of_file l.cases) (devices_to l.device)) l.all.items

@@ -1,9 +1,7 @@
-use Rattle.std.proofs.Common.{◌++◌, ap, codes, ◌∙◌}
+use Rattle.std.proofs.Common.{◌++◌, ap, map, ◌∙◌}
 use Rattle.std.proofs.lemmas.Iterator.Consumers.{YieldsList-at, YieldsList-end}
 use Rattle.std.proofs.lemmas.Iterator.Splits.{YieldsList-from_lines}
-use Rattle.std.specs.List.{flat_map}
-use Rattle.std.specs.String.{string_bytes}
-use Rattle.command_test.specs.Came.{answer_line}
+use Rattle.command_test.specs.Came.{text_line}
 use Rattle.command_test.proofs.came.put_text_lines.Goals as goal
 
 pub returns : goal.returns
@@ -12,6 +10,4 @@ returns c =
     (YieldsList-at c.into_iter-line-iterator.ensures.into_iter_gives
     (YieldsList-from_lines {s = c.lines-line-items.result} c.args.text.now c.lines-line-items.ensures.rest))
     c.loop-line.yielded _ c.loop-line.yielded_by _ _ c.in-None.is c.next.ensures.steps in
-    c.loop-line.invariant
-    ∙ ap (λ ls. string_bytes c.args.out.now ++ flat_map (λ l. answer_line c.args.form (codes "=| " ++ l)) ls)
-    end.0
+    c.loop-line.invariant ∙ ap (λ ls. c.args.answers.now.items ++ map text_line ls) end.0

@@ -3,10 +3,10 @@ use Rattle.std.proofs.lemmas.Option.{slice_get_read}
 use Rattle.command_test.proofs.Played.{one_more}
 use Rattle.command_test.proofs.playing.play.Goals as goal
 
-pub loop-test-preserved : goal.loop-test-preserved
-loop-test-preserved c =
-    one_more c.args.tests.now c.loop-test.all.items c.push.new.self.items c.loop-test.test-index c.test-item.result
-    (record { test = c.test-item.result; verdict = c.in_ok-verdict.verdict }) c.loop-test.invariant
-    (slice_get_read c.args.tests.now (length c.args.tests.now) c.loop-test.test-index c.test-item.result refl
-    c.loop-test-test.true c.test-item.is)
-    refl c.in_ok-verdict.ensures c.in_ok-push.ensures.items
+pub loop-chosen-preserved : goal.loop-chosen-preserved
+loop-chosen-preserved c =
+    one_more c.args.cases.now c.loop-chosen.chosen-index c.chosen-item.result c.loop-chosen.all.items
+    c.add.new.all.items c.in_ok-report.report c.loop-chosen.invariant
+    (slice_get_read c.args.cases.now (length c.args.cases.now) c.loop-chosen.chosen-index c.chosen-item.result refl
+    c.loop-chosen-test.true c.chosen-item.is)
+    c.in_ok-report.ensures c.in_ok-add.ensures

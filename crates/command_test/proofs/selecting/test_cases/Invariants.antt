@@ -1,9 +1,0 @@
--- The cases that are there, and those that are still to come.
-use Rattle.std.proofs.Common.{◌≡◌, ◌++◌, drop, map, option_map}
-use Rattle.command_test.specs.Playing.{case_of_file, choice, choice_from}
-use Rattle.command_test.proofs.selecting.test_cases.Given as goal
-
-abbrev pub invariant-loop-number : goal.invariant-loop-number
-invariant-loop-number l =
-    map case_of_file l.all.items ++ choice_from (option_map (λ w. w.now) l.only) l.number (drop l.number l.files)
-    ≡ choice (option_map (λ w. w.now) l.only) l.files
