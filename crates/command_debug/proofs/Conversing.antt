@@ -8,7 +8,7 @@ use Rattle.debug_answers.specs.Saying.{IsLineOf}
 use Rattle.debugger.specs.Session.{Session}
 use Rattle.debug_answers.specs.Notes.{IsNote}
 use Rattle.debug_answers.specs.Replies.{IsReply}
-use Rattle.command_debug.proofs.Turns.{parts}
+use Rattle.command_debug.proofs.Turns.{noted_after, parts}
 use Rattle.command_debug.specs.Conversation.{AreAnswered, AreNextLines, AreNoted, IsBeyond, IsConversation, IsCut}
 use Rattle.command_debug.specs.Conversation.{IsCutShort, IsExchange, IsLastTurn, IsNextLine, IsNoted, IsTurn}
 use Rattle.command_debug.specs.Conversation.{Terms}
@@ -55,13 +55,6 @@ more_answers reasons old (first ∷ lines) between new text said more
       more_answers reasons middle lines between new then said more rest other reply,
       ap (λ t. t ++ more) split ∙ append_assoc now then more,
     )
-
-noted_after : (faults : StreamFaults) (a b c : Streams) (note : Option (List ℕ)) → b.errors ≡ a.errors
-    → IsNoted faults b c note → IsNoted faults a c note
-noted_after faults a b c None same silent = silent ∙ same
-noted_after faults a b c (Some note) same (inl printed) =
-    inl (subst (λ errors. Appends errors c.errors note) same printed)
-noted_after faults a b c (Some note) same (inr refused) = inr refused
 
 more_notes : (terms : Terms) (a b c : Streams) (lines : List (List ℕ)) (said : List ℕ)
     (note : Option (List ℕ)) → AreNoted terms a b lines → IsNote terms.reasons said note
