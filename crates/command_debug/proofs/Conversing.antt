@@ -1,7 +1,6 @@
 -- A conversation, put together from its turns.
 use Rattle.std.proofs.Common.{ℕ, ◌≡◌, ◌+◌, ◌⊎◌, Bool, List, [], ◌∷◌, ◌++◌, length, Option, None, Some}
 use Rattle.std.proofs.Common.{refl, sym, ap, subst, arith, ◌∙◌, inl, inr, append_assoc, append-nil}
-use Rattle.std.specs.Io.KnownBytes.{Appends}
 use Rattle.std.proofs.KnownBytes.{Appends-nil, Appends-trans}
 use Rattle.debug_answers.specs.declared.command.Command.TheVariants.{Quit}
 use Rattle.debug_answers.specs.Saying.{IsLineOf}
@@ -15,7 +14,7 @@ use Rattle.command_debug.specs.Conversation.{Terms}
 use Rattle.command_files.specs.Fault.{IsReadingFault}
 use Rattle.command_files.specs.Files.{most_bytes}
 use Rattle.command_files.specs.Input.{IsLonger, IsWithin, WhereKnown}
-use Rattle.command_files.specs.World.{StreamFaults, Streams}
+use Rattle.command_files.specs.World.{Streams}
 use Rattle.command_files.specs.declared.fault.Fault.{Fault}
 use Rattle.command_files.specs.declared.fault.Fault.TheVariants as faults
 

@@ -1,4 +1,4 @@
-use Rattle.std.proofs.Common.{Global, option_map, refl, rules, ◌⊎◌}
+use Rattle.std.proofs.Common.{Global, option_map, rules, ◌⊎◌}
 use Rattle.std.specs.String.{string_bytes}
 use Rattle.command_files.specs.Input.{IsLonger}
 use Rattle.command_files.specs.World.{Streams}
