@@ -1,11 +1,11 @@
 -- What the program came to where its words could not be had, put together from its parts.
-use Rattle.std.proofs.Common.{◌≡◌, ◌≢◌, ℕ, List, Option, None, inl, inr, refl}
+use Rattle.std.proofs.Common.{◌≡◌, ◌≢◌, ℕ, List, Option, inl, inr, refl}
 use Rattle.std.specs.Io.KnownBytes.{Appends}
 use Rattle.std.specs.declared.io.ErrorKind.{ErrorKind}
 use Rattle.std.specs.declared.io.ErrorKind.TheVariants.{OutOfMemory}
 use Rattle.command_files.specs.Fault.{IsWritingFault}
 use Rattle.command_files.specs.Refusals.{IsTold}
-use Rattle.command_files.specs.World.{StreamFaults, Streams, World}
+use Rattle.command_files.specs.World.{OnlySays, StreamFaults, Streams, World}
 use Rattle.command_files.specs.declared.fault.Fault.{Fault}
 use Rattle.command_files.specs.declared.fault.Fault.TheVariants.{Memory}
 use Rattle.command_files.specs.declared.status.Status.{Status}
@@ -50,38 +50,9 @@ lost faults before between after about text why fault status ended told refused 
       },
     )
 
--- the same, where there is an input too, of which nothing is said
-beside_input : (faults : StreamFaults) (before after : Streams) (text : List ℕ) (why : ErrorKind) (status : Status)
-    → IsToldUnread
-    (record { input_fails = ⊥; output_refuses = faults.output_refuses; errors_refuse = faults.errors_refuse })
-    (record { input = None; output = before.output; errors = before.errors })
-    (record { input = None; output = after.output; errors = after.errors }) text why status
-    → IsToldUnread faults before after text why status
-beside_input faults before after text why status (inl h) = inl h
-beside_input faults before after text why status (inr (ended, h)) =
-    inr (
-      ended,
-      record {
-        fault = h.fault;
-        between = h.between;
-        cause = h.cause;
-        silent = h.silent;
-        about = h.about;
-        told = h.told;
-      },
-    )
-
--- and nothing was read of it, and no file made
+-- and nothing was read of standard input, and no file made
 pub ends_unread : (faults : StreamFaults) (before after : World) (text : List ℕ) (why : ErrorKind) (status : Status)
-    → IsToldUnread
-    (record { input_fails = ⊥; output_refuses = faults.output_refuses; errors_refuse = faults.errors_refuse })
-    (record { input = None; output = before.streams.output; errors = before.streams.errors })
-    (record { input = None; output = after.streams.output; errors = after.streams.errors }) text why status
-    → after.made ≡ before.made → after.streams.input ≡ before.streams.input
+    → IsToldUnread faults before.streams after.streams text why status → OnlySays before after
     → EndsUnread faults before after text why status
-ends_unread faults before after text why status told none_made none_read =
-    record {
-      told = beside_input faults before.streams after.streams text why status told;
-      none_made = none_made;
-      none_read = none_read;
-    }
+ends_unread faults before after text why status told says =
+    record { told = told; none_made = says.0; none_read = says.1 }

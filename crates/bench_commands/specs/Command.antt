@@ -1,5 +1,5 @@
 -- What a command comes to: the words were answered, or refused, and the status says which.
-use Rattle.std.specs.Prelude.{ℕ, ◌≡◌, ◌⊎◌, Bool, true, false, List, [], Option, map, option_map}
+use Rattle.std.specs.Prelude.{ℕ, ◌≡◌, ◌⊎◌, Bool, true, false, List, [], Option, Result, Ok, Err, map, option_map}
 use Rattle.std.specs.Io.KnownBytes.{Appends}
 use Rattle.std.specs.String.{string_bytes}
 use Rattle.command_line.specs.Words.{IsReadAs}
@@ -58,6 +58,7 @@ use Rattle.command_files.specs.World.{FilesKnown, IsAside, StreamFaults, Streams
 use Rattle.command_files.specs.declared.answer.Answer.{Answer}
 use Rattle.command_files.specs.declared.fault.Fault.{Fault}
 use Rattle.command_files.specs.declared.fault.Fault.TheVariants.{Memory}
+use Rattle.command_files.specs.declared.refusal.Refusal.{Refusal}
 use Rattle.command_files.specs.declared.status.Status.{Status}
 use Rattle.command_files.specs.declared.status.Status.TheVariants as ends
 
@@ -236,7 +237,7 @@ pub record IsLost (files : FilesKnown) (faults : StreamFaults) (before after : W
   pub read : IsReadAs words asked
   pub answer : Answer
   pub right : IsAnswerTo files.holds asked answer
-  pub undelivered : IsUndelivered files faults before after answer fault
+  pub undelivered : IsUndelivered files.refuses faults before after answer fault
 
 -- no memory was left for an answer, or there was a fault, and then nothing was made and nothing printed; or the answer
 -- was lost
@@ -297,7 +298,7 @@ pub record IsSessionUnjudged (files : FilesKnown) (faults : StreamFaults) (befor
   pub between : World
   pub held : Held
   pub done : IsFleetDone files before between fleet terminal held
-  pub why : IsUnjudged files faults goal fleet held.saved between after fault
+  pub why : IsUnjudged files.refuses faults goal fleet held.saved between after fault
 
 -- the words ask for devices on UDP, and this fault kept them from a session, from its conclusion or from its verdict;
 -- the files that were made are those of the session up to then
@@ -332,7 +333,7 @@ pub record IsLogUnprinted (files : FilesKnown) (faults : StreamFaults) (before a
     (fault : Fault) : Type 0 where
   pub answer : Answer
   pub said : IsInputSaid before.streams.input after.streams.input server answer
-  pub undelivered : IsUndelivered files faults before after answer fault
+  pub undelivered : IsUndelivered files.refuses faults before after answer fault
 
 -- the words ask for what a log says, and this fault kept it from being said
 pub record IsLogLost (files : FilesKnown) (faults : StreamFaults) (before after : World) (words : List (List ℕ))
@@ -364,6 +365,13 @@ IsUnfinished files faults before after terminal words fault =
     × (after.made ≡ before.made))
     ⊎ ((IsLogLost files faults before after words fault × (after.streams.errors ≡ before.streams.errors))
     ⊎ (IsFleetLost files faults before after terminal words fault × (after.streams.input ≡ before.streams.input))))
+
+-- it came to the one, or to the other
+abbrev pub Came : FilesKnown → StreamFaults → World → World → Bool → List (List ℕ) → Result Status Refusal → Type 0
+Came files faults before after terminal words (Ok status) =
+    IsFinished files faults before after terminal words status
+Came files faults before after terminal words (Err refusal) =
+    IsUnfinished files faults before after terminal words refusal.fault
 
 -- ---- the form of a fault
 

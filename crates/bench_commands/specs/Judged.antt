@@ -68,26 +68,26 @@ IsJudged goal fleet saved before after held status =
     IsJudgedBy goal fleet.json (option_map (λ p. p.now) fleet.verdict.junit) saved before after held status
 
 -- no memory was left for the report, or it could not be told
-pub record IsUnreported (files : FilesKnown) (faults : StreamFaults) (goal : List (CaseFile ExpectedCase)) (json : Bool)
+pub record IsUnreported (refuses : List ℕ → Type 0) (faults : StreamFaults) (goal : List (CaseFile ExpectedCase)) (json : Bool)
     (junit : Option (List ℕ)) (saved : Scenario) (before after : World) (fault : Fault) : Type 0 where
   pub answer : Answer
   pub report : IsVerdict goal json junit saved answer
-  pub undelivered : IsUndelivered files faults before after answer fault
+  pub undelivered : IsUndelivered refuses faults before after answer fault
   pub quiet : after.streams.errors ≡ before.streams.errors
 
-abbrev pub IsUnjudgedBy : FilesKnown → StreamFaults → List (CaseFile ExpectedCase) → Bool → Option (List ℕ)
+abbrev pub IsUnjudgedBy : (List ℕ → Type 0) → StreamFaults → List (CaseFile ExpectedCase) → Bool → Option (List ℕ)
     → Option Scenario
     → World → World → Fault → Type 0
-IsUnjudgedBy files faults goal json junit None before after fault = ⊥
-IsUnjudgedBy files faults goal json junit (Some saved) before after fault =
+IsUnjudgedBy refuses faults goal json junit None before after fault = ⊥
+IsUnjudgedBy refuses faults goal json junit (Some saved) before after fault =
     ((fault ≡ Memory) × IsUntouched before after)
-    ⊎ IsUnreported files faults goal json junit saved before after fault
+    ⊎ IsUnreported refuses faults goal json junit saved before after fault
 
-abbrev pub IsUnjudged : FilesKnown → StreamFaults → List (CaseFile ExpectedCase) → AskedFleet → Option Scenario → World
+abbrev pub IsUnjudged : (List ℕ → Type 0) → StreamFaults → List (CaseFile ExpectedCase) → AskedFleet → Option Scenario → World
     → World
     → Fault → Type 0
-IsUnjudged files faults goal fleet saved before after fault =
-    IsUnjudgedBy files faults goal fleet.json (option_map (λ p. p.now) fleet.verdict.junit) saved before after fault
+IsUnjudged refuses faults goal fleet saved before after fault =
+    IsUnjudgedBy refuses faults goal fleet.json (option_map (λ p. p.now) fleet.verdict.junit) saved before after fault
 
 -- the file that says what servers have to send is refused, before a session begins
 pub record IsGoalRefused (files : FilesKnown) (before after : World) (fleet : AskedFleet) (fault : Fault) : Type 0

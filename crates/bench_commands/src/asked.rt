@@ -1,12 +1,12 @@
 //! What the words that were read come to.
-ghost use Rattle.std.specs.Prelude.{ℕ, Bool, IfErr, IfOk, List, None};
-ghost use Rattle.bench_commands.specs.Command.{IsAnswered, IsFinished, IsLogAnswered, IsLogLost, IsLost, IsUnfinished};
+ghost use Rattle.std.specs.Prelude.{ℕ, Bool, List};
+ghost use Rattle.bench_commands.specs.Command.{Came};
+ghost use Rattle.command_files.specs.World.{known_by};
 ghost use Rattle.command_line.specs.Words.{IsReadAs};
 
 use crate::fleets::answer_fleet;
 use crate::jobs::answer_to;
-use command_files::files::Files;
-use command_files::{Answer, Input, Output, Refusal, Status, deliver};
+use command_files::{Answer, Refusal, Status, World, deliver};
 use command_line::{Asked, Job};
 use command_live::live;
 use command_words::say_input;
@@ -18,204 +18,70 @@ use std::thread::Threads;
 
 /// Does a job.
 #[tactic(none)]
-fn answer_job<'a, R: Threads + Wait + Sync, F: Files, I: Input, O: Output, E: Output>(
+fn answer_job<'a, R: Threads + Wait + Sync, W: World>(
     rt: &R,
     alloc: Global,
     job: Job<'a>,
-    files: &mut F,
-    input: &mut I,
-    output: &mut O,
-    errors: &mut E,
+    world: &mut W,
 ) -> Result<Status, Refusal<'a>>
-    ensures done { (terminal : Bool) (words : List (List ℕ)) → IsReadAs words (Asked.Job job.entry) → IfOk result
-        (IsFinished
-        (record { holds = F.holds files.old; fails = F.fails files.old; refuses = F.refuses })
-        (record { input_fails = I.fails; output_refuses = O.refuses; errors_refuse = E.refuses })
-        (record {
-          made = F.made files.old;
-          streams = record {
-            input = I.rest input.old;
-            output = O.taken output.old;
-            errors = E.taken errors.old;
-          };
-        })
-        (record {
-          made = F.made files.new;
-          streams = record {
-            input = I.rest input.new;
-            output = O.taken output.new;
-            errors = E.taken errors.new;
-          };
-        })
-        terminal words) }
-    ensures refused { (terminal : Bool) (words : List (List ℕ)) → IsReadAs words (Asked.Job job.entry) → IfErr result
-        (λ r. IsUnfinished
-        (record { holds = F.holds files.old; fails = F.fails files.old; refuses = F.refuses })
-        (record { input_fails = I.fails; output_refuses = O.refuses; errors_refuse = E.refuses })
-        (record {
-          made = F.made files.old;
-          streams = record {
-            input = I.rest input.old;
-            output = O.taken output.old;
-            errors = E.taken errors.old;
-          };
-        })
-        (record {
-          made = F.made files.new;
-          streams = record {
-            input = I.rest input.new;
-            output = O.taken output.new;
-            errors = E.taken errors.new;
-          };
-        })
-        terminal words r.fault) }
+    ensures { (terminal : Bool) (words : List (List ℕ)) → IsReadAs words (Asked.Job job.entry)
+        → Came (known_by W.Files world.old) W.faults
+        (W.seen world.old) (W.seen world.new) terminal words result }
 {
-    let answered = answer_to(rt, alloc, job, files, input, output, errors)?;
+    let answered = answer_to(rt, alloc, job, world)?;
     match answered {
-        Some(answer) => deliver(&answer, files, output),
+        Some(answer) => deliver(&answer, world),
         None => Ok(Status::Done),
     }
 }
 
-/// Says what a log says that `input` has.
+/// Says what a log says that standard input has.
 #[tactic(none)]
-fn answer_log<'a, F: Files, I: Input, O: Output>(
+fn answer_log<'a, W: World>(
     alloc: Global,
     server: u16,
-    files: &mut F,
-    input: &mut I,
-    output: &mut O,
+    world: &mut W,
 ) -> Result<Status, Refusal<'a>>
-    ensures done { (words : List (List ℕ)) → IsReadAs words (Asked.Log server) → IfOk result (IsLogAnswered
-        (record {
-          made = F.made files.old;
-          streams = record { input = I.rest input.old; output = O.taken output.old; errors = None };
-        })
-        (record {
-          made = F.made files.new;
-          streams = record { input = I.rest input.new; output = O.taken output.new; errors = None };
-        })
-        words) }
-    ensures refused { (words : List (List ℕ)) → IsReadAs words (Asked.Log server) → IfErr result (λ r. IsLogLost
-        (record { holds = F.holds files.old; fails = F.fails files.old; refuses = F.refuses })
-        (record { input_fails = I.fails; output_refuses = O.refuses; errors_refuse = λ _. ⊥ })
-        (record {
-          made = F.made files.old;
-          streams = record { input = I.rest input.old; output = O.taken output.old; errors = None };
-        })
-        (record {
-          made = F.made files.new;
-          streams = record { input = I.rest input.new; output = O.taken output.new; errors = None };
-        })
-        words r.fault) }
+    ensures { (terminal : Bool) (words : List (List ℕ)) → IsReadAs words (Asked.Log server)
+        → Came (known_by W.Files world.old) W.faults
+        (W.seen world.old) (W.seen world.new) terminal words result }
 {
-    let answer = say_input(alloc, input, server)?;
-    deliver(&answer, files, output)
+    let answer = say_input(alloc, server, world)?;
+    deliver(&answer, world)
 }
 
 /// Prints a text on how to use the program.
 #[tactic(none)]
-fn answer_text<'a, F: Files, O: Output>(
+fn answer_text<'a, W: World>(
     text: String,
     is_mistake: bool,
-    files: &mut F,
-    output: &mut O,
+    world: &mut W,
 ) -> Result<Status, Refusal<'a>>
-    ensures done { (words : List (List ℕ)) → IsReadAs words (Asked.Text text is_mistake) → IfOk result
-        (IsAnswered
-        (record { holds = F.holds files.old; fails = F.fails files.old; refuses = F.refuses })
-        (record {
-          made = F.made files.old;
-          streams = record { input = None; output = O.taken output.old; errors = None };
-        })
-        (record {
-          made = F.made files.new;
-          streams = record { input = None; output = O.taken output.new; errors = None };
-        })
-        words) }
-    ensures refused { (words : List (List ℕ)) → IsReadAs words (Asked.Text text is_mistake) → IfErr result
-        (λ r. IsLost
-        (record { holds = F.holds files.old; fails = F.fails files.old; refuses = F.refuses })
-        (record { input_fails = ⊥; output_refuses = O.refuses; errors_refuse = λ _. ⊥ })
-        (record {
-          made = F.made files.old;
-          streams = record { input = None; output = O.taken output.old; errors = None };
-        })
-        (record {
-          made = F.made files.new;
-          streams = record { input = None; output = O.taken output.new; errors = None };
-        })
-        words r.fault) }
+    ensures { (terminal : Bool) (words : List (List ℕ)) → IsReadAs words (Asked.Text text is_mistake)
+        → Came (known_by W.Files world.old) W.faults
+        (W.seen world.old) (W.seen world.new) terminal words result }
 {
     let answer = Answer::printed(Status::of_text(is_mistake), text);
-    deliver(&answer, files, output)
+    deliver(&answer, world)
 }
 
 /// Does what words ask for that were read.
 #[tactic(none)]
-pub(crate) fn answer_words<
-    'a,
-    R: Threads + Wait + Sync + Net + Clock + std::io::Input,
-    F: Files,
-    I: Input,
-    O: Output,
-    E: Output,
->(
+pub(crate) fn answer_words<'a, R: Threads + Wait + Sync + Net + Clock + std::io::Input, W: World>(
     rt: &R,
     alloc: Global,
     wanted: Asked<'a>,
     terminal: bool,
-    files: &mut F,
-    input: &mut I,
-    output: &mut O,
-    errors: &mut E,
+    world: &mut W,
 ) -> Result<Status, Refusal<'a>>
-    ensures done { (words : List (List ℕ)) → IsReadAs words wanted.entry → IfOk result (IsFinished
-        (record { holds = F.holds files.old; fails = F.fails files.old; refuses = F.refuses })
-        (record { input_fails = I.fails; output_refuses = O.refuses; errors_refuse = E.refuses })
-        (record {
-          made = F.made files.old;
-          streams = record {
-            input = I.rest input.old;
-            output = O.taken output.old;
-            errors = E.taken errors.old;
-          };
-        })
-        (record {
-          made = F.made files.new;
-          streams = record {
-            input = I.rest input.new;
-            output = O.taken output.new;
-            errors = E.taken errors.new;
-          };
-        })
-        terminal words) }
-    ensures refused { (words : List (List ℕ)) → IsReadAs words wanted.entry → IfErr result (λ r. IsUnfinished
-        (record { holds = F.holds files.old; fails = F.fails files.old; refuses = F.refuses })
-        (record { input_fails = I.fails; output_refuses = O.refuses; errors_refuse = E.refuses })
-        (record {
-          made = F.made files.old;
-          streams = record {
-            input = I.rest input.old;
-            output = O.taken output.old;
-            errors = E.taken errors.old;
-          };
-        })
-        (record {
-          made = F.made files.new;
-          streams = record {
-            input = I.rest input.new;
-            output = O.taken output.new;
-            errors = E.taken errors.new;
-          };
-        })
-        terminal words r.fault) }
+    ensures { (words : List (List ℕ)) → IsReadAs words wanted.entry → Came (known_by W.Files world.old) W.faults
+        (W.seen world.old) (W.seen world.new) terminal words result }
 {
     match wanted {
-        Asked::Live(asked) => live(rt, alloc, asked, files, output),
-        Asked::Fleet(asked) => answer_fleet(rt, alloc, asked, terminal, files, output, errors),
-        Asked::Log { server } => answer_log(alloc, server, files, input, output),
-        Asked::Job(job) => answer_job(rt, alloc, job, files, input, output, errors),
-        Asked::Text { text, is_mistake } => answer_text(text, is_mistake, files, output),
+        Asked::Live(asked) => live(rt, alloc, asked, world),
+        Asked::Fleet(asked) => answer_fleet(rt, alloc, asked, terminal, world),
+        Asked::Log { server } => answer_log(alloc, server, world),
+        Asked::Job(job) => answer_job(rt, alloc, job, world),
+        Asked::Text { text, is_mistake } => answer_text(text, is_mistake, world),
     }
 }

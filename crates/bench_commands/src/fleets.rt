@@ -1,14 +1,15 @@
 //! A session of several devices, and its verdict.
-ghost use Rattle.std.specs.Prelude.{ℕ, ◌≡◌, IfErr, IfOk, List, None, map, option_map, option_to_list};
+ghost use Rattle.std.specs.Prelude.{ℕ, ◌≡◌, IfErr, IfOk, List, option_map, option_to_list};
+ghost use Rattle.command_files.specs.World.{known_by};
 ghost use Rattle.command_line.specs.Words.{IsReadAs};
 ghost use Rattle.expectations.specs.ExpectedCases.{expected_cases_in};
 ghost use Rattle.test_reports.specs.Reading.{AreRead, IsRefusalOf};
-ghost use Rattle.bench_commands.specs.Command.{AreServed, IsFleetLost};
+ghost use Rattle.bench_commands.specs.Command.{Came};
 ghost use Rattle.bench_commands.specs.Judged.{IsJudgedBy, IsUnjudgedBy, judged_status, verdict_form};
 
 use command_expect::report_on;
 use command_files::files::Files;
-use command_files::{Output, Refusal, Status, deliver};
+use command_files::{Refusal, Status, World, deliver};
 use command_fleet::{Held, fleet};
 use command_line::{Asked, AskedFleet};
 use expectations::ExpectedCase;
@@ -64,43 +65,24 @@ fn judged_status(held: Status, verdict: Status) -> Status
 }
 
 /// Judges a session of which this is left, where these files say what servers have to send, and tells the report.
-fn judge<'a, F: Files, O: Output>(
+fn judge<'a, W: World>(
     alloc: Global,
     goal: &[CaseFile<'a, ExpectedCase>],
     json: bool,
     junit: Option<&'a str>,
     held: Held,
-    files: &mut F,
-    output: &mut O,
+    world: &mut W,
 ) -> Result<Status, Refusal<'a>>
     ensures judged { IfOk result (IsJudgedBy goal.now json (option_map (λ p. p.now) junit.entry) held.saved
-        (record {
-          made = F.made files.old;
-          streams = record { input = None; output = O.taken output.old; errors = None };
-        })
-        (record {
-          made = F.made files.new;
-          streams = record { input = None; output = O.taken output.new; errors = None };
-        })
-        held.status) }
-    ensures unjudged { IfErr result (λ r. IsUnjudgedBy
-        (record { holds = F.holds files.old; fails = F.fails files.old; refuses = F.refuses })
-        (record { input_fails = ⊥; output_refuses = O.refuses; errors_refuse = λ _. ⊥ })
-        goal.now json (option_map (λ p. p.now) junit.entry) held.saved
-        (record {
-          made = F.made files.old;
-          streams = record { input = None; output = O.taken output.old; errors = None };
-        })
-        (record {
-          made = F.made files.new;
-          streams = record { input = None; output = O.taken output.new; errors = None };
-        })
-        r.fault) }
+        (W.seen world.old) (W.seen world.new) held.status) }
+    ensures unjudged { IfErr result (λ r. IsUnjudgedBy W.refuses W.faults goal.now json
+        (option_map (λ p. p.now) junit.entry) held.saved (W.seen world.old) (W.seen world.new) r.fault) }
+    ensures none_read { (W.seen world.new).streams.input ≡ (W.seen world.old).streams.input }
 {
     match (goal, held.saved) {
         ([_, ..], Some(saved)) => {
             let answer = report_on(alloc, goal, &saved, None, None, verdict_form(json), junit)?;
-            let verdict = deliver(&answer, files, output)?;
+            let verdict = deliver(&answer, world)?;
             Ok(judged_status(held.status, verdict))
         }
         _ => Ok(held.status),
@@ -109,59 +91,20 @@ fn judge<'a, F: Files, O: Output>(
 
 /// Serves devices for a session, and judges it, if there is something that servers have to send.
 #[tactic(none)]
-pub(crate) fn answer_fleet<'a, R: Net + Clock + std::io::Input, F: Files, O: Output, E: Output>(
+pub(crate) fn answer_fleet<'a, R: Net + Clock + std::io::Input, W: World>(
     rt: &R,
     alloc: Global,
     asked: AskedFleet<'a>,
     terminal: bool,
-    files: &mut F,
-    output: &mut O,
-    errors: &mut E,
+    world: &mut W,
 ) -> Result<Status, Refusal<'a>>
-    ensures done { (words : List (List ℕ)) → IsReadAs words (Asked.Fleet asked.entry) → IfOk result (AreServed
-        (record { holds = F.holds files.old; fails = F.fails files.old; refuses = F.refuses })
-        (record {
-          made = F.made files.old;
-          streams = record { input = None; output = O.taken output.old; errors = E.taken errors.old };
-        })
-        (record {
-          made = F.made files.new;
-          streams = record { input = None; output = O.taken output.new; errors = E.taken errors.new };
-        })
-        terminal words) }
-    ensures lost { (words : List (List ℕ)) → IsReadAs words (Asked.Fleet asked.entry) → IfErr result (λ r. IsFleetLost
-        (record { holds = F.holds files.old; fails = F.fails files.old; refuses = F.refuses })
-        (record { input_fails = ⊥; output_refuses = O.refuses; errors_refuse = E.refuses })
-        (record {
-          made = F.made files.old;
-          streams = record { input = None; output = O.taken output.old; errors = E.taken errors.old };
-        })
-        (record {
-          made = F.made files.new;
-          streams = record { input = None; output = O.taken output.new; errors = E.taken errors.new };
-        })
-        terminal words r.fault) }
+    ensures { (words : List (List ℕ)) → IsReadAs words (Asked.Fleet asked.entry)
+        → Came (known_by W.Files world.old) W.faults
+        (W.seen world.old) (W.seen world.new) terminal words result }
 {
     let json = asked.json;
     let verdict = asked.verdict;
-    let goal = read_goal(alloc, verdict.file, files)?;
-    let held = fleet(
-        rt,
-        alloc,
-        asked,
-        cases_in(goal.as_slice()),
-        terminal,
-        files,
-        output,
-        errors,
-    )?;
-    judge(
-        alloc,
-        goal.as_slice(),
-        json,
-        verdict.junit,
-        held,
-        files,
-        output,
-    )
+    let goal = read_goal(alloc, verdict.file, world)?;
+    let held = fleet(rt, alloc, asked, cases_in(goal.as_slice()), terminal, world)?;
+    judge(alloc, goal.as_slice(), json, verdict.junit, held, world)
 }

@@ -1,5 +1,5 @@
 //! The jobs that the words ask for: what each is answered with.
-ghost use Rattle.std.specs.Prelude.{◌⊎◌, IfErr, IfNone, IfOk, IfSome};
+ghost use Rattle.std.specs.Prelude.{◌≡◌, ◌⊎◌, IfErr, IfNone, IfOk, IfSome};
 ghost use Rattle.bench_commands.specs.Command.{IsCheckAnswer, IsCutJob, IsDebuggedJob, IsDone, IsOneAnswer};
 ghost use Rattle.bench_commands.specs.Command.{IsRefusedJob};
 ghost use Rattle.command_demo.specs.One.{IsOneFault};
@@ -11,7 +11,7 @@ use command_debug::debug;
 use command_demo::{one, one_json, one_why};
 use command_expect::expect;
 use command_files::files::Files;
-use command_files::{Answer, Input, Output, Refusal};
+use command_files::{Answer, Refusal, World};
 use command_join::join;
 use command_line::{Job, TraceForm as AskedForm};
 use command_lint::lint;
@@ -74,36 +74,23 @@ fn answer_to_check<'a, F: Files>(
     }
 }
 
-/// What the program answers to a job; none where that is a debugger over a run: then the lines of `input` were
+/// What the program answers to a job; none where that is a debugger over a run: then the lines of standard input were
 /// answered.
-pub(crate) fn answer_to<'a, R: Threads + Wait + Sync, F: Files, I: Input, O: Output, E: Output>(
+pub(crate) fn answer_to<'a, R: Threads + Wait + Sync, W: World>(
     rt: &R,
     alloc: Global,
     job: Job<'a>,
-    files: &F,
-    input: &mut I,
-    output: &mut O,
-    errors: &mut E,
+    world: &mut W,
 ) -> Result<Option<Answer<'a>>, Refusal<'a>>
-    ensures done { IfOk result (λ o. IfSome o (IsDone (F.holds files.now) job.entry)) }
-    ensures idle { IfOk result (λ o. IfSome o (λ _. IsIdle
-        (record { input = I.rest input.old; output = O.taken output.old; errors = E.taken errors.old })
-        (record { input = I.rest input.new; output = O.taken output.new; errors = E.taken errors.new }))) }
-    ensures debugged { IfOk result (λ o. IfNone o (IsDebuggedJob (F.holds files.now)
-        (record { input_fails = I.fails; output_refuses = O.refuses; errors_refuse = E.refuses })
-        job.entry
-        (record { input = I.rest input.old; output = O.taken output.old; errors = E.taken errors.old })
-        (record { input = I.rest input.new; output = O.taken output.new; errors = E.taken errors.new }))) }
-    ensures refused { IfErr result (λ r.
-        (IsRefusedJob (F.holds files.now) (F.fails files.now) job.entry r.fault × IsIdle
-        (record { input = I.rest input.old; output = O.taken output.old; errors = E.taken errors.old })
-        (record { input = I.rest input.new; output = O.taken output.new; errors = E.taken errors.new }))
-        ⊎ IsCutJob (F.holds files.now)
-        (record { input_fails = I.fails; output_refuses = O.refuses; errors_refuse = E.refuses })
-        job.entry
-        (record { input = I.rest input.old; output = O.taken output.old; errors = E.taken errors.old })
-        (record { input = I.rest input.new; output = O.taken output.new; errors = E.taken errors.new })
+    ensures done { IfOk result (λ o. IfSome o (IsDone (W.holds world.old) job.entry)) }
+    ensures idle { IfOk result (λ o. IfSome o (λ _. IsIdle (W.seen world.old).streams (W.seen world.new).streams)) }
+    ensures debugged { IfOk result (λ o. IfNone o (IsDebuggedJob (W.holds world.old) W.faults job.entry
+        (W.seen world.old).streams (W.seen world.new).streams)) }
+    ensures refused { IfErr result (λ r. (IsRefusedJob (W.holds world.old) (W.fails world.old) job.entry r.fault
+        × IsIdle (W.seen world.old).streams (W.seen world.new).streams)
+        ⊎ IsCutJob (W.holds world.old) W.faults job.entry (W.seen world.old).streams (W.seen world.new).streams
         r.fault) }
+    ensures none_made { (W.seen world.new).made ≡ (W.seen world.old).made }
 {
     match job {
         Job::One { hex, form } => {
@@ -126,18 +113,18 @@ pub(crate) fn answer_to<'a, R: Threads + Wait + Sync, F: Files, I: Input, O: Out
             form,
         } => {
             let part = Selection { device, from, to };
-            let answer = play(alloc, file, play_form(form), part, files)?;
+            let answer = play(alloc, file, play_form(form), part, world)?;
             Ok(Some(answer))
         }
         Job::Asm {
             input: text,
             output: path,
         } => {
-            let answer = asm(alloc, text, path, files)?;
+            let answer = asm(alloc, text, path, world)?;
             Ok(Some(answer))
         }
         Job::Dis { input: path } => {
-            let answer = dis(alloc, path, files)?;
+            let answer = dis(alloc, path, world)?;
             Ok(Some(answer))
         }
         Job::Run {
@@ -146,11 +133,11 @@ pub(crate) fn answer_to<'a, R: Threads + Wait + Sync, F: Files, I: Input, O: Out
             batch,
             trace,
         } => {
-            let answer = run(rt, alloc, image, workers, batch, trace, files)?;
+            let answer = run(rt, alloc, image, workers, batch, trace, world)?;
             Ok(Some(answer))
         }
         Job::Check { image, trace, json } => {
-            let answer = answer_to_check(alloc, image, trace, json, files)?;
+            let answer = answer_to_check(alloc, image, trace, json, world)?;
             Ok(Some(answer))
         }
         Job::Show {
@@ -162,7 +149,7 @@ pub(crate) fn answer_to<'a, R: Threads + Wait + Sync, F: Files, I: Input, O: Out
             form,
         } => {
             let selection = Selection { device, from, to };
-            let answer = show(alloc, image, trace, form_of(form), selection, files)?;
+            let answer = show(alloc, image, trace, form_of(form), selection, world)?;
             Ok(Some(answer))
         }
         Job::Pcap {
@@ -170,16 +157,16 @@ pub(crate) fn answer_to<'a, R: Threads + Wait + Sync, F: Files, I: Input, O: Out
             trace,
             output: path,
         } => {
-            let answer = pcap(alloc, image, trace, path, files)?;
+            let answer = pcap(alloc, image, trace, path, world)?;
             Ok(Some(answer))
         }
         Job::Debug {
             image,
             trace,
             reasons,
-        } => debug(alloc, image, trace, reasons, files, input, output, errors),
+        } => debug(alloc, image, trace, reasons, world),
         Job::Titles { files: paths, only } => {
-            let answer = titles(alloc, paths.as_slice(), only, files)?;
+            let answer = titles(alloc, paths.as_slice(), only, world)?;
             Ok(Some(answer))
         }
         Job::Test {
@@ -189,7 +176,7 @@ pub(crate) fn answer_to<'a, R: Threads + Wait + Sync, F: Files, I: Input, O: Out
             junit,
         } => {
             let form = report_form(form);
-            let answer = test(alloc, paths.as_slice(), only, form, junit, files)?;
+            let answer = test(alloc, paths.as_slice(), only, form, junit, world)?;
             Ok(Some(answer))
         }
         Job::Expect {
@@ -209,7 +196,7 @@ pub(crate) fn answer_to<'a, R: Threads + Wait + Sync, F: Files, I: Input, O: Out
                 only,
                 form,
                 junit,
-                files,
+                world,
             )?;
             Ok(Some(answer))
         }
@@ -217,7 +204,7 @@ pub(crate) fn answer_to<'a, R: Threads + Wait + Sync, F: Files, I: Input, O: Out
             output: path,
             images,
         } => {
-            let answer = join(alloc, path, images.as_slice(), files)?;
+            let answer = join(alloc, path, images.as_slice(), world)?;
             Ok(Some(answer))
         }
         Job::Lint {
@@ -227,7 +214,7 @@ pub(crate) fn answer_to<'a, R: Threads + Wait + Sync, F: Files, I: Input, O: Out
             form,
         } => {
             let form = lint_form(form);
-            let answer = lint(alloc, file, form, only.as_slice(), except.as_slice(), files)?;
+            let answer = lint(alloc, file, form, only.as_slice(), except.as_slice(), world)?;
             Ok(Some(answer))
         }
     }

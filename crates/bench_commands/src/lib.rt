@@ -27,4 +27,4 @@ mod program;
 mod system;
 
 pub use program::command;
-pub use system::{conclude, start};
+pub use system::{conclude, start, system};

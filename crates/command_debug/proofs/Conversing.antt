@@ -1,21 +1,20 @@
 -- A conversation, put together from its turns.
 use Rattle.std.proofs.Common.{ℕ, ◌≡◌, ◌+◌, ◌⊎◌, Bool, List, [], ◌∷◌, ◌++◌, length, Option, None, Some}
 use Rattle.std.proofs.Common.{refl, sym, ap, subst, arith, ◌∙◌, inl, inr, append_assoc, append-nil}
-use Rattle.std.specs.Io.KnownBytes.{Appends}
 use Rattle.std.proofs.KnownBytes.{Appends-nil, Appends-trans}
 use Rattle.debug_answers.specs.declared.command.Command.TheVariants.{Quit}
 use Rattle.debug_answers.specs.Saying.{IsLineOf}
 use Rattle.debugger.specs.Session.{Session}
 use Rattle.debug_answers.specs.Notes.{IsNote}
 use Rattle.debug_answers.specs.Replies.{IsReply}
-use Rattle.command_debug.proofs.Turns.{parts}
+use Rattle.command_debug.proofs.Turns.{noted_after, parts}
 use Rattle.command_debug.specs.Conversation.{AreAnswered, AreNextLines, AreNoted, IsBeyond, IsConversation, IsCut}
 use Rattle.command_debug.specs.Conversation.{IsCutShort, IsExchange, IsLastTurn, IsNextLine, IsNoted, IsTurn}
 use Rattle.command_debug.specs.Conversation.{Terms}
 use Rattle.command_files.specs.Fault.{IsReadingFault}
 use Rattle.command_files.specs.Files.{most_bytes}
 use Rattle.command_files.specs.Input.{IsLonger, IsWithin, WhereKnown}
-use Rattle.command_files.specs.World.{StreamFaults, Streams}
+use Rattle.command_files.specs.World.{Streams}
 use Rattle.command_files.specs.declared.fault.Fault.{Fault}
 use Rattle.command_files.specs.declared.fault.Fault.TheVariants as faults
 
@@ -55,13 +54,6 @@ more_answers reasons old (first ∷ lines) between new text said more
       more_answers reasons middle lines between new then said more rest other reply,
       ap (λ t. t ++ more) split ∙ append_assoc now then more,
     )
-
-noted_after : (faults : StreamFaults) (a b c : Streams) (note : Option (List ℕ)) → b.errors ≡ a.errors
-    → IsNoted faults b c note → IsNoted faults a c note
-noted_after faults a b c None same silent = silent ∙ same
-noted_after faults a b c (Some note) same (inl printed) =
-    inl (subst (λ errors. Appends errors c.errors note) same printed)
-noted_after faults a b c (Some note) same (inr refused) = inr refused
 
 more_notes : (terms : Terms) (a b c : Streams) (lines : List (List ℕ)) (said : List ℕ)
     (note : Option (List ℕ)) → AreNoted terms a b lines → IsNote terms.reasons said note

@@ -105,29 +105,24 @@ at_quit before after line said left is rest bare some fits asks silent =
     last (Some bytes) None next = absurd next
     last (Some bytes) (Some rest) next = inr (said, next, asks)
 
--- what standard error got, and why it did not take something, where nothing is said of the other streams
-abbrev pub errors_of : Streams → Streams
-errors_of streams = record { input = None; output = None; errors = streams.errors }
-
-abbrev pub error_faults_of : StreamFaults → StreamFaults
-error_faults_of faults =
-    record { input_fails = ⊥; output_refuses = λ _. ⊥; errors_refuse = faults.errors_refuse }
-
-noted_on : (faults : StreamFaults) (before after : Streams) (note : Option (List ℕ))
-    → IsNoted (error_faults_of faults) (errors_of before) (errors_of after) note → IsNoted faults before after note
-noted_on faults before after None same = same
-noted_on faults before after (Some note) noted = noted
+-- a note, after which standard error has what it had before something else
+pub noted_after : (faults : StreamFaults) (a b c : Streams) (note : Option (List ℕ)) → b.errors ≡ a.errors
+    → IsNoted faults b c note → IsNoted faults a c note
+noted_after faults a b c None same silent = silent ∙ same
+noted_after faults a b c (Some note) same (inl printed) =
+    inl (subst (λ errors. Appends errors c.errors note) same printed)
+noted_after faults a b c (Some note) same (inr refused) = inr refused
 
 -- a line was read and answered
-pub turn : (terms : Terms) (before after : Streams) (old new : Session) (line said text : List ℕ)
+pub turn : (terms : Terms) (before between after : Streams) (old new : Session) (line said text : List ℕ)
     (note : Option (List ℕ)) (left more : ℕ)
     → IfSome before.input (λ bytes. line ≡ take_through 10 bytes) → DropsThrough before.input after.input 10
     → said ≡ strip_last 10 line → 0 < length line → length line ≤ left → more ≡ left - length line
     → (IsLineOf Quit said → ⊥) → IsReply terms.reasons old said new text → Appends before.output after.output text
-    → IsNote terms.reasons said note → IsNoted (error_faults_of terms.faults) (errors_of before) (errors_of after) note
+    → IsNote terms.reasons said note → between.errors ≡ before.errors → IsNoted terms.faults between after note
     → IsTurn terms before after old new left more
-turn terms before after old new line said text note left more is rest bare some fits same other reply printed is_note
-    noted =
+turn terms before between after old new line said text note left more is rest bare some fits same other reply printed
+    is_note quiet noted =
     record {
       said = said;
       read = next_line before.input after.input line said is rest bare some;
@@ -137,7 +132,7 @@ turn terms before after old new line said text note left more is rest bare some 
       printed = printed;
       note = note;
       is_note = is_note;
-      noted = noted_on terms.faults before after note noted;
+      noted = noted_after terms.faults before between after note quiet noted;
       fewer = omega (arith, some, fits, same);
       spent = spent_by before.input after.input line left more is rest fits same;
     }

@@ -10,102 +10,69 @@ ghost use Rattle.command_files.specs.Verdicts.{IsJudged};
 ghost use Rattle.command_files.specs.World.{IsIdle};
 
 use crate::conversation::converse;
-use command_files::files::Files;
-use command_files::{
-    Answer, Fault, Input, Output, Refusal, Status, load_scenario, load_trace, no_run,
-};
+use command_files::{Answer, Fault, Refusal, Status, World, load_scenario, load_trace, no_run};
 use debugger::{Debugger, OpenFault};
 use scenario_image::Scenario;
 use std::alloc::Global;
 use trace_file::Entries;
 
-/// `debug IMAGE TRACE`: answers the lines of the input, over a run, with notes for a person on `errors`; where the
-/// trace is none, the answer says so. With `--why`, `reasons` are asked for: then `why` is a command.
+/// `debug IMAGE TRACE`: answers the lines of standard input, over a run, with notes for a person on standard error;
+/// where the trace is none, the answer says so. With `--why`, `reasons` are asked for: then `why` is a command.
 #[tactic(auto, using(crate::proofs::Debugged::debug_refused, crate::proofs::Debugged::debugged_at, crate::proofs::Debugged::image_refused, crate::proofs::Debugged::trace_refused, crate::proofs::Debugged::run_refused))]
-pub fn debug<'a, F: Files, I: Input, O: Output, E: Output>(
+pub fn debug<'a, W: World>(
     alloc: Global,
     image: &'a str,
     trace: &'a str,
     reasons: bool,
-    files: &F,
-    input: &mut I,
-    output: &mut O,
-    errors: &mut E,
+    world: &mut W,
 ) -> Result<Option<Answer<'a>>, Refusal<'a>>
-    ensures done { IfOk result (λ o. IfSome o (IsDebugRefused (F.holds files.now)
+    ensures done { IfOk result (λ o. IfSome o (IsDebugRefused (W.holds world.old)
         (record { image = image.entry.now; trace = trace.entry.now }))) }
-    ensures idle { IfOk result (λ o. IfSome o (λ _. IsIdle
-        (record { input = I.rest input.old; output = O.taken output.old; errors = E.taken errors.old })
-        (record { input = I.rest input.new; output = O.taken output.new; errors = E.taken errors.new }))) }
-    ensures conversation { IfOk result (λ o. IfNone o (IsDebuggedAt (F.holds files.now)
-        (record {
-          faults = record { input_fails = I.fails; output_refuses = O.refuses; errors_refuse = E.refuses };
-          reasons = reasons;
-        })
-        (record { image = image.entry.now; trace = trace.entry.now })
-        (record { input = I.rest input.old; output = O.taken output.old; errors = E.taken errors.old })
-        (record { input = I.rest input.new; output = O.taken output.new; errors = E.taken errors.new }))) }
+    ensures idle { IfOk result (λ o. IfSome o (λ _. IsIdle (W.seen world.old).streams (W.seen world.new).streams)) }
+    ensures conversation { IfOk result (λ o. IfNone o (IsDebuggedAt (W.holds world.old)
+        (record { faults = W.faults; reasons = reasons }) (record { image = image.entry.now; trace = trace.entry.now })
+        (W.seen world.old).streams (W.seen world.new).streams)) }
     ensures refused { IfErr result (λ r.
-        (IsCheckRefused (F.holds files.now) (F.fails files.now)
-        (record { image = image.entry.now; trace = trace.entry.now }) r.fault × IsIdle
-        (record { input = I.rest input.old; output = O.taken output.old; errors = E.taken errors.old })
-        (record { input = I.rest input.new; output = O.taken output.new; errors = E.taken errors.new }))
-        ⊎ IsDebugCutAt (F.holds files.now)
-        (record {
-          faults = record { input_fails = I.fails; output_refuses = O.refuses; errors_refuse = E.refuses };
-          reasons = reasons;
-        })
+        (IsCheckRefused (W.holds world.old) (W.fails world.old)
         (record { image = image.entry.now; trace = trace.entry.now })
-        (record { input = I.rest input.old; output = O.taken output.old; errors = E.taken errors.old })
-        (record { input = I.rest input.new; output = O.taken output.new; errors = E.taken errors.new })
+        r.fault × IsIdle (W.seen world.old).streams (W.seen world.new).streams)
+        ⊎ IsDebugCutAt (W.holds world.old) (record { faults = W.faults; reasons = reasons })
+        (record { image = image.entry.now; trace = trace.entry.now }) (W.seen world.old).streams
+        (W.seen world.new).streams
         r.fault) }
+    ensures none_made { (W.seen world.new).made ≡ (W.seen world.old).made }
 {
-    let scenario = load_scenario(alloc, image, files)?;
-    let entries = load_trace(alloc, trace, files)?;
-    debug_run(alloc, &scenario, entries, reasons, input, output, errors)
+    let scenario = load_scenario(alloc, image, world)?;
+    let entries = load_trace(alloc, trace, world)?;
+    debug_run(alloc, &scenario, entries, reasons, world)
 }
 
-/// Answers the lines of the input, over a run; where the entries are none, the answer says so.
+/// Answers the lines of standard input, over a run; where the entries are none, the answer says so.
 #[tactic(auto, using(command_files::proofs::Built::judged_none))]
-fn debug_run<'a, I: Input, O: Output, E: Output>(
+fn debug_run<'a, W: World>(
     alloc: Global,
     scenario: &Scenario,
     entries: Entries,
     reasons: bool,
-    input: &mut I,
-    output: &mut O,
-    errors: &mut E,
+    world: &mut W,
 ) -> Result<Option<Answer<'a>>, Refusal<'a>>
     ensures verdict { IfOk result (λ o. IfSome o (IsJudged scenario.now entries)) }
     ensures no_run { IfOk result (λ o. IfSome o (λ a. a.status ≡ Status.NotRun)) }
     ensures made { IfOk result (λ o. IfSome o (λ a. files_of a.file ≡ [])) }
-    ensures idle { IfOk result (λ o. IfSome o (λ _. IsIdle
-        (record { input = I.rest input.old; output = O.taken output.old; errors = E.taken errors.old })
-        (record { input = I.rest input.new; output = O.taken output.new; errors = E.taken errors.new }))) }
+    ensures idle { IfOk result (λ o. IfSome o (λ _. IsIdle (W.seen world.old).streams (W.seen world.new).streams)) }
     ensures run { IfOk result (λ o. IfNone o (IsRun scenario.now entries)) }
-    ensures conversed { IfOk result (λ o. IfNone o (IsConversation
-        (record {
-          faults = record { input_fails = I.fails; output_refuses = O.refuses; errors_refuse = E.refuses };
-          reasons = reasons;
-        })
-        (record { input = I.rest input.old; output = O.taken output.old; errors = E.taken errors.old })
-        (record { input = I.rest input.new; output = O.taken output.new; errors = E.taken errors.new })
-        (new_session scenario.now entries))) }
-    ensures refused { IfErr result (λ r. ((r.fault ≡ Fault.Memory) × IsIdle
-        (record { input = I.rest input.old; output = O.taken output.old; errors = E.taken errors.old })
-        (record { input = I.rest input.new; output = O.taken output.new; errors = E.taken errors.new }))
-        ⊎ (IsRun scenario.now entries × IsCutShort
-        (record {
-          faults = record { input_fails = I.fails; output_refuses = O.refuses; errors_refuse = E.refuses };
-          reasons = reasons;
-        })
-        (record { input = I.rest input.old; output = O.taken output.old; errors = E.taken errors.old })
-        (record { input = I.rest input.new; output = O.taken output.new; errors = E.taken errors.new })
-        (new_session scenario.now entries) r.fault)) }
+    ensures conversed { IfOk result (λ o. IfNone o (IsConversation (record { faults = W.faults; reasons = reasons })
+        (W.seen world.old).streams (W.seen world.new).streams (new_session scenario.now entries))) }
+    ensures refused { IfErr result (λ r.
+        ((r.fault ≡ Fault.Memory) × IsIdle (W.seen world.old).streams (W.seen world.new).streams)
+        ⊎ (IsRun scenario.now entries × IsCutShort (record { faults = W.faults; reasons = reasons })
+        (W.seen world.old).streams (W.seen world.new).streams (new_session scenario.now entries)
+        r.fault)) }
+    ensures none_made { (W.seen world.new).made ≡ (W.seen world.old).made }
 {
     match Debugger::open(alloc, scenario, entries) {
         Ok(mut debugger) => {
-            converse(alloc, &mut debugger, reasons, input, output, errors)?;
+            converse(alloc, &mut debugger, reasons, world)?;
             Ok(None)
         }
         Err(OpenFault::NotRun(place)) => Ok(Some(no_run(alloc, place)?)),

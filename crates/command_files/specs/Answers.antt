@@ -1,9 +1,9 @@
 -- What an answer makes and prints, and what is left where it could not be.
-use Rattle.std.specs.Prelude.{◌≡◌, ◌⊎◌, List, [], ◌∷◌, Option, None, Some, IfSome}
+use Rattle.std.specs.Prelude.{ℕ, ◌≡◌, ◌⊎◌, List, [], ◌∷◌, Option, None, Some, IfSome}
 use Rattle.std.specs.String.{string_bytes}
 use Rattle.command_files.specs.Fault.{IsWritingFault}
 use Rattle.command_files.specs.Files.{Grows, MadeFile}
-use Rattle.command_files.specs.World.{FilesKnown, StreamFaults, World}
+use Rattle.command_files.specs.World.{StreamFaults, World}
 use Rattle.command_files.specs.declared.answer.Answer.{Answer}
 use Rattle.command_files.specs.declared.answer.NewFile.{NewFile}
 use Rattle.command_files.specs.declared.fault.Fault.{Fault}
@@ -22,8 +22,8 @@ writing_fault file.Memory = Memory
 writing_fault (file.Failed why) = Write
 
 -- the file was not made: no file was, and nothing was printed
-pub record IsUnmade (files : FilesKnown) (before after : World) (answer : Answer) (fault : Fault) : Type 0 where
-  pub failed : IsWritingFault (IfSome answer.file (λ f. files.refuses f.path.now)) fault
+pub record IsUnmade (refuses : List ℕ → Type 0) (before after : World) (answer : Answer) (fault : Fault) : Type 0 where
+  pub failed : IsWritingFault (IfSome answer.file (λ f. refuses f.path.now)) fault
   pub none : after.made ≡ before.made
   pub silent : after.streams.output ≡ before.streams.output
 
@@ -32,6 +32,6 @@ pub record IsUnprinted (faults : StreamFaults) (before after : World) (answer : 
   pub failed : IsWritingFault (faults.output_refuses (string_bytes answer.text)) fault
   pub made : Grows before.made after.made (files_of answer.file)
 
-abbrev pub IsUndelivered : FilesKnown → StreamFaults → World → World → Answer → Fault → Type 0
-IsUndelivered files faults before after answer fault =
-    IsUnmade files before after answer fault ⊎ IsUnprinted faults before after answer fault
+abbrev pub IsUndelivered : (List ℕ → Type 0) → StreamFaults → World → World → Answer → Fault → Type 0
+IsUndelivered refuses faults before after answer fault =
+    IsUnmade refuses before after answer fault ⊎ IsUnprinted faults before after answer fault

@@ -1,6 +1,7 @@
 -- What the files and the streams were at one moment, where that is known, and what is known of why one of them failed.
 use Rattle.std.specs.Prelude.{ℕ, ◌≡◌, List, Option}
 use Rattle.command_files.specs.Files.{MadeFile}
+use Rattle.command_files.specs.declared.files.Files as files
 
 -- the streams at one moment
 pub record Streams : Type 0 where
@@ -34,6 +35,40 @@ pub record FilesKnown : Type 1 where
   pub fails : List ℕ → Type 0
   -- no file could be made at this path
   pub refuses : List ℕ → Type 0
+
+-- what is known of files, by what their trait says of them
+abbrev pub known_by : {F : Type 0} → files.Ghosts F → F → FilesKnown
+known_by members f = record { holds = members.holds f; fails = members.fails f; refuses = members.refuses }
+
+-- ---- what stays
+
+-- only files were made
+abbrev pub OnlyMakes : World → World → Type 0
+OnlyMakes before after =
+    (after.streams.input ≡ before.streams.input) × (after.streams.output ≡ before.streams.output)
+    × (after.streams.errors ≡ before.streams.errors)
+
+-- only standard input was read
+abbrev pub OnlyReads : World → World → Type 0
+OnlyReads before after =
+    (after.made ≡ before.made) × (after.streams.output ≡ before.streams.output)
+    × (after.streams.errors ≡ before.streams.errors)
+
+-- only standard output got something
+abbrev pub OnlyPrints : World → World → Type 0
+OnlyPrints before after =
+    (after.made ≡ before.made) × (after.streams.input ≡ before.streams.input)
+    × (after.streams.errors ≡ before.streams.errors)
+
+-- only standard error got something
+abbrev pub OnlyNotes : World → World → Type 0
+OnlyNotes before after =
+    (after.made ≡ before.made) × (after.streams.input ≡ before.streams.input)
+    × (after.streams.output ≡ before.streams.output)
+
+-- only standard output and standard error got something
+abbrev pub OnlySays : World → World → Type 0
+OnlySays before after = (after.made ≡ before.made) × (after.streams.input ≡ before.streams.input)
 
 -- nothing was printed
 abbrev pub IsSilent : Streams → Streams → Type 0

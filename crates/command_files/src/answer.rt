@@ -5,12 +5,13 @@ ghost use Rattle.std.specs.String.{string_bytes};
 ghost use Rattle.command_files.specs.Answers.{IsUndelivered, files_of, writing_fault};
 ghost use Rattle.command_files.specs.Fault.{IsWritingFault};
 ghost use Rattle.command_files.specs.Files.{Grows};
+ghost use Rattle.command_files.specs.World.{IsAside, OnlyMakes};
 
 use crate::fault::Fault;
-use crate::files::{FileFault, Files};
-use crate::output::Output;
+use crate::files::FileFault;
 use crate::refusal::{Refusal, Why};
 use crate::status::Status;
+use crate::world::World;
 use octets::Bytes;
 
 /// A file that is still to be made.
@@ -50,14 +51,15 @@ impl<'a> Answer<'a> {
 
 /// Makes the file, if there is one.
 #[tactic(auto, using(crate::proofs::Delivered::unwritten))]
-pub fn make<'a, F: Files>(file: &Option<NewFile<'a>>, files: &mut F) -> Result<(), Refusal<'a>>
-    ensures made { OnOk result (Grows (F.made files.old) (F.made files.new) (files_of file.now)) }
-    ensures kept { OnErr result (F.made files.new ≡ F.made files.old) }
-    ensures refused { IfErr result (λ r. IsWritingFault (IfSome file.now (λ f. F.refuses f.path.now)) r.fault) }
+pub fn make<'a, W: World>(file: &Option<NewFile<'a>>, world: &mut W) -> Result<(), Refusal<'a>>
+    ensures made { OnOk result (Grows (W.seen world.old).made (W.seen world.new).made (files_of file.now)) }
+    ensures kept { OnErr result ((W.seen world.new).made ≡ (W.seen world.old).made) }
+    ensures refused { IfErr result (λ r. IsWritingFault (IfSome file.now (λ f. W.refuses f.path.now)) r.fault) }
+    ensures only { OnlyMakes (W.seen world.old) (W.seen world.new) }
 {
     match file {
         None => Ok(()),
-        Some(file) => match files.write_all(file.path, file.bytes.as_slice()) {
+        Some(file) => match world.write_all(file.path, file.bytes.as_slice()) {
             Ok(()) => Ok(()),
             Err(fault) => Err(unwritten(file.path, fault)),
         },
@@ -82,33 +84,19 @@ pub fn unwritten<'a>(about: &'a str, fault: FileFault) -> Refusal<'a>
     }
 }
 
-/// Makes the file of an answer, if it has one, and then prints its text. Nothing is printed before the file is made. It
-/// has neither an input nor standard error, of which nothing is said.
+/// Makes the file of an answer, if it has one, and then prints its text. Nothing is printed before the file is made.
 #[tactic(auto, using(crate::proofs::Delivered::unwritten, crate::proofs::Delivered::unmade, crate::proofs::Delivered::unprinted))]
-pub fn deliver<'a, F: Files, O: Output>(
-    answer: &Answer<'a>,
-    files: &mut F,
-    output: &mut O,
-) -> Result<Status, Refusal<'a>>
+pub fn deliver<'a, W: World>(answer: &Answer<'a>, world: &mut W) -> Result<Status, Refusal<'a>>
     ensures status { IfOk result (λ status. status ≡ answer.now.status) }
-    ensures made { OnOk result (Grows (F.made files.old) (F.made files.new) (files_of answer.now.file)) }
-    ensures printed { OnOk result (Appends (O.taken output.old) (O.taken output.new) (string_bytes answer.now.text)) }
-    ensures refused { IfErr result (λ r.
-        IsUndelivered
-        (record { holds = F.holds files.old; fails = F.fails files.old; refuses = F.refuses })
-        (record { input_fails = ⊥; output_refuses = O.refuses; errors_refuse = λ _. ⊥ })
-        (record {
-          made = F.made files.old;
-          streams = record { input = None; output = O.taken output.old; errors = None };
-        })
-        (record {
-          made = F.made files.new;
-          streams = record { input = None; output = O.taken output.new; errors = None };
-        })
+    ensures made { OnOk result (Grows (W.seen world.old).made (W.seen world.new).made (files_of answer.now.file)) }
+    ensures printed { OnOk result (Appends (W.seen world.old).streams.output (W.seen world.new).streams.output
+        (string_bytes answer.now.text)) }
+    ensures refused { IfErr result (λ r. IsUndelivered W.refuses W.faults (W.seen world.old) (W.seen world.new)
         answer.now r.fault) }
+    ensures aside { IsAside (W.seen world.old).streams (W.seen world.new).streams }
 {
-    make(&answer.file, files)?;
-    match output.print(answer.text.as_str()) {
+    make(&answer.file, world)?;
+    match world.print(answer.text.as_str()) {
         Ok(()) => Ok(answer.status),
         Err(fault) => Err(unwritten("standard output", fault)),
     }

@@ -60,16 +60,13 @@ fn words_of(kind: ErrorKind) -> &'static str {
     }
 }
 
-/// Where files are: the system, or memory. Only what has it by `&mut` can write.
+/// Files that can be read.
 pub trait Files {
     /// That the file at a path had these bytes when it was read.
     ghost holds: { Self → List ℕ → List ℕ → Type 0 };
 
     /// That the file at a path could not be read.
     ghost fails: { Self → List ℕ → Type 0 };
-
-    /// The files that were made or replaced, in this order, each with all its bytes; where that is known.
-    ghost made: { Self → Option (List MadeFile) };
 
     /// That a file could not be made at a path.
     ghost refuses: { List ℕ → Type 0 };
@@ -79,13 +76,19 @@ pub trait Files {
         ensures bound { IfOk result (λ bytes. vec_len bytes ≤ most_bytes) }
         ensures content { IfOk result (λ bytes. holds self.now path.now bytes.items) }
         ensures failed { IfErr result (IsFailure (fails self.now path.now)) };
+}
+
+/// Where files are: the system, or memory. Only what has it by `&mut` can write.
+pub trait MakesFiles: Files {
+    /// The files that were made or replaced, in this order, each with all its bytes; where that is known.
+    ghost made: { Self → Option (List MadeFile) };
 
     /// Makes or replaces the file at this path.
     fn write_all(&mut self, path: &str, bytes: &[u8]) -> Result<(), FileFault>
         ensures made { OnOk result (Grows (made self.old) (made self.new)
             ((record { path = path.now; bytes = bytes.now }) ∷ [])) }
         ensures kept { OnErr result (made self.new ≡ made self.old) }
-        ensures failed { IfErr result (IsFailure (refuses path.now)) };
+        ensures failed { IfErr result (IsFailure (Self.refuses path.now)) };
 }
 
 /// All that a reader has to give, where that is at most `most` bytes; else `Failed`.
@@ -148,13 +151,15 @@ impl<R: std::rt::Files> Files for SystemFiles<'_, R> {
 
     ghost fails = { λ _ _. Unit {0} };
 
-    ghost made = { λ _. None };
-
     ghost refuses = { λ _. Unit {0} };
 
     fn read_all(&self, alloc: Global, path: &str) -> Result<Vec<u8>, FileFault> {
         read_at_most(alloc, File::open(self.rt, path)?, most_bytes())
     }
+}
+
+impl<R: std::rt::Files> MakesFiles for SystemFiles<'_, R> {
+    ghost made = { λ _. None };
 
     fn write_all(&mut self, path: &str, bytes: &[u8]) -> Result<(), FileFault> {
         if self.is_replaceable(path) {

@@ -2,13 +2,14 @@
 use Rattle.std.proofs.Common.{ℕ, ◌≡◌, ◌+◌, ◌≤◌, Bool, false, List, [], ◌∷◌, ◌++◌, length, Option, None, Some, inl, inr}
 use Rattle.std.proofs.Common.{refl, sym, ap}
 use Rattle.std.proofs.Common.{subst, ◌∙◌, append_assoc, append-nil, arith}
+use Rattle.command_line.specs.declared.fleet_words.AskedFleet.{AskedFleet}
 use Rattle.scenario_image.specs.Scenario.{Scenario}
 use Rattle.fleet_link.specs.declared.slot.Slot.{Slot}
 use Rattle.fleet_link.specs.Serving.{AreRepeated, AreSwept, IsFleet}
 use Rattle.fleet_link.specs.Traffic.{Traffic}
 use Rattle.command_files.specs.Files.{Grows, MadeFile}
 use Rattle.command_fleet.specs.Inside.{IsKeptUp}
-use Rattle.command_fleet.specs.Snapshots.{AreKeptIf, Snapshot, snapshot_files}
+use Rattle.command_fleet.specs.Snapshots.{AreKept, AreKeptIf, Snapshot, snapshot_files}
 
 -- what is known of files grows by nothing
 grows_not : (a : Option (List MadeFile)) → Grows a a []
@@ -84,3 +85,17 @@ kept_on (Some path) part played repeat before told last now began second slots a
       soon = omega (arith, same);
       made = grows_then a b c _ _ kept.made saved.made;
     }
+
+-- ---- the same files by another name
+
+pub kept_at : (asked : AskedFleet) (part : Scenario) (before : ℕ → Option Traffic) (last second : ℕ)
+    (old new now : Option (List MadeFile)) → now ≡ new → AreKept asked part before last second old new
+    → AreKept asked part before last second old now
+kept_at asked part before last second old new now same kept =
+    subst (λ m. AreKept asked part before last second old m) (sym same) kept
+
+pub kept_from : (path : Option (List ℕ)) (part : Scenario) (slots : List Slot) (last second now : ℕ)
+    (old began new : Option (List MadeFile)) → began ≡ old → IsKeptUp began new path part slots last second now
+    → IsKeptUp old new path part slots last second now
+kept_from path part slots last second now old began new same up =
+    subst (λ m. IsKeptUp m new path part slots last second now) same up

@@ -29,7 +29,7 @@ use Rattle.fleet_link.specs.Traffic.{Traffic, no_traffic}
 use Rattle.command_files.specs.Fault.{session_fault, IsReadingFault, IsWritingFault}
 use Rattle.command_files.specs.Files.{Grows, MadeFile}
 use Rattle.command_files.specs.Loading.{IsHeld}
-use Rattle.command_files.specs.World.{FilesKnown, StreamFaults, Streams, World}
+use Rattle.command_files.specs.World.{FilesKnown, OnlyMakes, OnlyNotes, OnlyPrints, StreamFaults, Streams, World}
 use Rattle.command_files.specs.declared.fault.Fault.{Fault}
 use Rattle.command_files.specs.declared.fault.Fault.TheVariants as faults
 use Rattle.command_files.specs.declared.refusal.Refusal.{Refusal}
@@ -86,35 +86,41 @@ not_made refuses path at fault same h = inr (subst (λ p. IsWritingFault (refuse
 
 -- ---- its conclusion
 
-pub concluded : (before after : World) (asked : AskedFleet) (part : Scenario) (session : Session) (held : Held)
-    (short : Shortfall) → short ≡ shortfall_of (option_map (λ p. p.now) asked.save) session.slots
-    → Appends before.streams.output after.streams.output (line_of asked.json short session)
-    → IsSavedIf before.made after.made (option_map (λ p. p.now) asked.save) part session.slots
-    → IsScenarioIf (option_map (λ p. p.now) asked.save) part session.slots held.saved
+pub concluded : (before printed after : World) (asked : AskedFleet) (part : Scenario) (session : Session)
+    (held : Held) (short : Shortfall) → short ≡ shortfall_of (option_map (λ p. p.now) asked.save) session.slots
+    → Appends before.streams.output printed.streams.output (line_of asked.json short session)
+    → OnlyPrints before printed
+    → IsSavedIf printed.made after.made (option_map (λ p. p.now) asked.save) part session.slots
+    → OnlyMakes printed after → IsScenarioIf (option_map (λ p. p.now) asked.save) part session.slots held.saved
     → held.status ≡ status_of asked.strict session.account.counts → IsConcluded before after asked part session held
-concluded before after asked part session held short is printed saved left ended = record {
-  printed = subst (λ n. Appends before.streams.output after.streams.output (line_of asked.json n session)) is printed;
-  saved = saved;
+concluded before printed after asked part session held short is got prints saved makes left ended = record {
+  printed = subst (λ n. Appends before.streams.output after.streams.output (line_of asked.json n session)) is
+      (subst (λ o. Appends before.streams.output o (line_of asked.json short session)) (sym makes.1) got);
+  saved = subst (λ m. IsSavedIf m after.made (option_map (λ p. p.now) asked.save) part session.slots) prints.0 saved;
   left = left;
   ended = ended;
 }
 
-pub line_unprinted : (files : FilesKnown) (faults : StreamFaults) (before after : Streams) (asked : AskedFleet)
+pub line_unprinted : (refuses : List ℕ → Type 0) (faults : StreamFaults) (before after : Streams) (asked : AskedFleet)
     (session : Session) (fault : Fault) (short : Shortfall)
     → short ≡ shortfall_of (option_map (λ p. p.now) asked.save) session.slots
     → IsWritingFault (faults.output_refuses (line_of asked.json short session)) fault
-    → IsUnconcluded files faults before after asked session fault
-line_unprinted files faults before after asked session fault short is h =
+    → IsUnconcluded refuses faults before after asked session fault
+line_unprinted refuses faults before after asked session fault short is h =
     inl (subst (λ n. IsWritingFault (faults.output_refuses (line_of asked.json n session)) fault) is h)
 
-pub steps_unsaved : (files : FilesKnown) (faults : StreamFaults) (before after : Streams) (asked : AskedFleet)
-    (session : Session) (fault : Fault) (short : Shortfall)
+pub steps_unsaved : (refuses : List ℕ → Type 0) (faults : StreamFaults) (before printed after : World)
+    (asked : AskedFleet) (session : Session) (fault : Fault) (short : Shortfall)
     → short ≡ shortfall_of (option_map (λ p. p.now) asked.save) session.slots
-    → Appends before.output after.output (line_of asked.json short session)
-    → IsUnsaved files.refuses (option_map (λ p. p.now) asked.save) fault
-    → IsUnconcluded files faults before after asked session fault
-steps_unsaved files faults before after asked session fault short is printed h =
-    inr (subst (λ n. Appends before.output after.output (line_of asked.json n session)) is printed, h)
+    → Appends before.streams.output printed.streams.output (line_of asked.json short session)
+    → OnlyMakes printed after → IsUnsaved refuses (option_map (λ p. p.now) asked.save) fault
+    → IsUnconcluded refuses faults before.streams after.streams asked session fault
+steps_unsaved refuses faults before printed after asked session fault short is got makes h =
+    inr (
+      subst (λ n. Appends before.streams.output after.streams.output (line_of asked.json n session)) is
+          (subst (λ o. Appends before.streams.output o (line_of asked.json short session)) (sym makes.1) got),
+      h,
+    )
 
 -- ---- there is no session
 
@@ -315,59 +321,72 @@ ready_told : (json : Bool) (rows devices : ℕ) (place : SocketAddr) (ports : Li
 ready_told json rows devices place ports before after same shown printed =
     subst (λ n. IsReadyTold json n place ports before after) same (record { shown = shown; printed = printed })
 
--- once their ports are listed
+-- the file of their ports was made, that was noted, and then it was printed which ports the system chose
 pub opened : (asked : AskedFleet) (part : Scenario) (place : SocketAddr) (ports free : List ℕ) (devices : ℕ)
-    (before after : World) → devices ≡ length part.rows → free ≡ free_ports (asked.port == 0) ports
-    → AreListedIf before.made after.made (option_map (λ p. p.now) asked.ports) ports
-    → Appends before.streams.errors after.streams.errors (ready_line devices place)
-    → Appends before.streams.output after.streams.output (opening_text asked.json devices place free)
-    → IsOpened asked part place ports before after
-opened asked part place ports free devices before after same is listed shown printed = record {
-  listed = listed;
-  told = ready_told asked.json (length part.rows) devices place (free_ports (asked.port == 0) ports) before.streams
-      after.streams same shown
-      (subst (λ ps. Appends before.streams.output after.streams.output (opening_text asked.json devices place ps)) is
-      printed);
-}
+    (before listed noted after : World) → devices ≡ length part.rows → free ≡ free_ports (asked.port == 0) ports
+    → AreListedIf before.made listed.made (option_map (λ p. p.now) asked.ports) ports → OnlyMakes before listed
+    → Appends listed.streams.errors noted.streams.errors (ready_line devices place) → OnlyNotes listed noted
+    → Appends noted.streams.output after.streams.output (opening_text asked.json devices place free)
+    → OnlyPrints noted after → IsOpened asked part place ports before after
+opened asked part place ports free devices before listed noted after same is made makes shown notes printed prints =
+    record {
+      listed = subst (λ m. AreListedIf before.made m (option_map (λ p. p.now) asked.ports) ports)
+          (sym (prints.0 ∙ notes.0)) made;
+      told = ready_told asked.json (length part.rows) devices place (free_ports (asked.port == 0) ports)
+          before.streams after.streams same
+          (subst (λ e. Appends before.streams.errors e (ready_line devices place)) (sym prints.2)
+          (subst (λ e. Appends e noted.streams.errors (ready_line devices place)) makes.2 shown))
+          (subst (λ ps. Appends before.streams.output after.streams.output (opening_text asked.json devices place ps))
+          is
+          (subst (λ o. Appends o after.streams.output (opening_text asked.json devices place free))
+          (notes.2 ∙ makes.1) printed));
+    }
 
-pub ports_unlisted : (files : FilesKnown) (streams : StreamFaults) (before after : World) (asked : AskedFleet)
+pub ports_unlisted : (refuses : List ℕ → Type 0) (streams : StreamFaults) (before after : World) (asked : AskedFleet)
     (terminal : Bool) (part : Scenario) (place : SocketAddr) (ports : List ℕ) (quit : Bool) (fault : Fault)
-    → IsUnlisted files.refuses (option_map (λ p. p.now) asked.ports) fault → after.made ≡ before.made
-    → after.streams.output ≡ before.streams.output → after.streams.errors ≡ before.streams.errors
-    → IsSessionFault files streams before after asked terminal part place ports quit fault
-ports_unlisted files streams before after asked terminal part place ports quit fault why none silent untold =
-    inl (inl (why, none, (silent, untold)))
+    → IsUnlisted refuses (option_map (λ p. p.now) asked.ports) fault → after.made ≡ before.made
+    → OnlyMakes before after
+    → IsSessionFault refuses streams before after asked terminal part place ports quit fault
+ports_unlisted refuses streams before after asked terminal part place ports quit fault why none makes =
+    inl (inl (why, none, (makes.1, makes.2)))
 
-pub line_refused : (files : FilesKnown) (streams : StreamFaults) (before after : World) (asked : AskedFleet)
-    (terminal : Bool) (part : Scenario) (place : SocketAddr) (ports : List ℕ) (quit : Bool) (devices : ℕ)
-    (fault : Fault) → devices ≡ length part.rows
-    → AreListedIf before.made after.made (option_map (λ p. p.now) asked.ports) ports
-    → IsWritingFault (streams.errors_refuse (ready_line devices place)) fault
-    → after.streams.output ≡ before.streams.output
-    → IsSessionFault files streams before after asked terminal part place ports quit fault
-line_refused files streams before after asked terminal part place ports quit devices fault same listed why silent =
+pub line_refused : (refuses : List ℕ → Type 0) (streams : StreamFaults) (before listed after : World)
+    (asked : AskedFleet) (terminal : Bool) (part : Scenario) (place : SocketAddr) (ports : List ℕ) (quit : Bool)
+    (devices : ℕ) (fault : Fault) → devices ≡ length part.rows
+    → AreListedIf before.made listed.made (option_map (λ p. p.now) asked.ports) ports → OnlyMakes before listed
+    → IsWritingFault (streams.errors_refuse (ready_line devices place)) fault → OnlyNotes listed after
+    → IsSessionFault refuses streams before after asked terminal part place ports quit fault
+line_refused refuses streams before listed after asked terminal part place ports quit devices fault same made makes why
+    notes =
     inl (inr (
-      listed,
-      inl (subst (λ n. IsWritingFault (streams.errors_refuse (ready_line n place)) fault) same why, silent),
+      subst (λ m. AreListedIf before.made m (option_map (λ p. p.now) asked.ports) ports) (sym notes.0) made,
+      inl (
+        subst (λ n. IsWritingFault (streams.errors_refuse (ready_line n place)) fault) same why,
+        notes.2 ∙ makes.1,
+      ),
     ))
 
-pub opening_refused : (files : FilesKnown) (streams : StreamFaults) (before after : World) (asked : AskedFleet)
-    (terminal : Bool) (part : Scenario) (place : SocketAddr) (ports free : List ℕ) (quit : Bool) (devices : ℕ)
-    (fault : Fault) → devices ≡ length part.rows → free ≡ free_ports (asked.port == 0) ports
-    → AreListedIf before.made after.made (option_map (λ p. p.now) asked.ports) ports
-    → Appends before.streams.errors after.streams.errors (ready_line devices place)
+pub opening_refused : (refuses : List ℕ → Type 0) (streams : StreamFaults) (before listed noted after : World)
+    (asked : AskedFleet) (terminal : Bool) (part : Scenario) (place : SocketAddr) (ports free : List ℕ) (quit : Bool)
+    (devices : ℕ) (fault : Fault) → devices ≡ length part.rows → free ≡ free_ports (asked.port == 0) ports
+    → AreListedIf before.made listed.made (option_map (λ p. p.now) asked.ports) ports → OnlyMakes before listed
+    → Appends listed.streams.errors noted.streams.errors (ready_line devices place) → OnlyNotes listed noted
     → IsWritingFault (streams.output_refuses (opening_text asked.json devices place free)) fault
-    → IsSessionFault files streams before after asked terminal part place ports quit fault
-opening_refused files streams before after asked terminal part place ports free quit devices fault same is listed told
-    why =
+    → OnlyPrints noted after
+    → IsSessionFault refuses streams before after asked terminal part place ports quit fault
+opening_refused refuses streams before listed noted after asked terminal part place ports free quit devices fault same
+    is made makes shown notes why prints =
     let text : opening_text asked.json devices place free
     ≡ opening_text asked.json (length part.rows) place (free_ports (asked.port == 0) ports) =
     ap (λ n. opening_text asked.json n place free) same
     ∙ ap (opening_text asked.json (length part.rows) place) is in
     inl (inr (
-      listed,
+      subst (λ m. AreListedIf before.made m (option_map (λ p. p.now) asked.ports) ports) (sym (prints.0 ∙ notes.0))
+          made,
       inr (
-        subst (λ n. Appends before.streams.errors after.streams.errors (ready_line n place)) same told,
+        subst (λ n. Appends before.streams.errors after.streams.errors (ready_line n place)) same
+            (subst (λ e. Appends before.streams.errors e (ready_line devices place)) (sym prints.2)
+            (subst (λ e. Appends e noted.streams.errors (ready_line devices place)) makes.2 shown)),
         subst (λ l. IsWritingFault (streams.output_refuses l) fault) text why,
       ),
     ))
@@ -377,10 +396,6 @@ pub telling_is : (asked : AskedFleet) (terminal : Bool) (part : Scenario) (devic
     → devices ≡ length part.rows → telling ≡ telling_of asked.json terminal devices
     → telling ≡ telling_for asked terminal part
 telling_is asked terminal part devices telling same is = is ∙ ap (telling_of asked.json terminal) same
-
--- what a conclusion sees, which has neither an input nor standard error
-abbrev pub without_errors : Streams → Streams
-without_errors streams = record { input = None; output = streams.output; errors = None }
 
 pub done_if : (before after : World) (asked : AskedFleet) (terminal : Bool) (part : Scenario) (place : SocketAddr)
     (ports : List ℕ) (quit : Bool) (wire : Option PlannedWire) (notes : List Note) (shown : List Shown)
@@ -392,8 +407,7 @@ pub done_if : (before after : World) (asked : AskedFleet) (terminal : Bool) (par
     → AreTold telling notes shown session.second first.streams last.streams
     → ((kept : ℕ) × AreKept asked part were.before kept session.second first.made last.made)
     → after.streams.errors ≡ last.streams.errors
-    → IfOk r (IsConcluded (record { made = last.made; streams = without_errors last.streams })
-    (record { made = after.made; streams = without_errors after.streams }) asked part session)
+    → IfOk r (IsConcluded last after asked part session)
     → IfOk r (IsSessionDone before after asked terminal part place ports quit)
 done_if before after asked terminal part place ports quit wire notes shown session telling first last (Err e) opened
     wired were is told kept quiet done = tt
@@ -412,30 +426,26 @@ done_if before after asked terminal part place ports quit wire notes shown sessi
       told = subst (λ t. AreTold t notes shown session.second first.streams last.streams) is told;
       kept_last = kept.0;
       kept = kept.1;
-      concluded = record {
-        printed = done.printed;
-        saved = done.saved;
-        left = done.left;
-        ended = done.ended;
-      };
+      concluded = done;
       quiet = quiet;
     }
 
-pub cut_if : (files : FilesKnown) (streams : StreamFaults) (before after : World) (asked : AskedFleet)
+pub cut_if : (refuses : List ℕ → Type 0) (streams : StreamFaults) (before after : World) (asked : AskedFleet)
     (terminal : Bool) (part : Scenario) (place : SocketAddr) (ports : List ℕ) (telling : Telling) (first : World)
     (told : ℕ → Option Traffic) (fault : Fault) → IsOpened asked part place ports before first
     → telling ≡ telling_for asked terminal part → ((e : ℕ) → told e ≡ Some no_traffic)
-    → IsBrokenOff telling files streams asked part told first after fault
-    → IsSessionCut files streams before after asked terminal part place ports fault
-cut_if files streams before after asked terminal part place ports telling first told fault opened is new cut = record {
-  first = first;
-  opened = opened;
-  told = told;
-  new = new;
-  cut = subst (λ t. IsBrokenOff t files streams asked part told first after fault) is cut;
-}
+    → IsBrokenOff telling refuses streams asked part told first after fault
+    → IsSessionCut refuses streams before after asked terminal part place ports fault
+cut_if refuses streams before after asked terminal part place ports telling first told fault opened is new cut =
+    record {
+      first = first;
+      opened = opened;
+      told = told;
+      new = new;
+      cut = subst (λ t. IsBrokenOff t refuses streams asked part told first after fault) is cut;
+    }
 
-pub lost_if : (files : FilesKnown) (streams : StreamFaults) (before after : World) (asked : AskedFleet)
+pub lost_if : (refuses : List ℕ → Type 0) (streams : StreamFaults) (before after : World) (asked : AskedFleet)
     (terminal : Bool) (part : Scenario) (place : SocketAddr) (ports : List ℕ) (quit : Bool) (wire : Option PlannedWire)
     (notes : List Note) (shown : List Shown) (session : Session) (telling : Telling) (first last : World)
     (r : Result Held Refusal) → IsOpened asked part place ports before first
@@ -445,12 +455,11 @@ pub lost_if : (files : FilesKnown) (streams : StreamFaults) (before after : Worl
     → AreTold telling notes shown session.second first.streams last.streams
     → ((kept : ℕ) × AreKept asked part were.before kept session.second first.made last.made)
     → OnErr r (after.made ≡ last.made) → after.streams.errors ≡ last.streams.errors
-    → IfErr r (λ e. IsUnconcluded files streams (without_errors last.streams) (without_errors after.streams) asked
-    session e.fault)
-    → IfErr r (λ e. IsSessionFault files streams before after asked terminal part place ports quit e.fault)
-lost_if files streams before after asked terminal part place ports quit wire notes shown session telling first last
+    → IfErr r (λ e. IsUnconcluded refuses streams last.streams after.streams asked session e.fault)
+    → IfErr r (λ e. IsSessionFault refuses streams before after asked terminal part place ports quit e.fault)
+lost_if refuses streams before after asked terminal part place ports quit wire notes shown session telling first last
     (Ok held) opened wired were is told kept none quiet why = tt
-lost_if files streams before after asked terminal part place ports quit wire notes shown session telling first last
+lost_if refuses streams before after asked terminal part place ports quit wire notes shown session telling first last
     (Err e) opened wired were is told kept none quiet why =
     inr (inr (record {
       first = first;
@@ -473,33 +482,33 @@ lost_if files streams before after asked terminal part place ports quit wire not
 -- ---- it is broken off
 
 -- while its devices are served
-pub serving_cut : (telling : Telling) (files : FilesKnown) (streams : StreamFaults) (asked : AskedFleet)
+pub serving_cut : (telling : Telling) (refuses : List ℕ → Type 0) (streams : StreamFaults) (asked : AskedFleet)
     (part : Scenario) (told : ℕ → Option Traffic) (second last : ℕ) (before after : World) (fault : Fault)
     → IsCut telling streams second before.streams after.streams fault
     → AreKept asked part told last second before.made after.made
-    → IsBrokenOff telling files streams asked part told before after fault
-serving_cut telling files streams asked part told second last before after fault cut kept =
+    → IsBrokenOff telling refuses streams asked part told before after fault
+serving_cut telling refuses streams asked part told second last before after fault cut kept =
     inl (record { second = second; cut = cut; kept_last = last; kept = kept })
 
 -- before an event was told
-pub broken_at_start : (telling : Telling) (files : FilesKnown) (streams : StreamFaults) (asked : AskedFleet)
+pub broken_at_start : (telling : Telling) (refuses : List ℕ → Type 0) (streams : StreamFaults) (asked : AskedFleet)
     (part : Scenario) (told : ℕ → Option Traffic) (world : World) (fault : Fault) → fault ≡ faults.Memory
-    → IsBrokenOff telling files streams asked part told world world fault
-broken_at_start telling files streams asked part told world fault memory =
-    serving_cut telling files streams asked part told 0 0 world world fault
+    → IsBrokenOff telling refuses streams asked part told world world fault
+broken_at_start telling refuses streams asked part told world fault memory =
+    serving_cut telling refuses streams asked part told 0 0 world world fault
     (cut_at_start telling streams world.streams fault memory)
     (kept_first (option_map (λ p. p.now) asked.save) part asked.play (asked.play && asked.repeat) told 0 0 world.made
     refl refl)
 
 -- by a snapshot
-pub snapshot_lost : (telling : Telling) (files : FilesKnown) (streams : StreamFaults) (asked : AskedFleet)
+pub snapshot_lost : (telling : Telling) (refuses : List ℕ → Type 0) (streams : StreamFaults) (asked : AskedFleet)
     (part : Scenario) (told : ℕ → Option Traffic) (notes : List Note) (shown : List Shown) (second began last : ℕ)
     (before after : World) (made : Option (List MadeFile)) (fault : Fault)
     → AreTold telling notes shown second before.streams after.streams
     → AreKept asked part told last began before.made made → after.made ≡ made
-    → IsNotKeptUp files.refuses (option_map (λ p. p.now) asked.save) last second fault
-    → IsBrokenOff telling files streams asked part told before after fault
-snapshot_lost telling files streams asked part told notes shown second began last before after made fault events kept
+    → IsNotKeptUp refuses (option_map (λ p. p.now) asked.save) last second fault
+    → IsBrokenOff telling refuses streams asked part told before after fault
+snapshot_lost telling refuses streams asked part told notes shown second began last before after made fault events kept
     none lost =
     inr (record {
       notes = notes;
@@ -532,16 +541,16 @@ held_done before after asked terminal part place ports bound quit (Err e) are do
 held_done before after asked terminal part place ports bound quit (Ok held) are done =
     (quit, subst (λ ps. IsSessionDone before after asked terminal part place ps quit held) are done)
 
-pub held_broken : (files : FilesKnown) (streams : StreamFaults) (before after : World) (asked : AskedFleet)
+pub held_broken : (refuses : List ℕ → Type 0) (streams : StreamFaults) (before after : World) (asked : AskedFleet)
     (terminal : Bool) (part : Scenario) (place : SocketAddr) (ports bound : List ℕ) (quit : Bool)
     (r : Result Held Refusal) → bound ≡ ports
-    → IfErr r (λ e. IsSessionFault files streams before after asked terminal part place bound quit e.fault)
-    → IfErr r (λ e. IsHeldFault files streams before after asked terminal part place ports e.fault)
-held_broken files streams before after asked terminal part place ports bound quit (Ok held) are why = tt
-held_broken files streams before after asked terminal part place ports bound quit (Err e) are why =
+    → IfErr r (λ e. IsSessionFault refuses streams before after asked terminal part place bound quit e.fault)
+    → IfErr r (λ e. IsHeldFault refuses streams before after asked terminal part place ports e.fault)
+held_broken refuses streams before after asked terminal part place ports bound quit (Ok held) are why = tt
+held_broken refuses streams before after asked terminal part place ports bound quit (Err e) are why =
     inr (
       quit,
-      subst (λ ps. IsSessionFault files streams before after asked terminal part place ps quit e.fault) are why,
+      subst (λ ps. IsSessionFault refuses streams before after asked terminal part place ps quit e.fault) are why,
     )
 
 -- ---- the command
@@ -557,7 +566,7 @@ fleet_done files before after asked terminal part place ports (Ok held) there ea
 pub fleet_broken : (files : FilesKnown) (streams : StreamFaults) (before after : World) (asked : AskedFleet)
     (terminal : Bool) (part : Scenario) (place : SocketAddr) (ports : List ℕ) (r : Result Held Refusal)
     → AreReady files asked part place → length ports ≡ length part.rows
-    → IfErr r (λ e. IsHeldFault files streams before after asked terminal part place ports e.fault)
+    → IfErr r (λ e. IsHeldFault files.refuses streams before after asked terminal part place ports e.fault)
     → IfErr r (λ e. IsFleetFault files streams before after asked terminal e.fault)
 fleet_broken files streams before after asked terminal part place ports (Ok held) there each why = tt
 fleet_broken files streams before after asked terminal part place ports (Err e) there each why =

@@ -9,7 +9,7 @@ use Rattle.fleet_wire.specs.declared.note.Note.{Note}
 use Rattle.fleet_lines.specs.declared.shown.Shown.{Shown}
 use Rattle.fleet_lines.specs.Traffic.{traffic_text}
 use Rattle.command_files.specs.Fault.{IsWritingFault}
-use Rattle.command_files.specs.World.{StreamFaults, Streams}
+use Rattle.command_files.specs.World.{OnlyMakes, StreamFaults, Streams, World}
 use Rattle.command_files.specs.declared.fault.Fault.{Fault}
 use Rattle.command_files.specs.declared.fault.Fault.TheVariants as faults
 use Rattle.command_files.specs.declared.refusal.Refusal.{Refusal}
@@ -136,6 +136,19 @@ same_told : (telling : Telling) (notes : List Note) (shown : List Shown) (old ne
     → AreTold telling notes shown old a b → new ≡ old → AreTold telling notes shown new a b
 same_told telling notes shown old new a b told same = told_as telling notes notes shown shown old new a b told refl
     refl same
+
+-- and nothing was told since
+pub told_still : (telling : Telling) (notes : List Note) (shown : List Shown) (second : ℕ) (a : Streams)
+    (b c : World) → AreTold telling notes shown second a b.streams → OnlyMakes b c
+    → AreTold telling notes shown second a c.streams
+told_still telling notes shown second a b c told makes = record {
+  events = told.events;
+  seconds = told.seconds;
+  notes_are = told.notes_are;
+  shown_are = told.shown_are;
+  output = subst (λ o. Appends a.output o (flat_map (output_of telling) told.events)) (sym makes.1) told.output;
+  errors = subst (λ o. Appends a.errors o (flat_map (errors_of telling) told.events)) (sym makes.2) told.errors;
+}
 
 -- the same of a call
 pub told_when : {T E : Type 0} (r : Result T E) (telling : Telling) (notes : List Note) (shown : List Shown)

@@ -287,11 +287,12 @@ pub record IsConcluded (before after : World) (asked : AskedFleet) (part : Scena
   pub ended : held.status ≡ status_of asked.strict session.account.counts
 
 -- the session's line was not printed; or it was, and then the steps were not saved
-abbrev pub IsUnconcluded : FilesKnown → StreamFaults → Streams → Streams → AskedFleet → Session → Fault → Type 0
-IsUnconcluded files faults before after asked session fault =
+abbrev pub IsUnconcluded : (List ℕ → Type 0) → StreamFaults → Streams → Streams → AskedFleet → Session → Fault
+    → Type 0
+IsUnconcluded refuses faults before after asked session fault =
     IsWritingFault (faults.output_refuses (end_text asked session)) fault
     ⊎ (Appends before.output after.output (end_text asked session)
-    × IsUnsaved files.refuses (option_map (λ p. p.now) asked.save) fault)
+    × IsUnsaved refuses (option_map (λ p. p.now) asked.save) fault)
 
 -- ---- a session
 
@@ -331,10 +332,10 @@ IsUnready streams before after asked part place ports fault =
 
 -- it was not told that the devices are there: the file of their ports could not be made, and nothing was printed; or it
 -- was made, if it has a place, and a stream did not take what it gets
-abbrev pub IsUntold : FilesKnown → StreamFaults → World → World → AskedFleet → Scenario → SocketAddr → List ℕ → Fault
-    → Type 0
-IsUntold files streams before after asked part place ports fault =
-    (IsUnlisted files.refuses (option_map (λ p. p.now) asked.ports) fault × (after.made ≡ before.made)
+abbrev pub IsUntold : (List ℕ → Type 0) → StreamFaults → World → World → AskedFleet → Scenario → SocketAddr → List ℕ
+    → Fault → Type 0
+IsUntold refuses streams before after asked part place ports fault =
+    (IsUnlisted refuses (option_map (λ p. p.now) asked.ports) fault × (after.made ≡ before.made)
     × IsSilent before.streams after.streams)
     ⊎ (AreListedIf before.made after.made (option_map (λ p. p.now) asked.ports) ports
     × IsUnready streams before.streams after.streams asked part place (free_ports (asked.port == 0) ports) fault)
@@ -363,23 +364,24 @@ pub record IsSnapshotLost (telling : Telling) (refuses : List ℕ → Type 0) (a
   pub why : IsUnkept refuses (option_map (λ p. p.now) asked.save) fault
 
 -- the one or the other, on ports that told this at the beginning
-abbrev pub IsBrokenOff : Telling → FilesKnown → StreamFaults → AskedFleet → Scenario → (ℕ → Option Traffic) → World
-    → World → Fault → Type 0
-IsBrokenOff telling files streams asked part told before after fault =
+abbrev pub IsBrokenOff : Telling → (List ℕ → Type 0) → StreamFaults → AskedFleet → Scenario → (ℕ → Option Traffic)
+    → World → World → Fault → Type 0
+IsBrokenOff telling refuses streams asked part told before after fault =
     IsServingCut telling streams asked part told before after fault
-    ⊎ IsSnapshotLost telling files.refuses asked part told before after fault
+    ⊎ IsSnapshotLost telling refuses asked part told before after fault
 
 -- it was told that the devices are there, at ports that were new; and then the session was broken off
-pub record IsSessionCut (files : FilesKnown) (streams : StreamFaults) (before after : World) (asked : AskedFleet)
+pub record IsSessionCut (refuses : List ℕ → Type 0) (streams : StreamFaults) (before after : World) (asked : AskedFleet)
     (terminal : Bool) (part : Scenario) (place : SocketAddr) (ports : List ℕ) (fault : Fault) : Type 0 where
   pub first : World
   pub opened : IsOpened asked part place ports before first
   pub told : ℕ → Option Traffic
   pub new : (e : ℕ) → told e ≡ Some no_traffic
-  pub cut : IsBrokenOff (telling_for asked terminal part) files streams asked part told first after fault
+  pub cut : IsBrokenOff (telling_for asked terminal part) refuses streams asked part told first after fault
 
 -- it came to its end, with its snapshots, and was not concluded; no file was made at its end
-pub record IsSessionLost (files : FilesKnown) (streams : StreamFaults) (before after : World) (asked : AskedFleet)
+pub record IsSessionLost (refuses : List ℕ → Type 0) (streams : StreamFaults) (before after : World)
+    (asked : AskedFleet)
     (terminal : Bool) (part : Scenario) (place : SocketAddr) (ports : List ℕ) (quit : Bool) (fault : Fault) : Type 0
   where
     pub first : World
@@ -394,16 +396,16 @@ pub record IsSessionLost (files : FilesKnown) (streams : StreamFaults) (before a
     pub told : AreTold (telling_for asked terminal part) notes shown session.second first.streams last.streams
     pub kept_last : ℕ
     pub kept : AreKept asked part served.before kept_last session.second first.made last.made
-    pub why : IsUnconcluded files streams last.streams after.streams asked session fault
+    pub why : IsUnconcluded refuses streams last.streams after.streams asked session fault
     pub none_made : after.made ≡ last.made
     pub quiet : after.streams.errors ≡ last.streams.errors
 
-abbrev pub IsSessionFault : FilesKnown → StreamFaults → World → World → AskedFleet → Bool → Scenario → SocketAddr
+abbrev pub IsSessionFault : (List ℕ → Type 0) → StreamFaults → World → World → AskedFleet → Bool → Scenario → SocketAddr
     → List ℕ → Bool → Fault → Type 0
-IsSessionFault files streams before after asked terminal part place ports quit fault =
-    IsUntold files streams before after asked part place ports fault
-    ⊎ (IsSessionCut files streams before after asked terminal part place ports fault
-    ⊎ IsSessionLost files streams before after asked terminal part place ports quit fault)
+IsSessionFault refuses streams before after asked terminal part place ports quit fault =
+    IsUntold refuses streams before after asked part place ports fault
+    ⊎ (IsSessionCut refuses streams before after asked terminal part place ports fault
+    ⊎ IsSessionLost refuses streams before after asked terminal part place ports quit fault)
 
 -- the same, of a session that was asked to end, or was not
 abbrev pub IsHeldDone : World → World → AskedFleet → Bool → Scenario → SocketAddr → List ℕ → Held → Type 0
@@ -411,11 +413,12 @@ IsHeldDone before after asked terminal part place ports held =
     (quit : Bool) × IsSessionDone before after asked terminal part place ports quit held
 
 -- there was no memory for a session, and no file was made; or it has a fault
-abbrev pub IsHeldFault : FilesKnown → StreamFaults → World → World → AskedFleet → Bool → Scenario → SocketAddr → List ℕ
+abbrev pub IsHeldFault : (List ℕ → Type 0) → StreamFaults → World → World → AskedFleet → Bool → Scenario → SocketAddr
+    → List ℕ
     → Fault → Type 0
-IsHeldFault files streams before after asked terminal part place ports fault =
+IsHeldFault refuses streams before after asked terminal part place ports fault =
     ((fault ≡ faults.Memory) × (after.made ≡ before.made) × IsSilent before.streams after.streams)
-    ⊎ ((quit : Bool) × IsSessionFault files streams before after asked terminal part place ports quit fault)
+    ⊎ ((quit : Bool) × IsSessionFault refuses streams before after asked terminal part place ports quit fault)
 
 -- ---- the command
 
@@ -464,7 +467,7 @@ pub record IsSessionBroken (files : FilesKnown) (streams : StreamFaults) (before
   pub ready : AreReady files asked part place
   pub ports : List ℕ
   pub each : length ports ≡ length part.rows
-  pub why : IsHeldFault files streams before after asked terminal part place ports fault
+  pub why : IsHeldFault files.refuses streams before after asked terminal part place ports fault
 
 abbrev pub IsFleetFault : FilesKnown → StreamFaults → World → World → AskedFleet → Bool → Fault → Type 0
 IsFleetFault files streams before after asked terminal fault =

@@ -1,19 +1,20 @@
 //! What is printed of a session at its end, and what is saved of it.
-ghost use Rattle.std.specs.Prelude.{◌≡◌, None, IfErr, IfOk, OnErr, OnOk, option_map};
+ghost use Rattle.std.specs.Prelude.{◌≡◌, IfErr, IfOk, OnErr, OnOk, option_map};
 ghost use Rattle.std.specs.Io.KnownBytes.{Appends};
 ghost use Rattle.std.specs.String.{string_bytes};
 ghost use Rattle.fleet_link.specs.Saved.{IsSaved};
 ghost use Rattle.scenario_image.specs.Image.{IsImageIn};
 ghost use Rattle.command_files.specs.Fault.{IsWritingFault};
+ghost use Rattle.command_files.specs.World.{IsAside, OnlyMakes, OnlyPrints};
 ghost use Rattle.command_fleet.specs.Fleet.{IsConcluded, IsSaveFault, IsSavedAt, IsSavedIf, IsScenarioIf};
-ghost use Rattle.command_fleet.specs.Fleet.{IsUnconcluded, IsUnfit, IsUnsaved, counted_line, counts_words, cut_words, done_line, ended_words};
+ghost use Rattle.command_fleet.specs.Fleet.{IsUnconcluded, IsUnfit, IsUnsaved, counted_line, counts_words, cut_words};
+ghost use Rattle.command_fleet.specs.Fleet.{done_line, ended_words};
 ghost use Rattle.command_fleet.specs.Fleet.{happened_words, line_of, shortfall_words, status_of, wire_words};
 
 use crate::in_json::done_object;
 use crate::shortfall::{Shortfall, shortfall_of};
-use crate::telling::put;
-use command_files::files::Files;
-use command_files::{Fault, NewFile, Output, Refusal, Status, image_file, make};
+use crate::telling::print;
+use command_files::{Fault, NewFile, Refusal, Status, World, image_file, make};
 use command_line::AskedFleet;
 use fleet_lines::Account;
 use fleet_link::{Counts, Fleet};
@@ -141,37 +142,26 @@ pub struct Held {
 }
 
 /// Prints the line of a session, or its object, and then saves the devices' steps, if there is a path.
-pub fn conclude_session<'a, F: Files, O: Output>(
+pub fn conclude_session<'a, W: World>(
     alloc: Global,
     asked: &AskedFleet<'a>,
     part: &Scenario,
     fleet: Fleet,
     account: Account,
-    files: &mut F,
-    output: &mut O,
+    world: &mut W,
 ) -> Result<Held, Refusal<'a>>
-    ensures concluded { IfOk result (IsConcluded
-        (record {
-          made = F.made files.old;
-          streams = record { input = None; output = O.taken output.old; errors = None };
-        })
-        (record {
-          made = F.made files.new;
-          streams = record { input = None; output = O.taken output.new; errors = None };
-        })
+    ensures concluded { IfOk result (IsConcluded (W.seen world.old) (W.seen world.new)
         asked.now part.now
         (record { slots = fleet.slots.items; second = fleet.second; account = account })) }
-    ensures kept { OnErr result (F.made files.new ≡ F.made files.old) }
-    ensures refused { IfErr result (λ r. IsUnconcluded
-        (record { holds = F.holds files.old; fails = F.fails files.old; refuses = F.refuses })
-        (record { input_fails = ⊥; output_refuses = O.refuses; errors_refuse = λ _. ⊥ })
-        (record { input = None; output = O.taken output.old; errors = None })
-        (record { input = None; output = O.taken output.new; errors = None })
+    ensures kept { OnErr result ((W.seen world.new).made ≡ (W.seen world.old).made) }
+    ensures refused { IfErr result (λ r. IsUnconcluded W.refuses W.faults (W.seen world.old).streams
+        (W.seen world.new).streams
         asked.now (record { slots = fleet.slots.items; second = fleet.second; account = account }) r.fault) }
+    ensures aside { IsAside (W.seen world.old).streams (W.seen world.new).streams }
 {
     let shortfall = shortfall_of(asked.save, &fleet);
-    print_session(alloc, asked.json, &fleet, account, shortfall, output)?;
-    let saved = save_steps(alloc, asked.save, part, fleet, files)?;
+    print_session(alloc, asked.json, &fleet, account, shortfall, world)?;
+    let saved = save_steps(alloc, asked.save, part, fleet, world)?;
     let status = status_of(asked.strict, account.counts);
     Ok(Held { status, saved })
 }
@@ -206,64 +196,68 @@ fn session_line(
     }
 }
 
-fn print_session<'a, O: Output>(
+fn print_session<'a, W: World>(
     alloc: Global,
     json: bool,
     fleet: &Fleet,
     account: Account,
     shortfall: Shortfall,
-    output: &mut O,
+    world: &mut W,
 ) -> Result<(), Refusal<'a>>
-    ensures printed { OnOk result (Appends (O.taken output.old) (O.taken output.new)
+    ensures printed { OnOk result (Appends (W.seen world.old).streams.output (W.seen world.new).streams.output
         (line_of json shortfall
         (record { slots = fleet.now.slots.items; second = fleet.now.second; account = account }))) }
     ensures refused { IfErr result (λ r. IsWritingFault
-        (O.refuses
+        (W.faults.output_refuses
         (line_of json shortfall
         (record { slots = fleet.now.slots.items; second = fleet.now.second; account = account })))
         r.fault) }
+    ensures only { OnlyPrints (W.seen world.old) (W.seen world.new) }
 {
     let text = session_line(alloc, json, fleet, account, shortfall)?;
-    put(text.as_str(), "standard output", output)
+    print(text.as_str(), world)
 }
 
 /// Saves the devices' steps as a scenario, if there is a path. Returns this scenario.
-fn save_steps<'a, F: Files>(
+fn save_steps<'a, W: World>(
     alloc: Global,
     save: Option<&'a str>,
     part: &Scenario,
     fleet: Fleet,
-    files: &mut F,
+    world: &mut W,
 ) -> Result<Option<Scenario>, Refusal<'a>>
     ensures scenario { IfOk result (IsScenarioIf (option_map (λ p. p.now) save.entry) part.now fleet.slots.items) }
-    ensures saved { OnOk result (IsSavedIf (F.made files.old) (F.made files.new) (option_map (λ p. p.now) save.entry)
+    ensures saved { OnOk result (IsSavedIf (W.seen world.old).made (W.seen world.new).made
+        (option_map (λ p. p.now) save.entry)
         part.now fleet.slots.items) }
-    ensures kept { OnErr result (F.made files.new ≡ F.made files.old) }
-    ensures refused { IfErr result (λ r. IsUnsaved F.refuses (option_map (λ p. p.now) save.entry) r.fault) }
+    ensures kept { OnErr result ((W.seen world.new).made ≡ (W.seen world.old).made) }
+    ensures refused { IfErr result (λ r. IsUnsaved W.refuses (option_map (λ p. p.now) save.entry) r.fault) }
+    ensures only { OnlyMakes (W.seen world.old) (W.seen world.new) }
 {
     match save {
         None => Ok(None),
-        Some(path) => Ok(Some(save_at(alloc, path, part, fleet, files)?)),
+        Some(path) => Ok(Some(save_at(alloc, path, part, fleet, world)?)),
     }
 }
 
 /// Saves the devices' steps as a scenario, and returns it.
 #[tactic(auto, using(crate::proofs::Sessions::saved_at, crate::proofs::Sessions::not_fit, crate::proofs::Sessions::not_made))]
-fn save_at<'a, F: Files>(
+fn save_at<'a, W: World>(
     alloc: Global,
     path: &'a str,
     part: &Scenario,
     fleet: Fleet,
-    files: &mut F,
+    world: &mut W,
 ) -> Result<Scenario, Refusal<'a>>
     ensures scenario { IfOk result (IsSaved part.now fleet.slots.items) }
-    ensures saved { OnOk result (IsSavedAt (F.made files.old) (F.made files.new) path.entry.now part.now
+    ensures saved { OnOk result (IsSavedAt (W.seen world.old).made (W.seen world.new).made path.entry.now part.now
         fleet.slots.items) }
-    ensures kept { OnErr result (F.made files.new ≡ F.made files.old) }
-    ensures refused { IfErr result (λ r. IsSaveFault F.refuses path.entry.now r.fault) }
+    ensures kept { OnErr result ((W.seen world.new).made ≡ (W.seen world.old).made) }
+    ensures refused { IfErr result (λ r. IsSaveFault W.refuses path.entry.now r.fault) }
+    ensures only { OnlyMakes (W.seen world.old) (W.seen world.new) }
 {
     let (file, scenario) = session_file(alloc, path, part, fleet)?;
-    make(&Some(file), files)?;
+    make(&Some(file), world)?;
     Ok(scenario)
 }
 

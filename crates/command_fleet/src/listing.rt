@@ -3,10 +3,10 @@ ghost use Rattle.std.specs.Prelude.{◌≡◌, ◌∷◌, ◌++◌, [], IfErr, I
 ghost use Rattle.std.specs.String.{string_bytes};
 ghost use Rattle.command_files.specs.Fault.{IsWritingFault};
 ghost use Rattle.command_files.specs.Files.{Grows};
+ghost use Rattle.command_files.specs.World.{OnlyMakes};
 ghost use Rattle.command_fleet.specs.Listing.{AreListedIf, IsUnlisted, listed_line, listed_text};
 
-use command_files::files::Files;
-use command_files::{NewFile, Refusal, make};
+use command_files::{NewFile, Refusal, World, make};
 use octets::Bytes;
 use std::alloc::{AllocError, Global};
 
@@ -58,35 +58,37 @@ fn list_file<'a>(alloc: Global, path: &'a str, ports: &[u16]) -> Result<NewFile<
 }
 
 /// Makes the file of devices at these ports.
-fn list_at<'a, F: Files>(
+fn list_at<'a, W: World>(
     alloc: Global,
     path: &'a str,
     ports: &[u16],
-    files: &mut F,
+    world: &mut W,
 ) -> Result<(), Refusal<'a>>
-    ensures listed { OnOk result (Grows (F.made files.old) (F.made files.new)
+    ensures listed { OnOk result (Grows (W.seen world.old).made (W.seen world.new).made
         ((record { path = path.entry.now; bytes = listed_text 0 ports.now }) ∷ [])) }
-    ensures kept { OnErr result (F.made files.new ≡ F.made files.old) }
-    ensures refused { IfErr result (λ r. IsWritingFault (F.refuses path.entry.now) r.fault) }
+    ensures kept { OnErr result ((W.seen world.new).made ≡ (W.seen world.old).made) }
+    ensures refused { IfErr result (λ r. IsWritingFault (W.refuses path.entry.now) r.fault) }
+    ensures only { OnlyMakes (W.seen world.old) (W.seen world.new) }
 {
     let file = list_file(alloc, path, ports)?;
-    make(&Some(file), files)
+    make(&Some(file), world)
 }
 
 /// Makes the file of devices at these ports, if there is a path.
-pub(crate) fn list_ports<'a, F: Files>(
+pub(crate) fn list_ports<'a, W: World>(
     alloc: Global,
     path: Option<&'a str>,
     ports: &[u16],
-    files: &mut F,
+    world: &mut W,
 ) -> Result<(), Refusal<'a>>
-    ensures listed { OnOk result (AreListedIf (F.made files.old) (F.made files.new)
+    ensures listed { OnOk result (AreListedIf (W.seen world.old).made (W.seen world.new).made
         (option_map (λ p. p.now) path.entry) ports.now) }
-    ensures kept { OnErr result (F.made files.new ≡ F.made files.old) }
-    ensures refused { IfErr result (λ r. IsUnlisted F.refuses (option_map (λ p. p.now) path.entry) r.fault) }
+    ensures kept { OnErr result ((W.seen world.new).made ≡ (W.seen world.old).made) }
+    ensures refused { IfErr result (λ r. IsUnlisted W.refuses (option_map (λ p. p.now) path.entry) r.fault) }
+    ensures only { OnlyMakes (W.seen world.old) (W.seen world.new) }
 {
     match path {
         None => Ok(()),
-        Some(path) => list_at(alloc, path, ports, files),
+        Some(path) => list_at(alloc, path, ports, world),
     }
 }

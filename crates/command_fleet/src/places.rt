@@ -5,10 +5,11 @@ ghost use Rattle.std.specs.String.{string_bytes};
 ghost use Rattle.fleet_link.specs.Traffic.{no_traffic};
 ghost use Rattle.fleet_link.specs.Udp.{fixed_over_udp, ports_over_udp, told_over_udp};
 ghost use Rattle.command_files.specs.Fault.{IsWritingFault};
+ghost use Rattle.command_files.specs.World.{OnlyNotes};
 ghost use Rattle.command_fleet.specs.Fleet.{IsPlace, ready_line};
 
-use crate::telling::put;
-use command_files::{Fault, Output, Refusal, Why};
+use crate::telling::note;
+use command_files::{Fault, Refusal, Why, World};
 use fleet_link::{BindFault, FixedServer, UdpPorts};
 use scenario_image::Scenario;
 use std::alloc::{AllocError, Global};
@@ -101,15 +102,17 @@ pub fn ready_line(alloc: Global, devices: usize, place: SocketAddr) -> Result<St
 }
 
 /// Tells a person, or a script, that all ports are there.
-pub(crate) fn tell_ready<'a, E: Output>(
+pub(crate) fn tell_ready<'a, W: World>(
     alloc: Global,
     devices: usize,
     place: SocketAddr,
-    errors: &mut E,
+    world: &mut W,
 ) -> Result<(), Refusal<'a>>
-    ensures told { OnOk result (Appends (E.taken errors.old) (E.taken errors.new) (ready_line devices place)) }
-    ensures refused { IfErr result (λ r. IsWritingFault (E.refuses (ready_line devices place)) r.fault) }
+    ensures told { OnOk result (Appends (W.seen world.old).streams.errors (W.seen world.new).streams.errors
+        (ready_line devices place)) }
+    ensures refused { IfErr result (λ r. IsWritingFault (W.faults.errors_refuse (ready_line devices place)) r.fault) }
+    ensures only { OnlyNotes (W.seen world.old) (W.seen world.new) }
 {
     let text = ready_line(alloc, devices, place)?;
-    put(text.as_str(), "standard error", errors)
+    note(text.as_str(), world)
 }

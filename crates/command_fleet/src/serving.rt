@@ -1,5 +1,6 @@
 //! Devices of a scenario on ports, for a session.
-ghost use Rattle.std.specs.Prelude.{ℕ, ◌≡◌, ◌+◌, ◌≤◌, ◌⊎◌, ◌&&◌, [], Bool, Option, None, List, IfErr, IfOk, OnOk, false, length};
+ghost use Rattle.std.specs.Prelude.{ℕ, ◌≡◌, ◌+◌, ◌≤◌, ◌⊎◌, ◌&&◌, [], Bool, Option, List, IfErr, IfOk, OnOk, false};
+ghost use Rattle.std.specs.Prelude.{length};
 ghost use Rattle.std.specs.Prelude.{slice_get, true};
 ghost use Rattle.scenario_image.specs.Scenario.{Scenario as ScenarioData};
 ghost use Rattle.fleet_link.specs.Serving.{repeats_in, AreAt, AreRepeated, AreSwept, IsFleet};
@@ -8,7 +9,7 @@ ghost use Rattle.fleet_link.specs.Traffic.{Traffic};
 ghost use Rattle.fleet_wire.specs.declared.note.Note.{Note as NoteData};
 ghost use Rattle.fleet_lines.specs.declared.shown.Shown.{Shown as ShownData};
 ghost use Rattle.fleet_lines.specs.Counting.{AreAllShown, IsAccount};
-ghost use Rattle.command_files.specs.World.{Streams};
+ghost use Rattle.command_files.specs.World.{OnlySays, Streams};
 ghost use Rattle.command_fleet.specs.Fleet.{has_passed, IsBrokenOff, IsEndless};
 ghost use Rattle.command_fleet.specs.Snapshots.{AreKept};
 ghost use Rattle.command_fleet.specs.Telling.{AreTold, IsCut};
@@ -16,8 +17,7 @@ ghost use Rattle.command_fleet.specs.Telling.{AreTold, IsCut};
 use crate::asking::Quit;
 use crate::snapshots::keep_up;
 use crate::telling::{Telling, tell_second, tell_traffic};
-use command_files::files::Files;
-use command_files::{Fault, Output, Refusal};
+use command_files::{Fault, Refusal, World};
 use command_line::AskedFleet;
 use expectations::ExpectedCase;
 use fleet_lines::{Account, Counted};
@@ -80,14 +80,13 @@ fn has_passed(seconds: Option<u32>, second: u64) -> bool
 }
 
 /// Makes a turn of all devices, and tells what went through the ports, and the second that it comes to, if it is later.
-fn turn<'a, P: Counted, C: Seconds, O: Output, E: Output>(
+fn turn<'a, P: Counted, C: Seconds, W: World>(
     alloc: Global,
     telling: Telling,
     fleet: &mut Fleet,
     ports: &mut P,
     clock: &mut C,
-    output: &mut O,
-    errors: &mut E,
+    world: &mut W,
 ) -> Result<(), Refusal<'a>>
     ensures fleet { (s : ScenarioData) (played : Bool) (before : ℕ → Option Traffic)
         → IsFleet s played before fleet.old.slots.items fleet.old.second false (P.told ports.old)
@@ -107,60 +106,61 @@ fn turn<'a, P: Counted, C: Seconds, O: Output, E: Output>(
     ensures later { fleet.old.second ≤ fleet.new.second }
     ensures told { (start : Streams)
         → AreTold telling (P.watched ports.old).notes (P.watched ports.old).shown fleet.old.second start
-        (record { input = None; output = O.taken output.old; errors = E.taken errors.old })
+        (W.seen world.old).streams
         → OnOk result (AreTold telling (P.watched ports.new).notes (P.watched ports.new).shown fleet.new.second start
-        (record { input = None; output = O.taken output.new; errors = E.taken errors.new })) }
+        (W.seen world.new).streams) }
     ensures cut { (start : Streams)
         → AreTold telling (P.watched ports.old).notes (P.watched ports.old).shown fleet.old.second start
-        (record { input = None; output = O.taken output.old; errors = E.taken errors.old })
+        (W.seen world.old).streams
         → IfErr result (λ r. IsCut telling
-        (record { input_fails = ⊥; output_refuses = O.refuses; errors_refuse = E.refuses }) fleet.old.second start
-        (record { input = None; output = O.taken output.new; errors = E.taken errors.new }) r.fault) }
+        W.faults fleet.old.second start
+        (W.seen world.new).streams r.fault) }
+    ensures only { OnlySays (W.seen world.old) (W.seen world.new) }
 {
     P::watched_is_fixed();
     let last = fleet.second();
     match fleet.turn(ports, clock) {
         Ok(()) => {
-            tell_traffic(alloc, telling, ports, output)?;
-            tell_if_later(alloc, telling, last, fleet.second(), ports, output, errors)
+            tell_traffic(alloc, telling, ports, world)?;
+            tell_if_later(alloc, telling, last, fleet.second(), ports, world)
         }
         Err(fault) => Err(Refusal::from(fault_of(fault))),
     }
 }
 
 /// Tells a second, if it is later than the last one.
-fn tell_if_later<'a, P: Counted, O: Output, E: Output>(
+fn tell_if_later<'a, P: Counted, W: World>(
     alloc: Global,
     telling: Telling,
     last: u64,
     second: u64,
     ports: &P,
-    output: &mut O,
-    errors: &mut E,
+    world: &mut W,
 ) -> Result<(), Refusal<'a>>
     requires { last ≤ second }
     ensures told { (start : Streams) (notes : List NoteData) (shown : List ShownData)
         → AreTold telling notes shown last start
-        (record { input = None; output = O.taken output.old; errors = E.taken errors.old })
+        (W.seen world.old).streams
         → OnOk result (AreTold telling notes shown second start
-        (record { input = None; output = O.taken output.new; errors = E.taken errors.new })) }
+        (W.seen world.new).streams) }
     ensures cut { (start : Streams) (notes : List NoteData) (shown : List ShownData)
         → AreTold telling notes shown last start
-        (record { input = None; output = O.taken output.old; errors = E.taken errors.old })
+        (W.seen world.old).streams
         → IfErr result (λ r. IsCut telling
-        (record { input_fails = ⊥; output_refuses = O.refuses; errors_refuse = E.refuses }) last start
-        (record { input = None; output = O.taken output.new; errors = E.taken errors.new }) r.fault) }
+        W.faults last start
+        (W.seen world.new).streams r.fault) }
+    ensures only { OnlySays (W.seen world.old) (W.seen world.new) }
 {
     if second == last {
         return Ok(());
     }
-    tell_second(alloc, telling, second, ports, output, errors)
+    tell_second(alloc, telling, second, ports, world)
 }
 
 /// Makes turns until the seconds that are asked for have passed, if they are, or until the session is asked to end,
 /// `turns` at most, and tells what goes through the ports and each second that a turn comes to. Each minute a snapshot
 /// is made, if the session is to be saved.
-fn go_on<'a, P: Counted, C: Seconds, Q: Quit, F: Files, O: Output, E: Output>(
+fn go_on<'a, P: Counted, C: Seconds, Q: Quit, W: World>(
     alloc: Global,
     asked: &AskedFleet<'a>,
     part: &Scenario,
@@ -171,9 +171,7 @@ fn go_on<'a, P: Counted, C: Seconds, Q: Quit, F: Files, O: Output, E: Output>(
     quit: &mut Q,
     goal: &[ExpectedCase],
     turns: u64,
-    files: &mut F,
-    output: &mut O,
-    errors: &mut E,
+    world: &mut W,
 ) -> Result<(), Refusal<'a>>
     requires start { fleet.old.second ≡ 0 }
     ensures fleet { (s : ScenarioData) (played : Bool) (before : ℕ → Option Traffic)
@@ -191,28 +189,22 @@ fn go_on<'a, P: Counted, C: Seconds, Q: Quit, F: Files, O: Output, E: Output>(
         ≡ repeats_in (slice_get fleet.old.slots.items e)) }
     ensures told { (start : Streams)
         → AreTold telling (P.watched ports.old).notes (P.watched ports.old).shown fleet.old.second start
-        (record { input = None; output = O.taken output.old; errors = E.taken errors.old })
+        (W.seen world.old).streams
         → OnOk result (AreTold telling (P.watched ports.new).notes (P.watched ports.new).shown fleet.new.second start
-        (record { input = None; output = O.taken output.new; errors = E.taken errors.new })) }
+        (W.seen world.new).streams) }
     ensures cut { (start : Streams) (before : ℕ → Option Traffic)
         → AreTold telling (P.watched ports.old).notes (P.watched ports.old).shown fleet.old.second start
-        (record { input = None; output = O.taken output.old; errors = E.taken errors.old })
+        (W.seen world.old).streams
         → IsFleet part.now asked.now.play before fleet.old.slots.items fleet.old.second false (P.told ports.old)
         → AreRepeated fleet.old.slots.items (asked.now.play && asked.now.repeat)
-        → IfErr result (λ r. IsBrokenOff telling
-        (record { holds = F.holds files.old; fails = F.fails files.old; refuses = F.refuses })
-        (record { input_fails = ⊥; output_refuses = O.refuses; errors_refuse = E.refuses }) asked.now part.now before
-        (record { made = F.made files.old; streams = start })
-        (record {
-          made = F.made files.new;
-          streams = record { input = None; output = O.taken output.new; errors = E.taken errors.new };
-        })
-        r.fault) }
+        → IfErr result (λ r. IsBrokenOff telling W.refuses W.faults asked.now part.now before
+        (record { made = (W.seen world.old).made; streams = start }) (W.seen world.new) r.fault) }
     ensures kept { (before : ℕ → Option Traffic)
         → IsFleet part.now asked.now.play before fleet.old.slots.items fleet.old.second false (P.told ports.old)
         → AreRepeated fleet.old.slots.items (asked.now.play && asked.now.repeat)
-        → OnOk result ((last : ℕ) × AreKept asked.now part.now before last fleet.new.second (F.made files.old)
-        (F.made files.new)) }
+        → OnOk result ((last : ℕ) × AreKept asked.now part.now before last fleet.new.second (W.seen world.old).made
+        (W.seen world.new).made) }
+    ensures none_read { (W.seen world.new).streams.input ≡ (W.seen world.old).streams.input }
 {
     let mut last = fleet.second();
     for _turn in 0..turns {
@@ -222,8 +214,8 @@ fn go_on<'a, P: Counted, C: Seconds, Q: Quit, F: Files, O: Output, E: Output>(
         if quit.asks(fleet, goal) {
             return Ok(());
         }
-        turn(alloc, telling, fleet, ports, clock, output, errors)?;
-        last = keep_up(alloc, asked.save, part, fleet, last, files)?;
+        turn(alloc, telling, fleet, ports, clock, world)?;
+        last = keep_up(alloc, asked.save, part, fleet, last, world)?;
     }
     Ok(())
 }
@@ -233,7 +225,7 @@ fn go_on<'a, P: Counted, C: Seconds, Q: Quit, F: Files, O: Output, E: Output>(
 /// did and what devices received and sent, as far as the ports show it. The devices' rows are played, once or over and
 /// over, and their steps recorded, if that is asked for. What went through the ports is counted.
 #[tactic(auto, using(crate::proofs::Sessions::broken_at_start))]
-pub fn serve_part<'a, P: Counted, C: Seconds, Q: Quit, F: Files, O: Output, E: Output>(
+pub fn serve_part<'a, P: Counted, C: Seconds, Q: Quit, W: World>(
     alloc: Global,
     asked: &AskedFleet<'a>,
     part: &Scenario,
@@ -242,9 +234,7 @@ pub fn serve_part<'a, P: Counted, C: Seconds, Q: Quit, F: Files, O: Output, E: O
     clock: &mut C,
     quit: &mut Q,
     goal: &[ExpectedCase],
-    files: &mut F,
-    output: &mut O,
-    errors: &mut E,
+    world: &mut W,
 ) -> Result<Served, Refusal<'a>>
     requires no_notes { (P.watched ports.old).notes ≡ [] }
     requires none_shown { (P.watched ports.old).shown ≡ [] }
@@ -259,24 +249,13 @@ pub fn serve_part<'a, P: Counted, C: Seconds, Q: Quit, F: Files, O: Output, E: O
         (P.watched ports.new).shown ∥₁) }
     ensures repeated { IfOk result (λ r. AreRepeated r.fleet.slots.items (asked.now.play && asked.now.repeat)) }
     ensures told { IfOk result (λ r. AreTold telling (P.watched ports.new).notes (P.watched ports.new).shown
-        r.fleet.second
-        (record { input = None; output = O.taken output.old; errors = E.taken errors.old })
-        (record { input = None; output = O.taken output.new; errors = E.taken errors.new })) }
+        r.fleet.second (W.seen world.old).streams (W.seen world.new).streams) }
     ensures kept { IfOk result (λ r. (last : ℕ) × AreKept asked.now part.now (P.told ports.old) last r.fleet.second
-        (F.made files.old) (F.made files.new)) }
-    ensures cut { IfErr result (λ r. IsBrokenOff telling
-        (record { holds = F.holds files.old; fails = F.fails files.old; refuses = F.refuses })
-        (record { input_fails = ⊥; output_refuses = O.refuses; errors_refuse = E.refuses }) asked.now part.now
-        (P.told ports.old)
-        (record {
-          made = F.made files.old;
-          streams = record { input = None; output = O.taken output.old; errors = E.taken errors.old };
-        })
-        (record {
-          made = F.made files.new;
-          streams = record { input = None; output = O.taken output.new; errors = E.taken errors.new };
-        })
+        (W.seen world.old).made (W.seen world.new).made) }
+    ensures cut { IfErr result (λ r. IsBrokenOff telling W.refuses W.faults asked.now part.now
+        (P.told ports.old) (W.seen world.old) (W.seen world.new)
         r.fault) }
+    ensures none_read { (W.seen world.new).streams.input ≡ (W.seen world.old).streams.input }
 {
     let mut fleet = start(alloc, part, asked.play, asked.repeat, asked.save.is_some())?;
     go_on(
@@ -290,16 +269,14 @@ pub fn serve_part<'a, P: Counted, C: Seconds, Q: Quit, F: Files, O: Output, E: O
         quit,
         goal,
         u64::MAX,
-        files,
-        output,
-        errors,
+        world,
     )?;
     P::watched_is_fixed();
     match fleet.finish(ports) {
         Ok(()) => {}
         Err(fault) => return Err(Refusal::from(fault_of(fault))),
     }
-    tell_traffic(alloc, telling, ports, output)?;
+    tell_traffic(alloc, telling, ports, world)?;
     match ports.account() {
         Some(account) => Ok(Served { fleet, account }),
         None => Err(Refusal::from(Fault::Memory)),

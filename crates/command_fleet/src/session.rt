@@ -2,6 +2,7 @@
 ghost use Rattle.std.specs.Prelude.{ℕ, ◌≡◌, [], None, Some, IfErr, IfOk, length};
 ghost use Rattle.fleet_link.specs.Traffic.{no_traffic};
 ghost use Rattle.fleet_link.specs.Udp.{ports_over_udp, told_over_udp};
+ghost use Rattle.command_files.specs.World.{known_by};
 ghost use Rattle.command_fleet.specs.Fleet.{IsFleetDone, IsFleetFault, IsHeldDone, IsHeldFault, IsSessionDone};
 ghost use Rattle.command_fleet.specs.Fleet.{IsSessionFault};
 ghost use Rattle.command_fleet.specs.Inside.{IsShownFrom};
@@ -18,8 +19,7 @@ use crate::serving::serve_part;
 use crate::settling::UntilSettled;
 use crate::telling::{print_ready, telling_of};
 use crate::wires::plan_if;
-use command_files::files::Files;
-use command_files::{Fault, Output, Refusal, Why};
+use command_files::{Fault, Refusal, Why, World};
 use command_line::AskedFleet;
 use command_sources::load_source;
 use expectations::ExpectedCase;
@@ -47,41 +47,21 @@ use std::rt::Clock;
 /// path. No other file is made, and at a fault just those that came before it. The status tells of datagrams that were
 /// dropped or lost, if that is asked for. Nothing is promised about the content of standard input.
 #[tactic(auto, using(crate::proofs::Sessions::source_refused, crate::proofs::Sessions::devices_missing, crate::proofs::Sessions::part_refused, crate::proofs::Sessions::place_refused, crate::proofs::Sessions::plan_refused, crate::proofs::Sessions::servers_refused, crate::proofs::Sessions::ports_refused))]
-pub fn fleet<'a, R: Net + Clock + Input, F: Files, O: Output, E: Output>(
+pub fn fleet<'a, R: Net + Clock + Input, W: World>(
     rt: &R,
     alloc: Global,
     asked: AskedFleet<'a>,
     goal: &[ExpectedCase],
     terminal: bool,
-    files: &mut F,
-    output: &mut O,
-    errors: &mut E,
+    world: &mut W,
 ) -> Result<Held, Refusal<'a>>
-    ensures done { IfOk result (IsFleetDone
-        (record { holds = F.holds files.old; fails = F.fails files.old; refuses = F.refuses })
-        (record {
-          made = F.made files.old;
-          streams = record { input = None; output = O.taken output.old; errors = E.taken errors.old };
-        })
-        (record {
-          made = F.made files.new;
-          streams = record { input = None; output = O.taken output.new; errors = E.taken errors.new };
-        })
-        asked.entry terminal) }
-    ensures refused { IfErr result (λ r. IsFleetFault
-        (record { holds = F.holds files.old; fails = F.fails files.old; refuses = F.refuses })
-        (record { input_fails = ⊥; output_refuses = O.refuses; errors_refuse = E.refuses })
-        (record {
-          made = F.made files.old;
-          streams = record { input = None; output = O.taken output.old; errors = E.taken errors.old };
-        })
-        (record {
-          made = F.made files.new;
-          streams = record { input = None; output = O.taken output.new; errors = E.taken errors.new };
-        })
-        asked.entry terminal r.fault) }
+    ensures done { IfOk result (IsFleetDone (known_by W.Files world.old) (W.seen world.old)
+        (W.seen world.new) asked.entry terminal) }
+    ensures refused { IfErr result (λ r. IsFleetFault (known_by W.Files world.old) W.faults
+        (W.seen world.old) (W.seen world.new) asked.entry terminal r.fault) }
+    ensures none_read { (W.seen world.new).streams.input ≡ (W.seen world.old).streams.input }
 {
-    let scenario = load_source(alloc, asked.file, files)?;
+    let scenario = load_source(alloc, asked.file, world)?;
     let Some(devices) = chosen_devices(&scenario, asked.devices) else {
         return Err(Refusal {
             fault: Fault::NoDevice,
@@ -95,12 +75,12 @@ pub fn fleet<'a, R: Net + Clock + Input, F: Files, O: Output, E: Output>(
     let servers = servers_of(alloc, &scenario, asked.servers.as_slice())?;
     let ports = ports_at(rt, alloc, &part, place, servers)?;
     hold_on(
-        rt, alloc, &asked, goal, terminal, &part, place, ports, plan, files, output, errors,
+        rt, alloc, &asked, goal, terminal, &part, place, ports, plan, world,
     )
 }
 
 /// The session of devices on these ports, which are new, with a wire of this plan on them, if there is one.
-fn hold_on<'a, R: Net + Clock + Input, F: Files, O: Output, E: Output>(
+fn hold_on<'a, R: Net + Clock + Input, W: World>(
     rt: &R,
     alloc: Global,
     asked: &AskedFleet<'a>,
@@ -110,34 +90,15 @@ fn hold_on<'a, R: Net + Clock + Input, F: Files, O: Output, E: Output>(
     place: SocketAddr,
     ports: UdpPorts,
     plan: Option<Plan>,
-    files: &mut F,
-    output: &mut O,
-    errors: &mut E,
+    world: &mut W,
 ) -> Result<Held, Refusal<'a>>
     requires new { (e : ℕ) → told_over_udp ports e ≡ Some no_traffic }
     requires planned { IsPlanned asked.now.wire plan }
-    ensures done { IfOk result (IsHeldDone
-        (record {
-          made = F.made files.old;
-          streams = record { input = None; output = O.taken output.old; errors = E.taken errors.old };
-        })
-        (record {
-          made = F.made files.new;
-          streams = record { input = None; output = O.taken output.new; errors = E.taken errors.new };
-        })
+    ensures done { IfOk result (IsHeldDone (W.seen world.old) (W.seen world.new)
         asked.now terminal part.now place (ports_over_udp ports)) }
-    ensures refused { IfErr result (λ r. IsHeldFault
-        (record { holds = F.holds files.old; fails = F.fails files.old; refuses = F.refuses })
-        (record { input_fails = ⊥; output_refuses = O.refuses; errors_refuse = E.refuses })
-        (record {
-          made = F.made files.old;
-          streams = record { input = None; output = O.taken output.old; errors = E.taken errors.old };
-        })
-        (record {
-          made = F.made files.new;
-          streams = record { input = None; output = O.taken output.new; errors = E.taken errors.new };
-        })
+    ensures refused { IfErr result (λ r. IsHeldFault W.refuses W.faults (W.seen world.old) (W.seen world.new)
         asked.now terminal part.now place (ports_over_udp ports) r.fault) }
+    ensures none_read { (W.seen world.new).streams.input ≡ (W.seen world.old).streams.input }
 {
     let bound = copy_ports(alloc, ports.ports())?;
     let mut clock = MachineClock::new(rt);
@@ -156,9 +117,7 @@ fn hold_on<'a, R: Net + Clock + Input, F: Files, O: Output, E: Output>(
                 &mut quit,
                 goal,
                 bound.as_slice(),
-                files,
-                output,
-                errors,
+                world,
             )
         }
         Some(plan) => {
@@ -174,16 +133,14 @@ fn hold_on<'a, R: Net + Clock + Input, F: Files, O: Output, E: Output>(
                 &mut quit,
                 goal,
                 bound.as_slice(),
-                files,
-                output,
-                errors,
+                world,
             )
         }
     }
 }
 
 /// The session of devices on these ports, which are new, and are shown if that is asked for.
-fn hold_ports<'a, P: Counted + Drop, C: Seconds, Q: Quit, F: Files, O: Output, E: Output>(
+fn hold_ports<'a, P: Counted + Drop, C: Seconds, Q: Quit, W: World>(
     alloc: Global,
     asked: &AskedFleet<'a>,
     terminal: bool,
@@ -194,49 +151,28 @@ fn hold_ports<'a, P: Counted + Drop, C: Seconds, Q: Quit, F: Files, O: Output, E
     quit: &mut Q,
     goal: &[ExpectedCase],
     bound: &[u16],
-    files: &mut F,
-    output: &mut O,
-    errors: &mut E,
+    world: &mut W,
 ) -> Result<Held, Refusal<'a>>
     requires new { (e : ℕ) → P.told ports e ≡ Some no_traffic }
     requires wire { IsWireBy asked.now.wire (length part.now.rows) (P.watched ports).wire }
     requires no_notes { (P.watched ports).notes ≡ [] }
     requires none_shown { (P.watched ports).shown ≡ [] }
     requires hidden { (P.watched ports).began ≡ None }
-    ensures done { IfOk result (IsSessionDone
-        (record {
-          made = F.made files.old;
-          streams = record { input = None; output = O.taken output.old; errors = E.taken errors.old };
-        })
-        (record {
-          made = F.made files.new;
-          streams = record { input = None; output = O.taken output.new; errors = E.taken errors.new };
-        })
+    ensures done { IfOk result (IsSessionDone (W.seen world.old) (W.seen world.new)
         asked.now terminal part.now place bound.now (Q.asked quit.new)) }
-    ensures refused { IfErr result (λ r. IsSessionFault
-        (record { holds = F.holds files.old; fails = F.fails files.old; refuses = F.refuses })
-        (record { input_fails = ⊥; output_refuses = O.refuses; errors_refuse = E.refuses })
-        (record {
-          made = F.made files.old;
-          streams = record { input = None; output = O.taken output.old; errors = E.taken errors.old };
-        })
-        (record {
-          made = F.made files.new;
-          streams = record { input = None; output = O.taken output.new; errors = E.taken errors.new };
-        })
+    ensures refused { IfErr result (λ r. IsSessionFault W.refuses W.faults (W.seen world.old) (W.seen world.new)
         asked.now terminal part.now place bound.now (Q.asked quit.new) r.fault) }
+    ensures none_read { (W.seen world.new).streams.input ≡ (W.seen world.old).streams.input }
 {
     if asked.show {
         let mut ports = ShownPorts::new(alloc, ports);
         hold_session(
-            alloc, asked, terminal, part, place, &mut ports, clock, quit, goal, bound, files,
-            output, errors,
+            alloc, asked, terminal, part, place, &mut ports, clock, quit, goal, bound, world,
         )
     } else {
         let mut ports = ports;
         hold_session(
-            alloc, asked, terminal, part, place, &mut ports, clock, quit, goal, bound, files,
-            output, errors,
+            alloc, asked, terminal, part, place, &mut ports, clock, quit, goal, bound, world,
         )
     }
 }
@@ -244,7 +180,7 @@ fn hold_ports<'a, P: Counted + Drop, C: Seconds, Q: Quit, F: Files, O: Output, E
 /// The session of devices on these ports, which are new, by this clock: those to which they are bound are listed, if
 /// that is asked for; it is told that they are there, and which of them the system chose; they are served until `quit`
 /// asks for the end, and the session is concluded.
-fn hold_session<'a, P: Counted, C: Seconds, Q: Quit, F: Files, O: Output, E: Output>(
+fn hold_session<'a, P: Counted, C: Seconds, Q: Quit, W: World>(
     alloc: Global,
     asked: &AskedFleet<'a>,
     terminal: bool,
@@ -255,54 +191,25 @@ fn hold_session<'a, P: Counted, C: Seconds, Q: Quit, F: Files, O: Output, E: Out
     quit: &mut Q,
     goal: &[ExpectedCase],
     bound: &[u16],
-    files: &mut F,
-    output: &mut O,
-    errors: &mut E,
+    world: &mut W,
 ) -> Result<Held, Refusal<'a>>
     requires new { (e : ℕ) → P.told ports.old e ≡ Some no_traffic }
     requires wire { IsWireBy asked.now.wire (length part.now.rows) (P.watched ports.old).wire }
     requires no_notes { (P.watched ports.old).notes ≡ [] }
     requires none_shown { (P.watched ports.old).shown ≡ [] }
     requires began { IsShownFrom asked.now.show (P.watched ports.old).began }
-    ensures done { IfOk result (IsSessionDone
-        (record {
-          made = F.made files.old;
-          streams = record { input = None; output = O.taken output.old; errors = E.taken errors.old };
-        })
-        (record {
-          made = F.made files.new;
-          streams = record { input = None; output = O.taken output.new; errors = E.taken errors.new };
-        })
+    ensures done { IfOk result (IsSessionDone (W.seen world.old) (W.seen world.new)
         asked.now terminal part.now place bound.now (Q.asked quit.new)) }
-    ensures refused { IfErr result (λ r. IsSessionFault
-        (record { holds = F.holds files.old; fails = F.fails files.old; refuses = F.refuses })
-        (record { input_fails = ⊥; output_refuses = O.refuses; errors_refuse = E.refuses })
-        (record {
-          made = F.made files.old;
-          streams = record { input = None; output = O.taken output.old; errors = E.taken errors.old };
-        })
-        (record {
-          made = F.made files.new;
-          streams = record { input = None; output = O.taken output.new; errors = E.taken errors.new };
-        })
+    ensures refused { IfErr result (λ r. IsSessionFault W.refuses W.faults (W.seen world.old) (W.seen world.new)
         asked.now terminal part.now place bound.now (Q.asked quit.new) r.fault) }
+    ensures none_read { (W.seen world.new).streams.input ≡ (W.seen world.old).streams.input }
 {
     let devices = part.rows();
-    list_ports(alloc, asked.ports, bound, files)?;
-    tell_ready(alloc, devices, place, errors)?;
+    list_ports(alloc, asked.ports, bound, world)?;
+    tell_ready(alloc, devices, place, world)?;
     let free = free_ports(asked.port, bound);
-    print_ready(alloc, asked.json, devices, place, free, output)?;
+    print_ready(alloc, asked.json, devices, place, free, world)?;
     let telling = telling_of(asked.json, terminal, devices);
-    let served = serve_part(
-        alloc, asked, part, telling, ports, clock, quit, goal, files, output, errors,
-    )?;
-    conclude_session(
-        alloc,
-        asked,
-        part,
-        served.fleet,
-        served.account,
-        files,
-        output,
-    )
+    let served = serve_part(alloc, asked, part, telling, ports, clock, quit, goal, world)?;
+    conclude_session(alloc, asked, part, served.fleet, served.account, world)
 }

@@ -4,12 +4,12 @@ ghost use Rattle.std.specs.String.{string_bytes};
 ghost use Rattle.fleet_link.specs.Saved.{IsSaved};
 ghost use Rattle.scenario_image.specs.Image.{IsImageIn};
 ghost use Rattle.scenario_image.specs.Scenario.{Scenario as ScenarioData};
+ghost use Rattle.command_files.specs.World.{OnlyMakes};
 ghost use Rattle.command_fleet.specs.Fleet.{IsSaveFault, IsSavedAt, IsUnfit};
 ghost use Rattle.command_fleet.specs.Inside.{IsKeptUp, IsKeptUpAt, IsNotKeptUp};
 ghost use Rattle.command_fleet.specs.Snapshots.{snapshot_path};
 
-use command_files::files::Files;
-use command_files::{Fault, NewFile, Refusal, Why, image_file, make};
+use command_files::{Fault, NewFile, Refusal, Why, World, image_file, make};
 use fleet_link::Fleet;
 use scenario_image::Scenario;
 use std::alloc::{AllocError, Global};
@@ -45,20 +45,21 @@ fn copy_file<'a>(
 
 /// Saves copies of the devices' steps as a scenario.
 #[tactic(auto, using(crate::proofs::Sessions::saved_at, crate::proofs::Sessions::not_fit, crate::proofs::Sessions::not_made))]
-fn save_copy<'a, F: Files>(
+fn save_copy<'a, W: World>(
     alloc: Global,
     path: &'a str,
     part: &Scenario,
     fleet: &Fleet,
-    files: &mut F,
+    world: &mut W,
 ) -> Result<(), Refusal<'a>>
-    ensures saved { OnOk result (IsSavedAt (F.made files.old) (F.made files.new) path.entry.now part.now
+    ensures saved { OnOk result (IsSavedAt (W.seen world.old).made (W.seen world.new).made path.entry.now part.now
         fleet.now.slots.items) }
-    ensures kept { OnErr result (F.made files.new ≡ F.made files.old) }
-    ensures refused { IfErr result (λ r. IsSaveFault F.refuses path.entry.now r.fault) }
+    ensures kept { OnErr result ((W.seen world.new).made ≡ (W.seen world.old).made) }
+    ensures refused { IfErr result (λ r. IsSaveFault W.refuses path.entry.now r.fault) }
+    ensures only { OnlyMakes (W.seen world.old) (W.seen world.new) }
 {
     let file = copy_file(alloc, path, part, fleet)?;
-    make(&Some(file), files)
+    make(&Some(file), world)
 }
 
 /// Why a snapshot was not made, for people.
@@ -84,20 +85,22 @@ fn refusal_at<'a>(alloc: Global, path: &'a str, refusal: Refusal) -> Refusal<'a>
 }
 
 /// Makes a snapshot, beside the path.
-fn take_snapshot<'a, F: Files>(
+fn take_snapshot<'a, W: World>(
     alloc: Global,
     path: &'a str,
     part: &Scenario,
     fleet: &Fleet,
-    files: &mut F,
+    world: &mut W,
 ) -> Result<(), Refusal<'a>>
-    ensures saved { OnOk result (IsSavedAt (F.made files.old) (F.made files.new) (snapshot_path path.entry.now)
+    ensures saved { OnOk result (IsSavedAt (W.seen world.old).made (W.seen world.new).made
+        (snapshot_path path.entry.now)
         part.now fleet.now.slots.items) }
-    ensures kept { OnErr result (F.made files.new ≡ F.made files.old) }
-    ensures refused { IfErr result (λ r. IsSaveFault F.refuses (snapshot_path path.entry.now) r.fault) }
+    ensures kept { OnErr result ((W.seen world.new).made ≡ (W.seen world.old).made) }
+    ensures refused { IfErr result (λ r. IsSaveFault W.refuses (snapshot_path path.entry.now) r.fault) }
+    ensures only { OnlyMakes (W.seen world.old) (W.seen world.new) }
 {
     let place = snapshot_path(alloc, path)?;
-    match save_copy(alloc, place.as_str(), part, fleet, files) {
+    match save_copy(alloc, place.as_str(), part, fleet, world) {
         Ok(()) => Ok(()),
         Err(refusal) => Err(refusal_at(alloc, path, refusal)),
     }
@@ -111,46 +114,48 @@ fn is_due(last: u64, second: u64) -> bool
 }
 
 /// Makes a snapshot beside the path, if it is due. Returns the second of the last one.
-fn keep_up_at<'a, F: Files>(
+fn keep_up_at<'a, W: World>(
     alloc: Global,
     path: &'a str,
     part: &Scenario,
     fleet: &Fleet,
     last: u64,
-    files: &mut F,
+    world: &mut W,
 ) -> Result<u64, Refusal<'a>>
-    ensures kept_up { IfOk result (IsKeptUpAt (F.made files.old) (F.made files.new) path.entry.now part.now
+    ensures kept_up { IfOk result (IsKeptUpAt (W.seen world.old).made (W.seen world.new).made path.entry.now part.now
         fleet.now.slots.items last fleet.now.second) }
-    ensures none { OnErr result (F.made files.new ≡ F.made files.old) }
+    ensures none { OnErr result ((W.seen world.new).made ≡ (W.seen world.old).made) }
     ensures due { OnErr result (last + 60 ≤ fleet.now.second) }
-    ensures refused { IfErr result (λ r. IsSaveFault F.refuses (snapshot_path path.entry.now) r.fault) }
+    ensures refused { IfErr result (λ r. IsSaveFault W.refuses (snapshot_path path.entry.now) r.fault) }
+    ensures only { OnlyMakes (W.seen world.old) (W.seen world.new) }
 {
     let second = fleet.second();
     if !is_due(last, second) {
         return Ok(last);
     }
-    take_snapshot(alloc, path, part, fleet, files)?;
+    take_snapshot(alloc, path, part, fleet, world)?;
     Ok(second)
 }
 
 /// Makes a snapshot of a session at the end of a turn, if it is to be saved, and 60 seconds or more have passed since
 /// the second of the last one. Returns that of the last one then.
-pub(crate) fn keep_up<'a, F: Files>(
+pub(crate) fn keep_up<'a, W: World>(
     alloc: Global,
     save: Option<&'a str>,
     part: &Scenario,
     fleet: &Fleet,
     last: u64,
-    files: &mut F,
+    world: &mut W,
 ) -> Result<u64, Refusal<'a>>
-    ensures kept_up { IfOk result (IsKeptUp (F.made files.old) (F.made files.new)
+    ensures kept_up { IfOk result (IsKeptUp (W.seen world.old).made (W.seen world.new).made
         (option_map (λ p. p.now) save.entry) part.now fleet.now.slots.items last fleet.now.second) }
-    ensures none { OnErr result (F.made files.new ≡ F.made files.old) }
-    ensures refused { IfErr result (λ r. IsNotKeptUp F.refuses (option_map (λ p. p.now) save.entry) last
+    ensures none { OnErr result ((W.seen world.new).made ≡ (W.seen world.old).made) }
+    ensures refused { IfErr result (λ r. IsNotKeptUp W.refuses (option_map (λ p. p.now) save.entry) last
         fleet.now.second r.fault) }
+    ensures only { OnlyMakes (W.seen world.old) (W.seen world.new) }
 {
     match save {
         None => Ok(last),
-        Some(path) => keep_up_at(alloc, path, part, fleet, last, files),
+        Some(path) => keep_up_at(alloc, path, part, fleet, last, world),
     }
 }

@@ -1,5 +1,5 @@
 //! What is told of a session while it goes on.
-ghost use Rattle.std.specs.Prelude.{◌≡◌, [], ℕ, List, None, Option, IfErr, IfOk, OnOk};
+ghost use Rattle.std.specs.Prelude.{◌≡◌, [], ℕ, List, IfErr, IfOk, OnOk};
 ghost use Rattle.std.specs.Io.KnownBytes.{Appends};
 ghost use Rattle.std.specs.String.{string_bytes};
 ghost use Rattle.command_files.specs.Fault.{IsWritingFault};
@@ -8,14 +8,14 @@ ghost use Rattle.command_fleet.specs.InJson.{second_json};
 ghost use Rattle.trace_json.specs.Writing.{json_line};
 ghost use Rattle.command_fleet.specs.Telling.{AreTold, IsSecondRefused, counts_shown, is_json, progress_line};
 ghost use Rattle.command_fleet.specs.Telling.{second_errors, second_output, shown_line, telling_of};
-ghost use Rattle.command_files.specs.World.{Streams};
+ghost use Rattle.command_files.specs.World.{OnlyNotes, OnlyPrints, OnlySays, Streams};
 ghost use Rattle.fleet_wire.specs.declared.note.Note.{Note as NoteData};
 ghost use Rattle.fleet_lines.specs.declared.shown.Shown.{Shown as ShownData};
 ghost use Rattle.fleet_lines.specs.Traffic.{traffic_text};
 
 use crate::in_json::second_line;
 use crate::placing::opening;
-use command_files::{Output, Refusal, unwritten};
+use command_files::{Refusal, World, unwritten};
 use fleet_lines::{Counted, Shown, traffic_text};
 use fleet_link::Counts;
 use fleet_wire::Note;
@@ -47,19 +47,31 @@ pub fn telling_of(json: bool, terminal: bool, devices: usize) -> Telling
     }
 }
 
-/// Prints a text on a stream of this name.
+/// Prints a text on standard output.
 #[tactic(auto, using(command_files::proofs::Delivered::unwritten))]
-pub(crate) fn put<'a, O: Output>(
-    text: &str,
-    name: &'static str,
-    stream: &mut O,
-) -> Result<(), Refusal<'a>>
-    ensures told { OnOk result (Appends (O.taken stream.old) (O.taken stream.new) text.now) }
-    ensures refused { IfErr result (λ r. IsWritingFault (O.refuses text.now) r.fault) }
+pub(crate) fn print<'a, W: World>(text: &str, world: &mut W) -> Result<(), Refusal<'a>>
+    ensures told { OnOk result (Appends (W.seen world.old).streams.output (W.seen world.new).streams.output
+        text.now) }
+    ensures refused { IfErr result (λ r. IsWritingFault (W.faults.output_refuses text.now) r.fault) }
+    ensures only { OnlyPrints (W.seen world.old) (W.seen world.new) }
 {
-    match stream.print(text) {
+    match world.print(text) {
         Ok(()) => Ok(()),
-        Err(fault) => Err(unwritten(name, fault)),
+        Err(fault) => Err(unwritten("standard output", fault)),
+    }
+}
+
+/// Prints a text on standard error.
+#[tactic(auto, using(command_files::proofs::Delivered::unwritten))]
+pub(crate) fn note<'a, W: World>(text: &str, world: &mut W) -> Result<(), Refusal<'a>>
+    ensures told { OnOk result (Appends (W.seen world.old).streams.errors (W.seen world.new).streams.errors
+        text.now) }
+    ensures refused { IfErr result (λ r. IsWritingFault (W.faults.errors_refuse text.now) r.fault) }
+    ensures only { OnlyNotes (W.seen world.old) (W.seen world.new) }
+{
+    match world.note(text) {
+        Ok(()) => Ok(()),
+        Err(fault) => Err(unwritten("standard error", fault)),
     }
 }
 
@@ -100,61 +112,64 @@ pub fn progress_line(
 }
 
 /// Prints the line of a second for a person.
-fn show_second<'a, E: Output>(
+fn show_second<'a, W: World>(
     alloc: Global,
     devices: usize,
     second: u64,
     counts: Counts,
-    errors: &mut E,
+    world: &mut W,
 ) -> Result<(), Refusal<'a>>
-    ensures told { OnOk result (Appends (E.taken errors.old) (E.taken errors.new)
+    ensures told { OnOk result (Appends (W.seen world.old).streams.errors (W.seen world.new).streams.errors
         (progress_line devices (record { second = second; counts = counts }))) }
     ensures refused { IfErr result (λ r. IsWritingFault
-        (E.refuses (progress_line devices (record { second = second; counts = counts }))) r.fault) }
+        (W.faults.errors_refuse (progress_line devices (record { second = second; counts = counts }))) r.fault) }
+    ensures only { OnlyNotes (W.seen world.old) (W.seen world.new) }
 {
     let text = progress_line(alloc, devices, second, counts)?;
-    put(text.as_str(), "standard error", errors)
+    note(text.as_str(), world)
 }
 
 /// Prints the object of a second.
-fn print_second<'a, O: Output>(
+fn print_second<'a, W: World>(
     alloc: Global,
     second: u64,
     counts: Counts,
-    output: &mut O,
+    world: &mut W,
 ) -> Result<(), Refusal<'a>>
-    ensures told { OnOk result (Appends (O.taken output.old) (O.taken output.new)
+    ensures told { OnOk result (Appends (W.seen world.old).streams.output (W.seen world.new).streams.output
         (json_line (second_json second counts))) }
-    ensures refused { IfErr result (λ r. IsWritingFault (O.refuses (json_line (second_json second counts))) r.fault) }
+    ensures refused { IfErr result (λ r. IsWritingFault
+        (W.faults.output_refuses (json_line (second_json second counts))) r.fault) }
+    ensures only { OnlyPrints (W.seen world.old) (W.seen world.new) }
 {
     let text = second_line(alloc, second, counts)?;
-    put(text.as_str(), "standard output", output)
+    print(text.as_str(), world)
 }
 
 /// Tells a second, with what has gone through the ports.
 #[tactic(auto, using(crate::proofs::Told::nothing_told))]
-pub(crate) fn tell_second<'a, P: Counted, O: Output, E: Output>(
+pub(crate) fn tell_second<'a, P: Counted, W: World>(
     alloc: Global,
     telling: Telling,
     second: u64,
     ports: &P,
-    output: &mut O,
-    errors: &mut E,
+    world: &mut W,
 ) -> Result<(), Refusal<'a>>
-    ensures printed { OnOk result (Appends (O.taken output.old) (O.taken output.new)
+    ensures printed { OnOk result (Appends (W.seen world.old).streams.output (W.seen world.new).streams.output
         (second_output telling (record { second = second; counts = P.counted ports.now }))) }
-    ensures shown { OnOk result (Appends (E.taken errors.old) (E.taken errors.new)
+    ensures shown { OnOk result (Appends (W.seen world.old).streams.errors (W.seen world.new).streams.errors
         (second_errors telling (record { second = second; counts = P.counted ports.now }))) }
     ensures refused { IfErr result (λ r. IsSecondRefused telling
-        (record { input_fails = ⊥; output_refuses = O.refuses; errors_refuse = E.refuses })
+        W.faults
         (record { second = second; counts = P.counted ports.now })
-        (record { input = None; output = O.taken output.old; errors = E.taken errors.old })
-        (record { input = None; output = O.taken output.new; errors = E.taken errors.new }) r.fault) }
+        (W.seen world.old).streams
+        (W.seen world.new).streams r.fault) }
+    ensures only { OnlySays (W.seen world.old) (W.seen world.new) }
 {
     match telling {
         Telling::Nothing => Ok(()),
-        Telling::Progress(devices) => show_second(alloc, devices, second, ports.counted(), errors),
-        Telling::Objects => print_second(alloc, second, ports.counted(), output),
+        Telling::Progress(devices) => show_second(alloc, devices, second, ports.counted(), world),
+        Telling::Objects => print_second(alloc, second, ports.counted(), world),
     }
 }
 
@@ -170,43 +185,46 @@ fn is_json(telling: Telling) -> bool
 
 /// Prints what a wire did, and what devices received and sent.
 #[tactic(auto, using(crate::proofs::Told::nothing_went))]
-fn print_traffic<'a, O: Output>(
+fn print_traffic<'a, W: World>(
     alloc: Global,
     json: bool,
     notes: &[Note],
     shown: &[Shown],
-    output: &mut O,
+    world: &mut W,
 ) -> Result<(), Refusal<'a>>
-    ensures told { OnOk result (Appends (O.taken output.old) (O.taken output.new)
+    ensures told { OnOk result (Appends (W.seen world.old).streams.output (W.seen world.new).streams.output
         (traffic_text json notes.now shown.now)) }
-    ensures refused { IfErr result (λ r. IsWritingFault (O.refuses (traffic_text json notes.now shown.now)) r.fault) }
+    ensures refused { IfErr result (λ r. IsWritingFault
+        (W.faults.output_refuses (traffic_text json notes.now shown.now)) r.fault) }
+    ensures only { OnlyPrints (W.seen world.old) (W.seen world.new) }
 {
     if notes.is_empty() && shown.is_empty() {
         return Ok(());
     }
     let text = traffic_text(alloc, json, notes, shown)?;
-    put(text.as_str(), "standard output", output)
+    print(text.as_str(), world)
 }
 
 /// Tells what the wire did and what devices received and sent since this was asked last, as far as that is shown.
-pub(crate) fn tell_traffic<'a, P: Counted, O: Output>(
+pub(crate) fn tell_traffic<'a, P: Counted, W: World>(
     alloc: Global,
     telling: Telling,
     ports: &mut P,
-    output: &mut O,
+    world: &mut W,
 ) -> Result<(), Refusal<'a>>
     ensures same { (e : ℕ) → P.told ports.new e ≡ P.told ports.old e }
     ensures asked { P.asked ports.new ≡ P.asked ports.old }
     ensures wire { (P.watched ports.new).wire ≡ (P.watched ports.old).wire }
     ensures began { (P.watched ports.new).began ≡ (P.watched ports.old).began }
     ensures none_left { (P.notes_left ports.new ≡ []) × (P.shown_left ports.new ≡ []) }
-    ensures told { (start : Streams) (second : ℕ) (errors : Option (List ℕ))
+    ensures told { (start : Streams) (second : ℕ)
         → AreTold telling (P.watched ports.old).notes (P.watched ports.old).shown second start
-        (record { input = None; output = O.taken output.old; errors = errors })
+        (W.seen world.old).streams
         → OnOk result (AreTold telling (P.watched ports.new).notes (P.watched ports.new).shown second start
-        (record { input = None; output = O.taken output.new; errors = errors })) }
+        (W.seen world.new).streams) }
     ensures refused { IfErr result (λ r. (notes : List NoteData) × (shown : List ShownData)
-        × IsWritingFault (O.refuses (traffic_text (is_json telling) notes shown)) r.fault) }
+        × IsWritingFault (W.faults.output_refuses (traffic_text (is_json telling) notes shown)) r.fault) }
+    ensures only { OnlyPrints (W.seen world.old) (W.seen world.new) }
 {
     let notes = ports.new_notes(alloc);
     let shown = ports.new_shown(alloc);
@@ -215,28 +233,29 @@ pub(crate) fn tell_traffic<'a, P: Counted, O: Output>(
         is_json(telling),
         notes.as_slice(),
         shown.as_slice(),
-        output,
+        world,
     )
 }
 
 /// Prints which ports the system chose; and first the object that says that the ports are there, if JSON is asked for.
 #[tactic(auto, using(crate::proofs::Told::nothing_told))]
-pub(crate) fn print_ready<'a, O: Output>(
+pub(crate) fn print_ready<'a, W: World>(
     alloc: Global,
     json: bool,
     devices: usize,
     place: SocketAddr,
     ports: &[u16],
-    output: &mut O,
+    world: &mut W,
 ) -> Result<(), Refusal<'a>>
-    ensures told { OnOk result (Appends (O.taken output.old) (O.taken output.new)
+    ensures told { OnOk result (Appends (W.seen world.old).streams.output (W.seen world.new).streams.output
         (opening_text json devices place ports.now)) }
     ensures refused { IfErr result (λ r. IsWritingFault
-        (O.refuses (opening_text json devices place ports.now)) r.fault) }
+        (W.faults.output_refuses (opening_text json devices place ports.now)) r.fault) }
+    ensures only { OnlyPrints (W.seen world.old) (W.seen world.new) }
 {
     if !json && ports.is_empty() {
         return Ok(());
     }
     let text = opening(alloc, json, devices, place, ports)?;
-    put(text.as_str(), "standard output", output)
+    print(text.as_str(), world)
 }

@@ -112,18 +112,20 @@ pub concluded : (before after : World) (path : Option (List ℕ)) (class : Templ
     → IsConcluded before after path class session
 concluded before after path class session printed saved = record { printed = printed; saved = saved }
 
-pub line_unprinted : (files : FilesKnown) (faults : StreamFaults) (before after : Streams) (path : Option (List ℕ))
+pub line_unprinted : (refuses : List ℕ → Type 0) (faults : StreamFaults) (before after : Streams)
+    (path : Option (List ℕ))
     (class : Template) (session : LiveSession) (fault : Fault)
     → IsWritingFault (faults.output_refuses (line_of session)) fault
-    → IsUnconcluded files faults before after path class session fault
-line_unprinted files faults before after path class session fault h = inl h
+    → IsUnconcluded refuses faults before after path class session fault
+line_unprinted refuses faults before after path class session fault h = inl h
 
-pub steps_unsaved : (files : FilesKnown) (faults : StreamFaults) (before after : Streams) (path : Option (List ℕ))
+pub steps_unsaved : (refuses : List ℕ → Type 0) (faults : StreamFaults) (before after : Streams)
+    (path : Option (List ℕ))
     (class : Template) (session : LiveSession) (fault : Fault)
     → Appends before.output after.output (line_of session)
-    → IsUnsaved files.refuses path class session.steps.items fault
-    → IsUnconcluded files faults before after path class session fault
-steps_unsaved files faults before after path class session fault printed h = inr (printed, h)
+    → IsUnsaved refuses path class session.steps.items fault
+    → IsUnconcluded refuses faults before after path class session fault
+steps_unsaved refuses faults before after path class session fault printed h = inr (printed, h)
 
 -- ---- the command
 
@@ -204,7 +206,7 @@ pub session_lost : (files : FilesKnown) (faults : StreamFaults) (before between 
     → IsScenarioAt files.holds asked.image.now s → IsClassOf s asked.device class
     → IsServed class asked.turns session None None None None
     → IsShown asked.show (record { before = before.output; after = between.output })
-    → IsUnconcluded files faults between after (option_map (λ p. p.now) asked.save) class session fault
+    → IsUnconcluded files.refuses faults between after (option_map (λ p. p.now) asked.save) class session fault
     → IsLiveFault files faults before after asked fault
 session_lost files faults before between after asked s class session fault found row served shown why =
     inr (inr (record {
@@ -222,7 +224,7 @@ pub session_lost_if : (files : FilesKnown) (faults : StreamFaults) (before betwe
     → IsScenarioAt files.holds asked.image.now s → IsClassOf s asked.device class
     → IsServed class asked.turns session None None None None
     → IsShown asked.show (record { before = before.output; after = between.output })
-    → IfErr r (λ e. IsUnconcluded files faults between after (option_map (λ p. p.now) asked.save) class session
+    → IfErr r (λ e. IsUnconcluded files.refuses faults between after (option_map (λ p. p.now) asked.save) class session
     e.fault)
     → IfErr r (λ e. IsLiveFault files faults before after asked e.fault)
 session_lost_if files faults before between after asked s class session (Ok status) found row served shown why = tt

@@ -113,12 +113,12 @@ pub record IsConcluded (before after : World) (path : Option (List ℕ)) (class 
   pub saved : IsSaved (record { before = before.made; after = after.made }) path class session.steps.items
 
 -- the session's line was not printed; or it was, and then the steps were not saved
-abbrev pub IsUnconcluded : FilesKnown → StreamFaults → Streams → Streams → Option (List ℕ) → Template → LiveSession
-    → Fault → Type 0
-IsUnconcluded files faults before after path class session fault =
+abbrev pub IsUnconcluded : (List ℕ → Type 0) → StreamFaults → Streams → Streams → Option (List ℕ) → Template
+    → LiveSession → Fault → Type 0
+IsUnconcluded refuses faults before after path class session fault =
     IsWritingFault (faults.output_refuses (line_of session)) fault
     ⊎ (Appends before.output after.output (line_of session)
-    × IsUnsaved files.refuses path class session.steps.items fault)
+    × IsUnsaved refuses path class session.steps.items fault)
 
 -- ---- the command
 
@@ -172,7 +172,7 @@ pub record IsSessionLost (files : FilesKnown) (faults : StreamFaults) (before af
   pub between : Streams
   pub shown : IsShown asked.show (record { before = before.output; after = between.output })
   pub why :
-      IsUnconcluded files faults between after (option_map (λ p. p.now) asked.save) class session fault
+      IsUnconcluded files.refuses faults between after (option_map (λ p. p.now) asked.save) class session fault
 
 abbrev pub IsLiveFault : FilesKnown → StreamFaults → Streams → Streams → Live → Fault → Type 0
 IsLiveFault files faults before after asked fault =

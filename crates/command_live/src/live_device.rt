@@ -6,14 +6,14 @@ ghost use Rattle.live_link.specs.Served.{IsServed};
 ghost use Rattle.scenario_image.specs.Image.{IsImageIn};
 ghost use Rattle.scenario_image.specs.Scenario.{one_row};
 ghost use Rattle.command_files.specs.Fault.{IsWritingFault};
+ghost use Rattle.command_files.specs.World.{IsAside, OnlyMakes, OnlyPrints, known_by};
 ghost use Rattle.command_live.specs.Live.{end_name, line_of, named_line, session_line, HasNoRow, IsClassOf};
 ghost use Rattle.command_live.specs.Live.{IsConcluded, IsLiveDone, IsLiveFault, IsSaveFault, IsSaved, IsSavedAt};
 ghost use Rattle.command_live.specs.Live.{IsShown, IsUnconcluded, IsUnfit, IsUnheld, IsUnsaved};
 
 use crate::showing::ShownWire;
-use command_files::files::Files;
 use command_files::{
-    Fault, NewFile, Output, Refusal, Status, image_file, load_scenario, make, unwritten,
+    Fault, NewFile, Output, Refusal, Status, World, image_file, load_scenario, make, unwritten,
 };
 use command_line::Live;
 use device_machine::Template;
@@ -29,36 +29,22 @@ use std::rt::Clock;
 /// the line of its session is printed, and before it what was shown, if that is asked for; then, if there is a path,
 /// the image, in version 2, of the scenario with one device of this class, whose row has the session's steps, is made
 /// there.
-/// Of the input and of standard error nothing is said: it has neither.
 #[tactic(auto, using(crate::proofs::Sessions::image_refused, crate::proofs::Sessions::device_refused, crate::proofs::Sessions::port_refused, crate::proofs::Sessions::session_cut, crate::proofs::Sessions::session_lost))]
-pub fn live<'a, R: Net + Clock, F: Files, O: Output>(
+pub fn live<'a, R: Net + Clock, W: World>(
     rt: &R,
     alloc: Global,
     asked: Live<'a>,
-    files: &mut F,
-    output: &mut O,
+    world: &mut W,
 ) -> Result<Status, Refusal<'a>>
     ensures status { IfOk result (λ status. status ≡ Status.Done) }
-    ensures done { OnOk result (IsLiveDone
-        (record { holds = F.holds files.old; fails = F.fails files.old; refuses = F.refuses })
-        (record {
-          made = F.made files.old;
-          streams = record { input = None; output = O.taken output.old; errors = None };
-        })
-        (record {
-          made = F.made files.new;
-          streams = record { input = None; output = O.taken output.new; errors = None };
-        })
+    ensures done { OnOk result (IsLiveDone (known_by W.Files world.old) (W.seen world.old) (W.seen world.new)
         asked.entry) }
-    ensures kept { OnErr result (F.made files.new ≡ F.made files.old) }
-    ensures refused { IfErr result (λ r. IsLiveFault
-        (record { holds = F.holds files.old; fails = F.fails files.old; refuses = F.refuses })
-        (record { input_fails = ⊥; output_refuses = O.refuses; errors_refuse = λ _. ⊥ })
-        (record { input = None; output = O.taken output.old; errors = None })
-        (record { input = None; output = O.taken output.new; errors = None })
-        asked.entry r.fault) }
+    ensures kept { OnErr result ((W.seen world.new).made ≡ (W.seen world.old).made) }
+    ensures refused { IfErr result (λ r. IsLiveFault (known_by W.Files world.old) W.faults
+        (W.seen world.old).streams (W.seen world.new).streams asked.entry r.fault) }
+    ensures aside { IsAside (W.seen world.old).streams (W.seen world.new).streams }
 {
-    let scenario = load_scenario(alloc, asked.image, files)?;
+    let scenario = load_scenario(alloc, asked.image, world)?;
     let class = class_of(&scenario, asked.device)?;
     let wire = bound(rt, alloc, &class, asked.port)?;
     let mut clock = MachineClock::new(rt);
@@ -69,9 +55,9 @@ pub fn live<'a, R: Net + Clock, F: Files, O: Output>(
         &class,
         asked.turns,
         asked.show,
-        output,
+        world,
     )?;
-    conclude_session(alloc, asked.save, class, session, files, output)
+    conclude_session(alloc, asked.save, class, session, world)
 }
 
 /// A copy of the class of a device's row.
@@ -106,21 +92,23 @@ fn bound<R: Net>(rt: &R, alloc: Global, class: &Template, port: u16) -> Result<U
 
 /// The session of a device of this class on the wire. Where it is shown, each datagram is printed as it goes over it.
 #[tactic(auto, using(crate::proofs::Sessions::untold, crate::proofs::Sessions::is_shown, crate::proofs::Sessions::not_shown, crate::proofs::Sessions::unheld_memory, crate::proofs::Sessions::unheld_so))]
-fn hold<'a, W: Wire + Drop, C: Seconds, O: Output>(
+fn hold<'a, V: Wire + Drop, C: Seconds, W: World>(
     alloc: Global,
-    wire: W,
+    wire: V,
     clock: &mut C,
     class: &Template,
     turns: u32,
     show: bool,
-    output: &mut O,
+    world: &mut W,
 ) -> Result<LiveSession, Refusal<'a>>
     ensures served { IfOk result (λ session. IsServed class.now turns session None None None None) }
-    ensures shown { IsShown show (record { before = O.taken output.old; after = O.taken output.new }) }
+    ensures shown { IsShown show
+        (record { before = (W.seen world.old).streams.output; after = (W.seen world.new).streams.output }) }
     ensures refused { IfErr result (λ r. IsUnheld show r.fault) }
+    ensures only { OnlyPrints (W.seen world.old) (W.seen world.new) }
 {
     if show {
-        return hold_shown(alloc, wire, clock, class, turns, output);
+        return hold_shown(alloc, wire, clock, class, turns, world.output());
     }
     let mut wire = wire;
     Ok(serve_class(alloc, &mut wire, clock, class, turns)?)
@@ -183,90 +171,85 @@ fn named_line(alloc: Global, name: &str, steps: usize, sent: usize) -> Result<St
 
 /// Prints the line of a session, and then saves its steps, if there is a path.
 #[tactic(auto, using(crate::proofs::Sessions::concluded, crate::proofs::Sessions::line_unprinted, crate::proofs::Sessions::steps_unsaved))]
-pub fn conclude_session<'a, F: Files, O: Output>(
+pub fn conclude_session<'a, W: World>(
     alloc: Global,
     save: Option<&'a str>,
     class: Template,
     session: LiveSession,
-    files: &mut F,
-    output: &mut O,
+    world: &mut W,
 ) -> Result<Status, Refusal<'a>>
     ensures status { IfOk result (λ status. status ≡ Status.Done) }
-    ensures concluded { OnOk result (IsConcluded
-        (record {
-          made = F.made files.old;
-          streams = record { input = None; output = O.taken output.old; errors = None };
-        })
-        (record {
-          made = F.made files.new;
-          streams = record { input = None; output = O.taken output.new; errors = None };
-        })
+    ensures concluded { OnOk result (IsConcluded (W.seen world.old) (W.seen world.new)
         (option_map (λ p. p.now) save.entry) class session) }
-    ensures kept { OnErr result (F.made files.new ≡ F.made files.old) }
-    ensures refused { IfErr result (λ r. IsUnconcluded
-        (record { holds = F.holds files.old; fails = F.fails files.old; refuses = F.refuses })
-        (record { input_fails = ⊥; output_refuses = O.refuses; errors_refuse = λ _. ⊥ })
-        (record { input = None; output = O.taken output.old; errors = None })
-        (record { input = None; output = O.taken output.new; errors = None })
-        (option_map (λ p. p.now) save.entry) class session r.fault) }
+    ensures kept { OnErr result ((W.seen world.new).made ≡ (W.seen world.old).made) }
+    ensures refused { IfErr result (λ r. IsUnconcluded W.refuses W.faults
+        (W.seen world.old).streams (W.seen world.new).streams (option_map (λ p. p.now) save.entry) class
+        session r.fault) }
+    ensures aside { IsAside (W.seen world.old).streams (W.seen world.new).streams }
 {
-    print_session(alloc, &session, output)?;
-    save_session(alloc, save, class, session.steps, files)?;
+    print_session(alloc, &session, world)?;
+    save_session(alloc, save, class, session.steps, world)?;
     Ok(Status::Done)
 }
 
 #[tactic(auto, using(command_files::proofs::Delivered::unwritten))]
-fn print_session<'a, O: Output>(
+fn print_session<'a, W: World>(
     alloc: Global,
     session: &LiveSession,
-    output: &mut O,
+    world: &mut W,
 ) -> Result<(), Refusal<'a>>
-    ensures printed { OnOk result (Appends (O.taken output.old) (O.taken output.new) (line_of session.now)) }
-    ensures refused { IfErr result (λ r. IsWritingFault (O.refuses (line_of session.now)) r.fault) }
+    ensures printed { OnOk result (Appends (W.seen world.old).streams.output (W.seen world.new).streams.output
+        (line_of session.now)) }
+    ensures refused { IfErr result (λ r. IsWritingFault (W.faults.output_refuses (line_of session.now)) r.fault) }
+    ensures only { OnlyPrints (W.seen world.old) (W.seen world.new) }
 {
     let text = session_line(alloc, session.end, session.steps.len(), session.sent.len())?;
-    match output.print(text.as_str()) {
+    match world.print(text.as_str()) {
         Ok(()) => Ok(()),
         Err(fault) => Err(unwritten("standard output", fault)),
     }
 }
 
 /// Saves the steps of a device of this class as a scenario, if there is a path.
-fn save_session<'a, F: Files>(
+fn save_session<'a, W: World>(
     alloc: Global,
     save: Option<&'a str>,
     class: Template,
     steps: Vec<Step>,
-    files: &mut F,
+    world: &mut W,
 ) -> Result<(), Refusal<'a>>
-    ensures saved { OnOk result (IsSaved (record { before = F.made files.old; after = F.made files.new })
+    ensures saved { OnOk result (IsSaved
+        (record { before = (W.seen world.old).made; after = (W.seen world.new).made })
         (option_map (λ p. p.now) save.entry) class steps.items) }
-    ensures kept { OnErr result (F.made files.new ≡ F.made files.old) }
-    ensures refused { IfErr result (λ r. IsUnsaved F.refuses (option_map (λ p. p.now) save.entry) class steps.items
+    ensures kept { OnErr result ((W.seen world.new).made ≡ (W.seen world.old).made) }
+    ensures refused { IfErr result (λ r. IsUnsaved W.refuses (option_map (λ p. p.now) save.entry) class steps.items
         r.fault) }
+    ensures only { OnlyMakes (W.seen world.old) (W.seen world.new) }
 {
     match save {
         None => Ok(()),
-        Some(path) => save_at(alloc, path, class, steps, files),
+        Some(path) => save_at(alloc, path, class, steps, world),
     }
 }
 
 /// Saves the steps of a device of this class as a scenario.
 #[tactic(auto, using(crate::proofs::Sessions::saved_at, crate::proofs::Sessions::not_fit, crate::proofs::Sessions::not_made))]
-fn save_at<'a, F: Files>(
+fn save_at<'a, W: World>(
     alloc: Global,
     path: &'a str,
     class: Template,
     steps: Vec<Step>,
-    files: &mut F,
+    world: &mut W,
 ) -> Result<(), Refusal<'a>>
-    ensures saved { OnOk result (IsSavedAt (record { before = F.made files.old; after = F.made files.new })
-        path.entry.now class steps.items) }
-    ensures kept { OnErr result (F.made files.new ≡ F.made files.old) }
-    ensures refused { IfErr result (λ r. IsSaveFault F.refuses path.entry.now class steps.items r.fault) }
+    ensures saved { OnOk result (IsSavedAt
+        (record { before = (W.seen world.old).made; after = (W.seen world.new).made }) path.entry.now class
+        steps.items) }
+    ensures kept { OnErr result ((W.seen world.new).made ≡ (W.seen world.old).made) }
+    ensures refused { IfErr result (λ r. IsSaveFault W.refuses path.entry.now class steps.items r.fault) }
+    ensures only { OnlyMakes (W.seen world.old) (W.seen world.new) }
 {
     let file = session_file(alloc, path, class, steps)?;
-    make(&Some(file), files)
+    make(&Some(file), world)
 }
 
 /// The image of the steps of a device of this class, for the path.

@@ -7,7 +7,8 @@ use std::process::ExitCode;
 /// Gives `start` the system, with its reader of standard input and its standard error, and says whether that is a
 /// terminal.
 fn main(rt: HostRuntime) -> ExitCode {
-    let mut errors = rt.stderr();
+    let errors = rt.stderr();
     let terminal = errors.is_terminal();
-    bench_commands::start(&rt, terminal, &mut rt.reader(), &mut errors)
+    let mut system = bench_commands::system(&rt, rt.reader(), errors);
+    bench_commands::start(&rt, terminal, &mut system)
 }

@@ -23,6 +23,7 @@ returns-in_ok-answer-in-One g c =
       idle = (refl, refl, refl);
       debugged = tt;
       refused = tt;
+      none_made = refl;
     }
 
 pub returns-in_err-answer-in-One : goal.returns-in_err-answer-in-One
@@ -37,6 +38,7 @@ returns-in_err-answer-in-One g c =
         refl,
         refl,
       );
+      none_made = refl;
     }
 
 pub returns-in_ok-answer-in-Say : goal.returns-in_ok-answer-in-Say
@@ -46,6 +48,7 @@ returns-in_ok-answer-in-Say g c =
       idle = (refl, refl, refl);
       debugged = tt;
       refused = tt;
+      none_made = refl;
     }
 
 pub returns-in_err-answer-in-Say : goal.returns-in_err-answer-in-Say
@@ -60,6 +63,7 @@ returns-in_err-answer-in-Say g c =
         refl,
         refl,
       );
+      none_made = refl;
     }
 
 pub returns-in_ok-answer-in-Spell : goal.returns-in_ok-answer-in-Spell
@@ -72,6 +76,7 @@ returns-in_ok-answer-in-Spell g c =
       idle = (refl, refl, refl);
       debugged = tt;
       refused = tt;
+      none_made = refl;
     }
 
 pub returns-in_err-answer-in-Spell : goal.returns-in_err-answer-in-Spell
@@ -85,12 +90,13 @@ returns-in_err-answer-in-Spell g c =
       idle = no_answer _ _ _ told;
       debugged = no_answer _ _ _ told;
       refused = refused_at_once _ _ _ _ _ _ _ _ _ told c.in-Spell.is refused (refl, refl, refl);
+      none_made = refl;
     }
 
 pub returns-in_ok-answer-in-Play : goal.returns-in_ok-answer-in-Play
 returns-in_ok-answer-in-Play g c =
     let part : Selection = record { device = c.in-Play.device; from = c.in-Play.from; to = c.in-Play.to } in
-    let done = subst (λ (f : PlayForm). IsPlayDone (g.F.Files.holds c.args.files.now) c.in-Play.file.now f part
+    let done = subst (λ (f : PlayForm). IsPlayDone (g.W.Files.holds c.args.world.now) c.in-Play.file.now f part
     c.in_ok-answer-in-Play.answer)
     c.play_form.ensures c.in_ok-answer-in-Play.ensures.done in
     record {
@@ -98,6 +104,7 @@ returns-in_ok-answer-in-Play g c =
       idle = (refl, refl, refl);
       debugged = tt;
       refused = tt;
+      none_made = refl;
     }
 
 pub returns-in_err-answer-in-Play : goal.returns-in_err-answer-in-Play
@@ -112,6 +119,7 @@ returns-in_err-answer-in-Play g c =
         refl,
         refl,
       );
+      none_made = refl;
     }
 
 pub returns-in_ok-answer-in-Asm : goal.returns-in_ok-answer-in-Asm
@@ -121,6 +129,7 @@ returns-in_ok-answer-in-Asm g c =
       idle = (refl, refl, refl);
       debugged = tt;
       refused = tt;
+      none_made = refl;
     }
 
 pub returns-in_err-answer-in-Asm : goal.returns-in_err-answer-in-Asm
@@ -135,6 +144,7 @@ returns-in_err-answer-in-Asm g c =
         refl,
         refl,
       );
+      none_made = refl;
     }
 
 pub returns-in_ok-answer-in-Dis : goal.returns-in_ok-answer-in-Dis
@@ -144,6 +154,7 @@ returns-in_ok-answer-in-Dis g c =
       idle = (refl, refl, refl);
       debugged = tt;
       refused = tt;
+      none_made = refl;
     }
 
 pub returns-in_err-answer-in-Dis : goal.returns-in_err-answer-in-Dis
@@ -158,6 +169,7 @@ returns-in_err-answer-in-Dis g c =
         refl,
         refl,
       );
+      none_made = refl;
     }
 
 pub returns-in_ok-answer-in-Run : goal.returns-in_ok-answer-in-Run
@@ -167,6 +179,7 @@ returns-in_ok-answer-in-Run g c =
       idle = (refl, refl, refl);
       debugged = tt;
       refused = tt;
+      none_made = refl;
     }
 
 pub returns-in_err-answer-in-Run : goal.returns-in_err-answer-in-Run
@@ -181,6 +194,7 @@ returns-in_err-answer-in-Run g c =
         refl,
         refl,
       );
+      none_made = refl;
     }
 
 pub returns-in_ok-answer-in-Check : goal.returns-in_ok-answer-in-Check
@@ -190,6 +204,7 @@ returns-in_ok-answer-in-Check g c =
       idle = (refl, refl, refl);
       debugged = tt;
       refused = tt;
+      none_made = refl;
     }
 
 pub returns-in_err-answer-in-Check : goal.returns-in_err-answer-in-Check
@@ -204,13 +219,14 @@ returns-in_err-answer-in-Check g c =
         refl,
         refl,
       );
+      none_made = refl;
     }
 
 pub returns-in_ok-answer-in-Show : goal.returns-in_ok-answer-in-Show
 returns-in_ok-answer-in-Show g c =
     let paths : RunPaths = record { image = c.in-Show.image.now; trace = c.in-Show.trace.now } in
     let part : Selection = record { device = c.in-Show.device; from = c.in-Show.from; to = c.in-Show.to } in
-    let done = subst (λ (f : TraceForm). IsShowDone (g.F.Files.holds c.args.files.now) paths f part
+    let done = subst (λ (f : TraceForm). IsShowDone (g.W.Files.holds c.args.world.now) paths f part
     c.in_ok-answer-in-Show.answer)
     c.form_of.ensures c.in_ok-answer-in-Show.ensures.done in
     record {
@@ -218,6 +234,7 @@ returns-in_ok-answer-in-Show g c =
       idle = (refl, refl, refl);
       debugged = tt;
       refused = tt;
+      none_made = refl;
     }
 
 pub returns-in_err-answer-in-Show : goal.returns-in_err-answer-in-Show
@@ -232,6 +249,7 @@ returns-in_err-answer-in-Show g c =
         refl,
         refl,
       );
+      none_made = refl;
     }
 
 pub returns-in_ok-answer-in-Pcap : goal.returns-in_ok-answer-in-Pcap
@@ -241,6 +259,7 @@ returns-in_ok-answer-in-Pcap g c =
       idle = (refl, refl, refl);
       debugged = tt;
       refused = tt;
+      none_made = refl;
     }
 
 pub returns-in_err-answer-in-Pcap : goal.returns-in_err-answer-in-Pcap
@@ -255,12 +274,13 @@ returns-in_err-answer-in-Pcap g c =
         refl,
         refl,
       );
+      none_made = refl;
     }
 
 pub returns-in_ok-answer-in-Titles : goal.returns-in_ok-answer-in-Titles
 returns-in_ok-answer-in-Titles g c =
     let only : Option (List ℕ) = option_map (λ w. w.now) c.in-Titles.only in
-    let done = subst (λ (l : List (Bor (List ℕ))). IsTitlesDone (g.F.Files.holds c.args.files.now) (map (λ p. p.now)
+    let done = subst (λ (l : List (Bor (List ℕ))). IsTitlesDone (g.W.Files.holds c.args.world.now) (map (λ p. p.now)
     l) only c.in_ok-answer-in-Titles.answer)
     c.as_slice-in-Titles.ensures.value c.in_ok-answer-in-Titles.ensures.done in
     record {
@@ -268,13 +288,14 @@ returns-in_ok-answer-in-Titles g c =
       idle = (refl, refl, refl);
       debugged = tt;
       refused = tt;
+      none_made = refl;
     }
 
 pub returns-in_err-answer-in-Titles : goal.returns-in_err-answer-in-Titles
 returns-in_err-answer-in-Titles g c =
     let only : Option (List ℕ) = option_map (λ w. w.now) c.in-Titles.only in
-    let refused = subst (λ (l : List (Bor (List ℕ))). IsTestFault (g.F.Files.holds c.args.files.now) (g.F.Files.fails
-    c.args.files.now) (map (λ p. p.now) l) only c.in_err-answer-in-Titles.field-0.0.fault)
+    let refused = subst (λ (l : List (Bor (List ℕ))). IsTestFault (g.W.Files.holds c.args.world.now)
+    (g.W.Files.fails c.args.world.now) (map (λ p. p.now) l) only c.in_err-answer-in-Titles.field-0.0.fault)
     c.as_slice-in-Titles.ensures.value c.in_err-answer-in-Titles.ensures.refused in
     let told = c.from_residual-in_err-answer-in-Titles.ensures.1 in
     record {
@@ -282,16 +303,17 @@ returns-in_err-answer-in-Titles g c =
       idle = no_answer _ _ _ told;
       debugged = no_answer _ _ _ told;
       refused = refused_at_once _ _ _ _ _ _ _ _ _ told c.in-Titles.is refused (refl, refl, refl);
+      none_made = refl;
     }
 
 pub returns-in_ok-answer-in-Test : goal.returns-in_ok-answer-in-Test
 returns-in_ok-answer-in-Test g c =
     let only : Option (List ℕ) = option_map (λ w. w.now) c.in-Test.only in
     let junit : Option (List ℕ) = option_map (λ p. p.now) c.in-Test.junit in
-    let done = subst (λ (l : List (Bor (List ℕ))). IsTestDone (g.F.Files.holds c.args.files.now) (map (λ p. p.now) l)
+    let done = subst (λ (l : List (Bor (List ℕ))). IsTestDone (g.W.Files.holds c.args.world.now) (map (λ p. p.now) l)
     only (report_form c.in-Test.form)
     junit c.in_ok-answer-in-Test.answer) c.as_slice-in-Test.ensures.value
-    (subst (λ (f : ReportForm). IsTestDone (g.F.Files.holds c.args.files.now) (map (λ p. p.now)
+    (subst (λ (f : ReportForm). IsTestDone (g.W.Files.holds c.args.world.now) (map (λ p. p.now)
     c.as_slice-in-Test.result.now) only f
     junit c.in_ok-answer-in-Test.answer) c.report_form-form.ensures c.in_ok-answer-in-Test.ensures.done) in
     record {
@@ -299,13 +321,14 @@ returns-in_ok-answer-in-Test g c =
       idle = (refl, refl, refl);
       debugged = tt;
       refused = tt;
+      none_made = refl;
     }
 
 pub returns-in_err-answer-in-Test : goal.returns-in_err-answer-in-Test
 returns-in_err-answer-in-Test g c =
     let only : Option (List ℕ) = option_map (λ w. w.now) c.in-Test.only in
-    let refused = subst (λ (l : List (Bor (List ℕ))). IsTestFault (g.F.Files.holds c.args.files.now) (g.F.Files.fails
-    c.args.files.now) (map (λ p. p.now) l) only c.in_err-answer-in-Test.field-0.0.fault)
+    let refused = subst (λ (l : List (Bor (List ℕ))). IsTestFault (g.W.Files.holds c.args.world.now)
+    (g.W.Files.fails c.args.world.now) (map (λ p. p.now) l) only c.in_err-answer-in-Test.field-0.0.fault)
     c.as_slice-in-Test.ensures.value c.in_err-answer-in-Test.ensures.refused in
     let told = c.from_residual-in_err-answer-in-Test.ensures.1 in
     record {
@@ -313,6 +336,7 @@ returns-in_err-answer-in-Test g c =
       idle = no_answer _ _ _ told;
       debugged = no_answer _ _ _ told;
       refused = refused_at_once _ _ _ _ _ _ _ _ _ told c.in-Test.is refused (refl, refl, refl);
+      none_made = refl;
     }
 
 pub returns-in_ok-answer-in-Expect : goal.returns-in_ok-answer-in-Expect
@@ -320,10 +344,10 @@ returns-in_ok-answer-in-Expect g c =
     let image : List ℕ = c.in-Expect.image.now in
     let only : Option (List ℕ) = option_map (λ w. w.now) c.in-Expect.only in
     let junit : Option (List ℕ) = option_map (λ p. p.now) c.in-Expect.junit in
-    let done = subst (λ (l : List (Bor (List ℕ))). IsExpectDone (g.F.Files.holds c.args.files.now) (map (λ p. p.now) l)
+    let done = subst (λ (l : List (Bor (List ℕ))). IsExpectDone (g.W.Files.holds c.args.world.now) (map (λ p. p.now) l)
     image c.in-Expect.device only (report_form c.in-Expect.form)
     junit c.in_ok-answer-in-Expect.answer) c.as_slice-in-Expect.ensures.value
-    (subst (λ (f : ReportForm). IsExpectDone (g.F.Files.holds c.args.files.now) (map (λ p. p.now)
+    (subst (λ (f : ReportForm). IsExpectDone (g.W.Files.holds c.args.world.now) (map (λ p. p.now)
     c.as_slice-in-Expect.result.now) image c.in-Expect.device only f junit c.in_ok-answer-in-Expect.answer)
     c.report_form-form-in-Expect.ensures c.in_ok-answer-in-Expect.ensures.done) in
     record {
@@ -331,14 +355,16 @@ returns-in_ok-answer-in-Expect g c =
       idle = (refl, refl, refl);
       debugged = tt;
       refused = tt;
+      none_made = refl;
     }
 
 pub returns-in_err-answer-in-Expect : goal.returns-in_err-answer-in-Expect
 returns-in_err-answer-in-Expect g c =
     let image : List ℕ = c.in-Expect.image.now in
     let only : Option (List ℕ) = option_map (λ w. w.now) c.in-Expect.only in
-    let refused = subst (λ (l : List (Bor (List ℕ))). IsExpectFault (g.F.Files.holds c.args.files.now) (g.F.Files.fails
-    c.args.files.now) (map (λ p. p.now) l) image c.in-Expect.device only c.in_err-answer-in-Expect.field-0.0.fault)
+    let refused = subst (λ (l : List (Bor (List ℕ))). IsExpectFault (g.W.Files.holds c.args.world.now)
+    (g.W.Files.fails c.args.world.now) (map (λ p. p.now) l) image c.in-Expect.device only
+    c.in_err-answer-in-Expect.field-0.0.fault)
     c.as_slice-in-Expect.ensures.value c.in_err-answer-in-Expect.ensures.refused in
     let told = c.from_residual-in_err-answer-in-Expect.ensures.1 in
     record {
@@ -346,11 +372,12 @@ returns-in_err-answer-in-Expect g c =
       idle = no_answer _ _ _ told;
       debugged = no_answer _ _ _ told;
       refused = refused_at_once _ _ _ _ _ _ _ _ _ told c.in-Expect.is refused (refl, refl, refl);
+      none_made = refl;
     }
 
 pub returns-in_ok-answer-in-Join : goal.returns-in_ok-answer-in-Join
 returns-in_ok-answer-in-Join g c =
-    let done = subst (λ (l : List (Bor (List ℕ))). IsJoinDone (g.F.Files.holds c.args.files.now) c.in-Join.path.now
+    let done = subst (λ (l : List (Bor (List ℕ))). IsJoinDone (g.W.Files.holds c.args.world.now) c.in-Join.path.now
     (map (λ p. p.now) l) c.in_ok-answer-in-Join.answer) c.as_slice-in-Join.ensures.value
     c.in_ok-answer-in-Join.ensures.done in
     record {
@@ -358,13 +385,14 @@ returns-in_ok-answer-in-Join g c =
       idle = (refl, refl, refl);
       debugged = tt;
       refused = tt;
+      none_made = refl;
     }
 
 pub returns-in_err-answer-in-Join : goal.returns-in_err-answer-in-Join
 returns-in_err-answer-in-Join g c =
     let about : Option (List ℕ) = option_map (λ p. p.now) c.in_err-answer-in-Join.field-0.0.about in
-    let refused = subst (λ (l : List (Bor (List ℕ))). IsJoinFault (g.F.Files.holds c.args.files.now) (g.F.Files.fails
-    c.args.files.now) (map (λ p. p.now) l) about c.in_err-answer-in-Join.field-0.0.fault)
+    let refused = subst (λ (l : List (Bor (List ℕ))). IsJoinFault (g.W.Files.holds c.args.world.now)
+    (g.W.Files.fails c.args.world.now) (map (λ p. p.now) l) about c.in_err-answer-in-Join.field-0.0.fault)
     c.as_slice-in-Join.ensures.value c.in_err-answer-in-Join.ensures.refused in
     let told = c.from_residual-in_err-answer-in-Join.ensures.1 in
     record {
@@ -372,18 +400,19 @@ returns-in_err-answer-in-Join g c =
       idle = no_answer _ _ _ told;
       debugged = no_answer _ _ _ told;
       refused = refused_at_once _ _ _ _ _ _ _ _ _ told c.in-Join.is (about, refused) (refl, refl, refl);
+      none_made = refl;
     }
 
 pub returns-in_ok-answer-in-Lint : goal.returns-in_ok-answer-in-Lint
 returns-in_ok-answer-in-Lint g c =
     let file : Option (List ℕ) = option_map (λ p. p.now) c.in-Lint.file in
-    let formed = subst (λ (f : LintForm). IsLintDone (g.F.Files.holds c.args.files.now) file f
+    let formed = subst (λ (f : LintForm). IsLintDone (g.W.Files.holds c.args.world.now) file f
     (map (λ w. w.now) c.as_slice-in-Lint.result.now) (map (λ w. w.now) c.as_slice-in-Lint-2.result.now)
     c.in_ok-answer-in-Lint.answer) c.lint_form-form.ensures c.in_ok-answer-in-Lint.ensures.done in
-    let named = subst (λ (l : List (Bor (List ℕ))). IsLintDone (g.F.Files.holds c.args.files.now) file
+    let named = subst (λ (l : List (Bor (List ℕ))). IsLintDone (g.W.Files.holds c.args.world.now) file
     (lint_form c.in-Lint.form) (map (λ w. w.now) l) (map (λ w. w.now) c.as_slice-in-Lint-2.result.now)
     c.in_ok-answer-in-Lint.answer) c.as_slice-in-Lint.ensures.value formed in
-    let done = subst (λ (l : List (Bor (List ℕ))). IsLintDone (g.F.Files.holds c.args.files.now) file
+    let done = subst (λ (l : List (Bor (List ℕ))). IsLintDone (g.W.Files.holds c.args.world.now) file
     (lint_form c.in-Lint.form) (map (λ w. w.now) c.in-Lint.only.items) (map (λ w. w.now) l)
     c.in_ok-answer-in-Lint.answer) c.as_slice-in-Lint-2.ensures.value named in
     record {
@@ -391,16 +420,17 @@ returns-in_ok-answer-in-Lint g c =
       idle = (refl, refl, refl);
       debugged = tt;
       refused = tt;
+      none_made = refl;
     }
 
 pub returns-in_err-answer-in-Lint : goal.returns-in_err-answer-in-Lint
 returns-in_err-answer-in-Lint g c =
     let file : Option (List ℕ) = option_map (λ p. p.now) c.in-Lint.file in
-    let named = subst (λ (l : List (Bor (List ℕ))). IsLintFault (g.F.Files.holds c.args.files.now) (g.F.Files.fails
-    c.args.files.now) file (map (λ w. w.now) l) (map (λ w. w.now) c.as_slice-in-Lint-2.result.now)
+    let named = subst (λ (l : List (Bor (List ℕ))). IsLintFault (g.W.Files.holds c.args.world.now)
+    (g.W.Files.fails c.args.world.now) file (map (λ w. w.now) l) (map (λ w. w.now) c.as_slice-in-Lint-2.result.now)
     c.in_err-answer-in-Lint.field-0.0.fault) c.as_slice-in-Lint.ensures.value c.in_err-answer-in-Lint.ensures.refused in
-    let refused = subst (λ (l : List (Bor (List ℕ))). IsLintFault (g.F.Files.holds c.args.files.now) (g.F.Files.fails
-    c.args.files.now) file (map (λ w. w.now) c.in-Lint.only.items) (map (λ w. w.now) l)
+    let refused = subst (λ (l : List (Bor (List ℕ))). IsLintFault (g.W.Files.holds c.args.world.now)
+    (g.W.Files.fails c.args.world.now) file (map (λ w. w.now) c.in-Lint.only.items) (map (λ w. w.now) l)
     c.in_err-answer-in-Lint.field-0.0.fault) c.as_slice-in-Lint-2.ensures.value named in
     let told = c.from_residual-in_err-answer-in-Lint.ensures.1 in
     record {
@@ -408,6 +438,7 @@ returns-in_err-answer-in-Lint g c =
       idle = no_answer _ _ _ told;
       debugged = no_answer _ _ _ told;
       refused = refused_at_once _ _ _ _ _ _ _ _ _ told c.in-Lint.is refused (refl, refl, refl);
+      none_made = refl;
     }
 
 pub returns-in-Debug : goal.returns-in-Debug
@@ -415,6 +446,7 @@ returns-in-Debug g c =
     record {
       done = rw c.in-Debug.is c.debug.ensures.done;
       idle = c.debug.ensures.idle;
+      none_made = c.debug.ensures.none_made;
       debugged = rw c.in-Debug.is c.debug.ensures.conversation;
       refused = rw c.in-Debug.is c.debug.ensures.refused;
     }

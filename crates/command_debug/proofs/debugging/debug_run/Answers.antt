@@ -2,7 +2,7 @@ use Rattle.std.proofs.Common.{◌≡◌, ◌⊎◌, inr, rules, subst}
 use Rattle.std.proofs.lemmas.Result.{err_from_is_err_and}
 use Rattle.fleet_core.specs.Run.{IsRun}
 use Rattle.debugger.specs.Session.{new_session}
-use Rattle.command_debug.specs.Conversation.{IsCutShort, Terms}
+use Rattle.command_debug.specs.Conversation.{IsConversation, IsCutShort, Terms}
 use Rattle.command_files.specs.World.{IsIdle, Streams}
 use Rattle.command_files.specs.declared.fault.Fault.TheVariants.{Memory}
 use Rattle.command_files.proofs.Built.{judged_none}
@@ -15,24 +15,9 @@ returns-in_ok-no_run-in-Err-NotRun-clause-verdict g c =
 
 pub returns-in_err-converse-in-Ok-clause-refused : goal.returns-in_err-converse-in-Ok-clause-refused
 returns-in_err-converse-in-Ok-clause-refused g c =
-    let terms : Terms = record {
-      faults = record {
-        input_fails = g.I.Input.fails;
-        output_refuses = g.O.Output.refuses;
-        errors_refuse = g.E.Output.refuses;
-      };
-      reasons = c.args.reasons;
-    } in
-    let before : Streams = record {
-      input = g.I.Input.rest c.args.input.now;
-      output = g.O.Output.taken c.args.output.now;
-      errors = g.E.Output.taken c.args.errors.now;
-    } in
-    let after : Streams = record {
-      input = g.I.Input.rest c.converse.new.input;
-      output = g.O.Output.taken c.converse.new.output;
-      errors = g.E.Output.taken c.converse.new.errors;
-    } in
+    let terms : Terms = record { faults = g.W.World.faults; reasons = c.args.reasons } in
+    let before : Streams = (g.W.World.seen c.args.world.now).streams in
+    let after : Streams = (g.W.World.seen c.converse.new.world).streams in
     let cut : IsCutShort terms before after (new_session c.args.scenario.now c.args.entries)
     c.in_err-converse-in-Ok.field-0.0.fault =
     subst (λ session. IsCutShort terms before after session c.in_err-converse-in-Ok.field-0.0.fault)
@@ -45,3 +30,9 @@ returns-in_err-converse-in-Ok-clause-refused g c =
     inr (run, cut) in
     let p = err_from_is_err_and c.from_residual.result c.from_residual.ensures.1 in
     rw (p.1, p.2) right
+
+pub returns-in_ok-converse-in-Ok-clause-conversed : goal.returns-in_ok-converse-in-Ok-clause-conversed
+returns-in_ok-converse-in-Ok-clause-conversed g c =
+    let terms : Terms = record { faults = g.W.World.faults; reasons = c.args.reasons } in
+    subst (IsConversation terms (g.W.World.seen c.args.world.now).streams (g.W.World.seen c.converse.new.world).streams)
+    c.in-Ok.ensures.opened c.in_ok-converse-in-Ok.ensures.done

@@ -1,10 +1,11 @@
-use Rattle.std.proofs.Common.{◌+◌, ◌∙◌, None, refl, sym, arith}
+use Rattle.std.proofs.Common.{◌+◌, ◌∙◌, refl, sym, arith}
 use Rattle.std.proofs.lemmas.Result.{err_from_is_err_and}
 use Rattle.fleet_link.proofs.Seconds.{asked_less}
-use Rattle.command_files.specs.World.{FilesKnown, StreamFaults, World}
-use Rattle.command_fleet.proofs.Kept.{kept_first, kept_on}
+use Rattle.command_files.specs.World.{World}
+use Rattle.command_fleet.proofs.Kept.{kept_at, kept_first, kept_from, kept_on}
 use Rattle.command_fleet.proofs.Sessions.{serving_cut, snapshot_lost}
 use Rattle.command_fleet.proofs.Settled.{repeated_as}
+use Rattle.command_fleet.proofs.Told.{told_still}
 use Rattle.command_fleet.proofs.serving.go_on.Goals as goal
 
 pub loop-turn-init : goal.loop-turn-init
@@ -17,6 +18,7 @@ loop-turn-init g c = record {
   told = λ start h. h;
   kept = λ before h r. kept_first _ _ _ _ before _ _ _ (c.second-last.ensures ∙ c.requires.start)
       c.requires.start;
+  none_read = refl;
 }
 
 pub loop-turn-preserved : goal.loop-turn-preserved
@@ -30,7 +32,9 @@ loop-turn-preserved g c = record {
   wire = c.in_ok-turn.ensures.wire ∙ c.loop-turn.invariant.wire;
   began = c.in_ok-turn.ensures.began ∙ c.loop-turn.invariant.began;
   repeats = λ e. c.in_ok-turn.ensures.repeats e ∙ c.loop-turn.invariant.repeats e;
-  told = λ start h. c.in_ok-turn.ensures.told start (c.loop-turn.invariant.told start h);
+  told = λ start h. told_still _ _ _ _ start (g.W.World.seen c.turn.new.world) (g.W.World.seen c.keep_up.new.world)
+      (c.in_ok-turn.ensures.told start (c.loop-turn.invariant.told start h))
+      c.keep_up.ensures.only;
   kept = λ before h r.
       let part = c.args.part.now in
       let play = c.args.asked.now.play in
@@ -39,7 +43,9 @@ loop-turn-preserved g c = record {
       kept_on _ part play _ before _ _ _ _ _ _ _ _ _ (c.loop-turn.invariant.kept before h r) are
       (repeated_as _ _ _ (are.count ∙ sym h.count)
       (λ e. c.in_ok-turn.ensures.repeats e ∙ c.loop-turn.invariant.repeats e) r)
-      (c.in_ok-turn.ensures.swept part play before was) c.in_ok-turn.ensures.later c.in_ok-last.ensures.kept_up;
+      (c.in_ok-turn.ensures.swept part play before was) c.in_ok-turn.ensures.later
+      (kept_from _ _ _ _ _ _ _ _ _ (c.turn.ensures.only.0) c.in_ok-last.ensures.kept_up);
+  none_read = c.keep_up.ensures.only.0 ∙ c.turn.ensures.only.1 ∙ c.loop-turn.invariant.none_read;
 }
 
 pub returns-clause-fleet : goal.returns-clause-fleet
@@ -56,56 +62,31 @@ returns-clause-kept g c = λ before h r. (c.loop-turn.last, c.loop-turn.invarian
 
 pub returns-in_err-turn-clause-cut : goal.returns-in_err-turn-clause-cut
 returns-in_err-turn-clause-cut g c =
-    let files : FilesKnown = record {
-      holds = g.F.Files.holds c.args.files.now;
-      fails = g.F.Files.fails c.args.files.now;
-      refuses = g.F.Files.refuses;
-    } in
-    let streams : StreamFaults = record {
-      input_fails = ⊥;
-      output_refuses = g.O.Output.refuses;
-      errors_refuse = g.E.Output.refuses;
-    } in
-    let after : World = record {
-      made = g.F.Files.made c.loop-turn.files;
-      streams = record {
-        input = None;
-        output = g.O.Output.taken c.turn.new.output;
-        errors = g.E.Output.taken c.turn.new.errors;
-      };
-    } in
+    let refuses = g.W.Files.refuses in
+    let streams = g.W.World.faults in
+    let start_made = (g.W.World.seen c.args.world.now).made in
+    let after : World = g.W.World.seen c.turn.new.world in
     let r = c.from_residual in
     let p = err_from_is_err_and r.result r.ensures.1 in
-    rw (p.1, p.2) (λ start before told fleet repeated. serving_cut c.args.telling files streams c.args.asked.now
+    rw (p.1, p.2) (λ start before told fleet repeated. serving_cut c.args.telling refuses streams c.args.asked.now
     c.args.part.now before c.loop-turn.fleet.second c.loop-turn.last
-    (record { made = g.F.Files.made c.args.files.now; streams = start }) after c.in_err-turn.field-0.0.fault
+    (record { made = start_made; streams = start }) after c.in_err-turn.field-0.0.fault
     (c.in_err-turn.ensures.cut start (c.loop-turn.invariant.told start told))
-    (c.loop-turn.invariant.kept before fleet repeated))
+    (kept_at c.args.asked.now c.args.part.now before _ _ start_made _ _ c.turn.ensures.only.0
+    (c.loop-turn.invariant.kept before fleet repeated)))
 
 pub returns-in_err-last-clause-cut : goal.returns-in_err-last-clause-cut
 returns-in_err-last-clause-cut g c =
-    let files : FilesKnown = record {
-      holds = g.F.Files.holds c.args.files.now;
-      fails = g.F.Files.fails c.args.files.now;
-      refuses = g.F.Files.refuses;
-    } in
-    let streams : StreamFaults = record {
-      input_fails = ⊥;
-      output_refuses = g.O.Output.refuses;
-      errors_refuse = g.E.Output.refuses;
-    } in
-    let after : World = record {
-      made = g.F.Files.made c.keep_up.new.files;
-      streams = record {
-        input = None;
-        output = g.O.Output.taken c.turn.new.output;
-        errors = g.E.Output.taken c.turn.new.errors;
-      };
-    } in
+    let refuses = g.W.Files.refuses in
+    let streams = g.W.World.faults in
+    let after : World = g.W.World.seen c.keep_up.new.world in
     let r = c.from_residual-in_err-last in
     let p = err_from_is_err_and r.result r.ensures.1 in
-    rw (p.1, p.2) (λ start before told fleet repeated. snapshot_lost c.args.telling files streams c.args.asked.now
+    rw (p.1, p.2) (λ start before told fleet repeated. snapshot_lost c.args.telling refuses streams c.args.asked.now
     c.args.part.now before _ _ c.turn.new.fleet.second c.loop-turn.fleet.second c.loop-turn.last
-    (record { made = g.F.Files.made c.args.files.now; streams = start }) after _ c.in_err-last.field-0.0.fault
+    (record { made = (g.W.World.seen c.args.world.now).made; streams = start }) after _ c.in_err-last.field-0.0.fault
+    (told_still _ _ _ _ start (g.W.World.seen c.turn.new.world) (g.W.World.seen c.keep_up.new.world)
     (c.in_ok-turn.ensures.told start (c.loop-turn.invariant.told start told))
-    (c.loop-turn.invariant.kept before fleet repeated) c.in_err-last.ensures.none c.in_err-last.ensures.refused)
+    c.keep_up.ensures.only)
+    (c.loop-turn.invariant.kept before fleet repeated) (c.in_err-last.ensures.none ∙ c.turn.ensures.only.0)
+    c.in_err-last.ensures.refused)

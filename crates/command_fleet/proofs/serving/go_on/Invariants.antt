@@ -1,5 +1,5 @@
 -- All devices are served so far, what went through and each second were told, and snapshots were made.
-use Rattle.std.proofs.Common.{ℕ, ◌≡◌, ◌+◌, ◌&&◌, Bool, List, false, Option, None, slice_get}
+use Rattle.std.proofs.Common.{ℕ, ◌≡◌, ◌+◌, ◌&&◌, Bool, List, false, Option, slice_get}
 use Rattle.scenario_image.specs.Scenario.{Scenario}
 use Rattle.fleet_link.specs.Serving.{repeats_in, AreRepeated, IsFleet}
 use Rattle.fleet_link.specs.Timing.{AreAsked}
@@ -24,12 +24,13 @@ invariant-loop-turn g l = record {
       ≡ repeats_in (slice_get l.fn.fleet.slots.items e);
   told : (start : Streams)
       → AreTold l.telling (g.P.Counted.watched l.fn.ports).notes (g.P.Counted.watched l.fn.ports).shown
-      l.fn.fleet.second start
-      (record { input = None; output = g.O.Output.taken l.fn.output; errors = g.E.Output.taken l.fn.errors })
+      l.fn.fleet.second start (g.W.World.seen l.fn.world).streams
       → AreTold l.telling (g.P.Counted.watched l.ports).notes (g.P.Counted.watched l.ports).shown l.fleet.second start
-      (record { input = None; output = g.O.Output.taken l.output; errors = g.E.Output.taken l.errors });
+      (g.W.World.seen l.world).streams;
   kept : (before : ℕ → Option Traffic)
       → IsFleet l.part l.asked.play before l.fn.fleet.slots.items l.fn.fleet.second false (g.P.Ports.told l.fn.ports)
       → AreRepeated l.fn.fleet.slots.items (l.asked.play && l.asked.repeat)
-      → AreKept l.asked l.part before l.last l.fleet.second (g.F.Files.made l.fn.files) (g.F.Files.made l.files);
+      → AreKept l.asked l.part before l.last l.fleet.second (g.W.World.seen l.fn.world).made
+      (g.W.World.seen l.world).made;
+  none_read : (g.W.World.seen l.world).streams.input ≡ (g.W.World.seen l.fn.world).streams.input;
 }

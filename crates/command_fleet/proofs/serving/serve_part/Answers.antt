@@ -1,8 +1,9 @@
-use Rattle.std.proofs.Common.{◌≡◌, ◌⊎◌, ◌∙◌, ap, None, inl, refl, rules, subst, sym, true}
+use Rattle.std.proofs.Common.{◌≡◌, ◌⊎◌, ◌∙◌, ap, inl, rules, subst, sym, true}
 use Rattle.std.proofs.lemmas.Result.{err_from_is_err_and}
 use Rattle.fleet_lines.specs.Counting.{AreAllShown, WatchedPorts}
-use Rattle.command_files.specs.World.{FilesKnown, StreamFaults, Streams, World}
+use Rattle.command_files.specs.World.{Streams, World}
 use Rattle.command_files.specs.declared.fault.Fault.TheVariants as faults
+use Rattle.command_fleet.proofs.Kept.{kept_at}
 use Rattle.command_fleet.proofs.Sessions.{broken_at_start, ended_so, none_asked, serving_cut}
 use Rattle.command_fleet.proofs.Settled.{account_as, fleet_as, repeated_as}
 use Rattle.command_fleet.specs.Fleet.{IsBrokenOff}
@@ -64,15 +65,11 @@ returns-in-Some-clause-shown g c =
 
 pub returns-in-Some-clause-told : goal.returns-in-Some-clause-told
 returns-in-Some-clause-told g c =
-    let first : Streams = record {
-      input = None;
-      output = g.O.Output.taken c.args.output.now;
-      errors = g.E.Output.taken c.args.errors.now;
-    } in
+    let first : Streams = (g.W.World.seen c.args.world.now).streams in
     let none = none_told c.args.telling _ _ c.in_ok-fleet.fleet.second first c.requires.no_notes c.requires.none_shown
     c.in_ok-fleet.ensures.second in
     let fixed = c.watched_is_fixed.ensures _ _ c.finish.ensures.fixed in
-    c.in_ok-tell_traffic.ensures.told first c.finish.new.self.second (g.E.Output.taken c.go_on.new.errors)
+    c.in_ok-tell_traffic.ensures.told first c.finish.new.self.second
     (told_as c.args.telling _ _ _ _ c.go_on.new.fleet.second c.finish.new.self.second first _
     (c.in_ok-go_on.ensures.told first none) (ap (λ (w : WatchedPorts). w.notes) fixed)
     (ap (λ (w : WatchedPorts). w.shown) fixed)
@@ -80,39 +77,17 @@ returns-in-Some-clause-told g c =
 
 pub returns-in-Err-clause-cut : goal.returns-in-Err-clause-cut
 returns-in-Err-clause-cut g c =
-    let files : FilesKnown = record {
-      holds = g.F.Files.holds c.args.files.now;
-      fails = g.F.Files.fails c.args.files.now;
-      refuses = g.F.Files.refuses;
-    } in
-    let streams : StreamFaults = record {
-      input_fails = ⊥;
-      output_refuses = g.O.Output.refuses;
-      errors_refuse = g.E.Output.refuses;
-    } in
-    let first : World = record {
-      made = g.F.Files.made c.args.files.now;
-      streams = record {
-        input = None;
-        output = g.O.Output.taken c.args.output.now;
-        errors = g.E.Output.taken c.args.errors.now;
-      };
-    } in
-    let last : World = record {
-      made = g.F.Files.made c.go_on.new.files;
-      streams = record {
-        input = None;
-        output = g.O.Output.taken c.go_on.new.output;
-        errors = g.E.Output.taken c.go_on.new.errors;
-      };
-    } in
+    let refuses = g.W.Files.refuses in
+    let streams = g.W.World.faults in
+    let first : World = g.W.World.seen c.args.world.now in
+    let last : World = g.W.World.seen c.go_on.new.world in
     let asked = c.args.asked.now in
     let part = c.args.part.now in
     let ports = g.P.Ports.told c.args.ports.now in
     let none = none_told c.args.telling _ _ c.in_ok-fleet.fleet.second first.streams c.requires.no_notes
     c.requires.none_shown c.in_ok-fleet.ensures.second in
     let kept = c.in_ok-go_on.ensures.kept ports (c.in_ok-fleet.ensures.fleet ports) c.in_ok-fleet.ensures.repeated in
-    serving_cut c.args.telling files streams asked part ports c.go_on.new.fleet.second kept.0 first last
+    serving_cut c.args.telling refuses streams asked part ports c.go_on.new.fleet.second kept.0 first last
     c.from.result.fault
     (cut_off c.args.telling streams _ _ c.go_on.new.fleet.second first.streams last.streams c.from.result.fault
     (c.in_ok-go_on.ensures.told first.streams none)
@@ -120,40 +95,11 @@ returns-in-Err-clause-cut g c =
 
 pub returns-in_err-tell_traffic-clause-cut : goal.returns-in_err-tell_traffic-clause-cut
 returns-in_err-tell_traffic-clause-cut g c =
-    let files : FilesKnown = record {
-      holds = g.F.Files.holds c.args.files.now;
-      fails = g.F.Files.fails c.args.files.now;
-      refuses = g.F.Files.refuses;
-    } in
-    let streams : StreamFaults = record {
-      input_fails = ⊥;
-      output_refuses = g.O.Output.refuses;
-      errors_refuse = g.E.Output.refuses;
-    } in
-    let first : World = record {
-      made = g.F.Files.made c.args.files.now;
-      streams = record {
-        input = None;
-        output = g.O.Output.taken c.args.output.now;
-        errors = g.E.Output.taken c.args.errors.now;
-      };
-    } in
-    let between : World = record {
-      made = g.F.Files.made c.go_on.new.files;
-      streams = record {
-        input = None;
-        output = g.O.Output.taken c.go_on.new.output;
-        errors = g.E.Output.taken c.go_on.new.errors;
-      };
-    } in
-    let last : World = record {
-      made = g.F.Files.made c.go_on.new.files;
-      streams = record {
-        input = None;
-        output = g.O.Output.taken c.tell_traffic.new.output;
-        errors = g.E.Output.taken c.go_on.new.errors;
-      };
-    } in
+    let refuses = g.W.Files.refuses in
+    let streams = g.W.World.faults in
+    let first : World = g.W.World.seen c.args.world.now in
+    let between : World = g.W.World.seen c.go_on.new.world in
+    let last : World = g.W.World.seen c.tell_traffic.new.world in
     let asked = c.args.asked.now in
     let part = c.args.part.now in
     let ports = g.P.Ports.told c.args.ports.now in
@@ -162,42 +108,22 @@ returns-in_err-tell_traffic-clause-cut g c =
     let kept = c.in_ok-go_on.ensures.kept ports (c.in_ok-fleet.ensures.fleet ports) c.in_ok-fleet.ensures.repeated in
     let why = c.in_err-tell_traffic.ensures.refused in
     let fault = c.in_err-tell_traffic.field-0.0.fault in
-    let h : IsBrokenOff c.args.telling files streams asked part ports first last fault =
-    serving_cut c.args.telling files streams asked part ports c.go_on.new.fleet.second kept.0 first last fault
+    let h : IsBrokenOff c.args.telling refuses streams asked part ports first last fault =
+    serving_cut c.args.telling refuses streams asked part ports c.go_on.new.fleet.second kept.0 first last fault
     (cut_traffic c.args.telling streams _ why.0 _ why.1 c.go_on.new.fleet.second first.streams between.streams
-    last.streams fault (c.in_ok-go_on.ensures.told first.streams none) (why.2, refl)) kept.1 in
+    last.streams fault (c.in_ok-go_on.ensures.told first.streams none)
+    (why.2, c.tell_traffic.ensures.only.2))
+    (kept_at asked part ports _ _ first.made _ last.made c.tell_traffic.ensures.only.0 kept.1) in
     let r = c.from_residual-in_err-tell_traffic in
     let p = err_from_is_err_and r.result r.ensures.1 in
     rw (p.1, p.2) h
 
 pub returns-clause-cut : goal.returns-clause-cut
 returns-clause-cut g c =
-    let files : FilesKnown = record {
-      holds = g.F.Files.holds c.args.files.now;
-      fails = g.F.Files.fails c.args.files.now;
-      refuses = g.F.Files.refuses;
-    } in
-    let streams : StreamFaults = record {
-      input_fails = ⊥;
-      output_refuses = g.O.Output.refuses;
-      errors_refuse = g.E.Output.refuses;
-    } in
-    let first : World = record {
-      made = g.F.Files.made c.args.files.now;
-      streams = record {
-        input = None;
-        output = g.O.Output.taken c.args.output.now;
-        errors = g.E.Output.taken c.args.errors.now;
-      };
-    } in
-    let last : World = record {
-      made = g.F.Files.made c.go_on.new.files;
-      streams = record {
-        input = None;
-        output = g.O.Output.taken c.tell_traffic.new.output;
-        errors = g.E.Output.taken c.go_on.new.errors;
-      };
-    } in
+    let refuses = g.W.Files.refuses in
+    let streams = g.W.World.faults in
+    let first : World = g.W.World.seen c.args.world.now in
+    let last : World = g.W.World.seen c.tell_traffic.new.world in
     let asked = c.args.asked.now in
     let part = c.args.part.now in
     let ports = g.P.Ports.told c.args.ports.now in
@@ -206,49 +132,29 @@ returns-clause-cut g c =
     let kept = c.in_ok-go_on.ensures.kept ports (c.in_ok-fleet.ensures.fleet ports) c.in_ok-fleet.ensures.repeated in
     let fixed = c.watched_is_fixed.ensures _ _ c.finish.ensures.fixed in
     let second = c.finish.new.self.second in
-    let told = c.in_ok-tell_traffic.ensures.told first.streams second (g.E.Output.taken c.go_on.new.errors)
+    let told = c.in_ok-tell_traffic.ensures.told first.streams second
     (told_as c.args.telling _ _ _ _ c.go_on.new.fleet.second second first.streams _
     (c.in_ok-go_on.ensures.told first.streams none) (ap (λ (w : WatchedPorts). w.notes) fixed)
     (ap (λ (w : WatchedPorts). w.shown) fixed) c.finish.ensures.second) in
-    serving_cut c.args.telling files streams asked part ports second kept.0 first last c.from-in-None.result.fault
+    serving_cut c.args.telling refuses streams asked part ports second kept.0 first last c.from-in-None.result.fault
     (cut_off c.args.telling streams _ _ second first.streams last.streams c.from-in-None.result.fault told
     (inl c.from-in-None.ensures))
-    (subst (λ n. AreKept asked part ports kept.0 n first.made last.made) (sym c.finish.ensures.second) kept.1)
+    (kept_at asked part ports _ _ first.made _ last.made c.tell_traffic.ensures.only.0
+    (subst (λ n. AreKept asked part ports kept.0 n first.made (g.W.World.seen c.go_on.new.world).made)
+    (sym c.finish.ensures.second) kept.1))
 
 pub returns-in_err-fleet-clause-cut : goal.returns-in_err-fleet-clause-cut
 returns-in_err-fleet-clause-cut g c =
-    let files : FilesKnown = record {
-      holds = g.F.Files.holds c.args.files.now;
-      fails = g.F.Files.fails c.args.files.now;
-      refuses = g.F.Files.refuses;
-    } in
-    let streams : StreamFaults = record {
-      input_fails = ⊥;
-      output_refuses = g.O.Output.refuses;
-      errors_refuse = g.E.Output.refuses;
-    } in
-    let first : World = record {
-      made = g.F.Files.made c.args.files.now;
-      streams = record {
-        input = None;
-        output = g.O.Output.taken c.args.output.now;
-        errors = g.E.Output.taken c.args.errors.now;
-      };
-    } in
-    let h = broken_at_start c.args.telling files streams c.args.asked.now c.args.part.now
+    let refuses = g.W.Files.refuses in
+    let streams = g.W.World.faults in
+    let first : World = g.W.World.seen c.args.world.now in
+    let h = broken_at_start c.args.telling refuses streams c.args.asked.now c.args.part.now
     (g.P.Ports.told c.args.ports.now) first in
     search (rules, h)
 
 pub returns-in_err-go_on-clause-cut : goal.returns-in_err-go_on-clause-cut
 returns-in_err-go_on-clause-cut g c =
-    let first : World = record {
-      made = g.F.Files.made c.args.files.now;
-      streams = record {
-        input = None;
-        output = g.O.Output.taken c.args.output.now;
-        errors = g.E.Output.taken c.args.errors.now;
-      };
-    } in
+    let first : World = g.W.World.seen c.args.world.now in
     let asked = c.args.asked.now in
     let part = c.args.part.now in
     let ports = g.P.Ports.told c.args.ports.now in
@@ -261,9 +167,13 @@ returns-in_err-go_on-clause-cut g c =
 
 pub returns-in-Some-clause-kept : goal.returns-in-Some-clause-kept
 returns-in-Some-clause-kept g c =
+    let asked = c.args.asked.now in
+    let part = c.args.part.now in
     let ports = g.P.Ports.told c.args.ports.now in
+    let first = (g.W.World.seen c.args.world.now).made in
     let kept = c.in_ok-go_on.ensures.kept ports (c.in_ok-fleet.ensures.fleet ports) c.in_ok-fleet.ensures.repeated in (
       kept.0,
-      subst (λ n. AreKept c.args.asked.now c.args.part.now ports kept.0 n (g.F.Files.made c.args.files.now)
-          (g.F.Files.made c.go_on.new.files)) (sym c.finish.ensures.second) kept.1,
+      kept_at asked part ports _ _ first _ _ c.tell_traffic.ensures.only.0
+          (subst (λ n. AreKept asked part ports kept.0 n first (g.W.World.seen c.go_on.new.world).made)
+          (sym c.finish.ensures.second) kept.1),
     )

@@ -41,7 +41,7 @@ returns-in_ok-tell_traffic-in-Ok-clause-told g c =
     let same = c.watched_is_fixed.ensures _ _ c.turn.ensures.fixed in
     λ start h. told_when c.tell_if_later.result _ _ _ _ _ _ _ (sym c.second.ensures)
     (c.tell_if_later.ensures.told start _ _
-    (c.in_ok-tell_traffic-in-Ok.ensures.told start _ _
+    (c.in_ok-tell_traffic-in-Ok.ensures.told start _
     (told_as _ _ _ _ _ _ _ _ _ h (ap (λ (w : WatchedPorts). w.notes) same) (ap (λ (w : WatchedPorts). w.shown) same)
     c.second-last.ensures)))
 
@@ -50,7 +50,7 @@ returns-in_ok-tell_traffic-in-Ok-clause-cut g c =
     let same = c.watched_is_fixed.ensures _ _ c.turn.ensures.fixed in
     λ start h. cut_when c.tell_if_later.result _ _ _ _ _ _ (sym c.second-last.ensures) (c.tell_if_later.ensures.cut
     start _ _
-    (c.in_ok-tell_traffic-in-Ok.ensures.told start _ _
+    (c.in_ok-tell_traffic-in-Ok.ensures.told start _
     (told_as _ _ _ _ _ _ _ _ _ h (ap (λ (w : WatchedPorts). w.notes) same) (ap (λ (w : WatchedPorts). w.shown) same)
     c.second-last.ensures)))
 
@@ -63,4 +63,4 @@ returns-in_err-tell_traffic-in-Ok-clause-cut g c =
     rw (p.1, p.2) (λ start h. cut_traffic c.args.telling _ _ why.0 _ why.1 _ start _ _ _
     (told_as _ _ _ _ _ _ _ _ _ h (ap (λ (w : WatchedPorts). w.notes) same)
     (ap (λ (w : WatchedPorts). w.shown) same) refl)
-    (why.2, refl))
+    (why.2, c.tell_traffic.ensures.only.2))

@@ -1,31 +1,12 @@
-use Rattle.std.proofs.Common.{None}
-use Rattle.command_files.specs.World.{FilesKnown, StreamFaults, World}
+use Rattle.command_files.specs.World.{FilesKnown, World, known_by}
 use Rattle.command_fleet.proofs.Sessions.{fixed_as, fleet_broken, fleet_done, ready}
 use Rattle.command_fleet.proofs.session.fleet.Goals as goal
 
 pub returns-clause-done : goal.returns-clause-done
 returns-clause-done g c =
-    let files : FilesKnown = record {
-      holds = g.F.Files.holds c.args.files.now;
-      fails = g.F.Files.fails c.args.files.now;
-      refuses = g.F.Files.refuses;
-    } in
-    let before : World = record {
-      made = g.F.Files.made c.args.files.now;
-      streams = record {
-        input = None;
-        output = g.O.Output.taken c.args.output.now;
-        errors = g.E.Output.taken c.args.errors.now;
-      };
-    } in
-    let after : World = record {
-      made = g.F.Files.made c.hold_on.new.files;
-      streams = record {
-        input = None;
-        output = g.O.Output.taken c.hold_on.new.output;
-        errors = g.E.Output.taken c.hold_on.new.errors;
-      };
-    } in
+    let files : FilesKnown = known_by g.W.Files c.args.world.now in
+    let before : World = g.W.World.seen c.args.world.now in
+    let after : World = g.W.World.seen c.hold_on.new.world in
     let there = ready files c.args.asked c.in_ok-scenario.scenario c.in_ok-part.part c.in-Some.devices
     c.in_ok-servers.servers.items c.in_ok-place.place c.in_ok-scenario.ensures.found c.in-Some.ensures.chosen
     (fixed_as _ _ _ _ c.as_slice.ensures.value c.in_ok-servers.ensures.servers) c.in_ok-part.ensures.part
@@ -35,32 +16,10 @@ returns-clause-done g c =
 
 pub returns-clause-refused : goal.returns-clause-refused
 returns-clause-refused g c =
-    let files : FilesKnown = record {
-      holds = g.F.Files.holds c.args.files.now;
-      fails = g.F.Files.fails c.args.files.now;
-      refuses = g.F.Files.refuses;
-    } in
-    let faults : StreamFaults = record {
-      input_fails = ⊥;
-      output_refuses = g.O.Output.refuses;
-      errors_refuse = g.E.Output.refuses;
-    } in
-    let before : World = record {
-      made = g.F.Files.made c.args.files.now;
-      streams = record {
-        input = None;
-        output = g.O.Output.taken c.args.output.now;
-        errors = g.E.Output.taken c.args.errors.now;
-      };
-    } in
-    let after : World = record {
-      made = g.F.Files.made c.hold_on.new.files;
-      streams = record {
-        input = None;
-        output = g.O.Output.taken c.hold_on.new.output;
-        errors = g.E.Output.taken c.hold_on.new.errors;
-      };
-    } in
+    let files : FilesKnown = known_by g.W.Files c.args.world.now in
+    let faults = g.W.World.faults in
+    let before : World = g.W.World.seen c.args.world.now in
+    let after : World = g.W.World.seen c.hold_on.new.world in
     let there = ready files c.args.asked c.in_ok-scenario.scenario c.in_ok-part.part c.in-Some.devices
     c.in_ok-servers.servers.items c.in_ok-place.place c.in_ok-scenario.ensures.found c.in-Some.ensures.chosen
     (fixed_as _ _ _ _ c.as_slice.ensures.value c.in_ok-servers.ensures.servers) c.in_ok-part.ensures.part

@@ -6,4 +6,4 @@ returns-in-Err-clause-printed g c = memory_printed _ _ _ c.print-in-Err.result _
 
 pub returns-in-Err-clause-refused : goal.returns-in-Err-clause-refused
 returns-in-Err-clause-refused g c =
-    memory_refused _ _ _ c.print-in-Err.result g.O.Output.refuses c.print-in-Err.ensures.refused
+    memory_refused _ _ _ c.print-in-Err.result g.W.World.faults.output_refuses c.print-in-Err.ensures.refused
