@@ -1,6 +1,0 @@
-use Rattle.bench_commands.proofs.Ended.{asked_form}
-use Rattle.bench_commands.proofs.program.perform.Goals as goal
-
-pub returns-in-Err-clause-form : goal.returns-in-Err-clause-form
-returns-in-Err-clause-form g c =
-    asked_form _ c.in_ok-asked.asked _ _ c.in_ok-asked.ensures c.wants_json-json.ensures
