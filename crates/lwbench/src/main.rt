@@ -30,13 +30,13 @@ mod system;
 pub use program::command;
 use std::io::IsTerminal;
 use std::process::ExitCode;
-pub use system::{conclude, start, system};
+pub use system::{conclude, start, system_host};
 
 /// Gives `start` the system's world, with its reader of standard input and its standard error, and says whether that is
 /// a terminal.
 fn main(rt: HostRuntime) -> ExitCode {
     let errors = rt.stderr();
     let terminal = errors.is_terminal();
-    let mut world = system(&rt, rt.reader(), errors);
+    let mut world = system_host(&rt, rt.reader(), errors);
     start(&rt, terminal, &mut world)
 }

@@ -24,7 +24,7 @@ use std::thread::Threads;
 use std::{env, io};
 
 /// The files of the system and its standard output; lines come from `input`, and what is for a person goes to `errors`.
-pub fn system<'a, R: std::rt::Files + Print + AllocGlobal, I, E>(
+pub fn system_host<'a, R: std::rt::Files + Print + AllocGlobal, I, E>(
     rt: &'a R,
     input: I,
     errors: E,
